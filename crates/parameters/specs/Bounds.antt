@@ -1,0 +1,26 @@
+-- The bounds on N servers, K messages and symbols of S bytes in each code (document 01, 'Catalogue').
+use Prim.Native.Nat.{ℕ, _^_}
+use mathlib.Core.Bool.{Bool, _&&_}
+use lib.Dec.{leb}
+
+-- N is 2 to 16
+abbrev pub serversFit : ℕ → Bool
+serversFit N = leb 2 N && leb N 16
+
+-- S is 1 to 4,096
+abbrev pub symbolFits : ℕ → Bool
+symbolFits S = leb 1 S && leb S 4096
+
+-- in the short code K is 1 to 32
+abbrev pub shortMessagesFit : ℕ → Bool
+shortMessagesFit K = leb 1 K && leb K 32
+
+-- in the even code K is 1 or more, and a message has N^K symbols, at most 256
+abbrev pub evenMessagesFit : ℕ → ℕ → Bool
+evenMessagesFit N K = leb 1 K && leb (N ^ K) 256
+
+unfoldable pub shortFits : ℕ → ℕ → ℕ → Bool
+shortFits N K S = serversFit N && (symbolFits S && shortMessagesFit K)
+
+unfoldable pub evenFits : ℕ → ℕ → ℕ → Bool
+evenFits N K S = serversFit N && (symbolFits S && evenMessagesFit N K)

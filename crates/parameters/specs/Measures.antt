@@ -1,0 +1,37 @@
+-- The sizes of each code (document 01, 'Catalogue', 'Short code', 'Even code', 'Session'): a message is its symbols one after
+-- another, the store its messages one after another.
+use Prim.Native.Nat.{ℕ, _+_, _-_, _*_, _/_, _^_}
+use Rattle.parameters.specs.declared.Sizes.{Sizes}
+
+-- The short code: N - 1 symbols, a key of K - 1 digits, a query of K digits, an answer of one symbol
+unfoldable pub shortSizes : ℕ → ℕ → ℕ → Sizes
+shortSizes N K S = record {
+  symbols = N - 1;
+  message = (N - 1) * S;
+  store = K * ((N - 1) * S);
+  key = K - 1;
+  query = K;
+  slot = S;
+}
+
+-- The rows of an even query
+unfoldable pub evenRows : ℕ → ℕ → ℕ
+evenRows N K = N ^ (K - 1) + (N ^ (K - 1) - 1) / (N - 1)
+
+-- The even code: N^K symbols, a key of K permutations of them, an answer of one symbol for each row of the query
+unfoldable pub evenSizes : ℕ → ℕ → ℕ → Sizes
+evenSizes N K S = record {
+  symbols = N ^ K;
+  message = N ^ K * S;
+  store = K * (N ^ K * S);
+  key = K * N ^ K;
+  query = K * N ^ (K - 1);
+  slot = evenRows N K * S;
+}
+
+-- The longest key of an admitted catalogue, and its most servers: the places that a session keeps for them
+abbrev pub keyPlaces : ℕ
+keyPlaces = 2048
+
+abbrev pub mostServers : ℕ
+mostServers = 16

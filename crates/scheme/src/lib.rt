@@ -1,0 +1,1 @@
+// No code: what a retrieval code is, and what it promises, in specs/.

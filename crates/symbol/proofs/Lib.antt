@@ -1,0 +1,4 @@
+pub mod Bits
+pub mod XorBytes
+pub mod XorGroup
+pub mod Totals
