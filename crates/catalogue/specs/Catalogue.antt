@@ -1,0 +1,39 @@
+-- Catalogue values: which are admitted, and the sizes that follow (document 01, 'Catalogue').
+use mathlib.Core.Path.{_≡_}
+use mathlib.Core.Bool.{Bool, not}
+use Prim.Native.Nat.{ℕ}
+use Rattle.refusal.specs.declared.Refusal.the-variants.{Bounds}
+use Rattle.refusal.specs.declared.Verdict.{Verdict}
+use Rattle.refusal.specs.declared.Verdict.the-variants.{Accepted}
+use Rattle.refusal.specs.Chain.{refuseIf}
+use Rattle.parameters.specs.declared.Sizes.{Sizes}
+use Rattle.parameters.specs.Bounds.{shortFits, evenFits}
+use Rattle.parameters.specs.Measures.{shortSizes, evenSizes}
+use Rattle.catalogue.specs.declared.Code.{Code}
+use Rattle.catalogue.specs.declared.Code.the-variants.{Short, Even}
+use Rattle.catalogue.specs.declared.Catalogue.{Catalogue}
+
+-- N, K and S are within the bounds of the code
+abbrev pub fits : Code → ℕ → ℕ → ℕ → Bool
+fits Short = shortFits
+fits Even = evenFits
+
+-- The verdict on a catalogue value: a link for each number that a value can be refused with
+unfoldable pub catalogueVerdict : Catalogue → Verdict
+catalogueVerdict c = refuseIf (not (fits (c .code) (c .servers) (c .messages) (c .symbol))) Bounds Accepted
+
+-- admitted (01, 'Lists of fetches'): breaks none of its bounds
+abbrev pub Admitted : Catalogue → Type 0
+Admitted c = catalogueVerdict c ≡ Accepted
+
+abbrev sizesBy : Code → ℕ → ℕ → ℕ → Sizes
+sizesBy Short = shortSizes
+sizesBy Even = evenSizes
+
+-- the sizes of an admitted catalogue
+unfoldable pub sizesOf : Catalogue → Sizes
+sizesOf c = sizesBy (c .code) (c .servers) (c .messages) (c .symbol)
+
+-- what a refused reading hands back: zeros, the code short
+abbrev pub zeroCatalogue : Catalogue
+zeroCatalogue = record { code = Short; servers = 0; messages = 0; symbol = 0 }
