@@ -1,2 +1,3 @@
 pub mod Below
+pub mod Every
 pub mod Parts
