@@ -7,7 +7,7 @@ ghost use mathlib.Core.Bool.{true, _&&_};
 ghost use Prim.Native.Nat.{_^_, _≤_};
 ghost use Rattle.parameters.specs.Bounds.{serversFit, symbolFits, shortFits, evenFits};
 ghost use Rattle.parameters.specs.Measures.{shortSizes, evenRows, evenSizes};
-ghost use Rattle.catalogue.specs.Catalogue.{fits, catalogueVerdict, measuredOf};
+ghost use Rattle.catalogue.specs.Catalogue.{fits, catalogueVerdict, zeroCatalogue, measuredOf};
 ghost use Rattle.catalogue.specs.Most.{Most};
 
 // The code that every fetch from the catalogue uses.
@@ -106,6 +106,18 @@ pub fn verdict(c: Catalogue) -> Verdict
         Verdict::Accepted
     } else {
         Verdict::Refused(Refusal::Bounds)
+    }
+}
+
+// The catalogue of zeros, its code short.
+pub fn zero() -> Catalogue
+    ensures { λ r. ⌜ r ≡ zeroCatalogue ⌝ }
+{
+    Catalogue {
+        code: Code::Short,
+        servers: 0,
+        messages: 0,
+        symbol: 0,
     }
 }
 

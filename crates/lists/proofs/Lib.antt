@@ -1,3 +1,4 @@
 pub mod Below
 pub mod Every
 pub mod Parts
+pub mod Puts

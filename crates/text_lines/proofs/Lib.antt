@@ -1,0 +1,4 @@
+pub mod DigitTexts
+pub mod Decimal
+pub mod Begins
+pub mod NumberLines

@@ -1,0 +1,44 @@
+-- A line of a name and a number: past the end of a text there is none, and what a line that begins with its name leaves.
+use mathlib.Core.Path.{_≡_, refl, sym, ap, _∙_}
+use mathlib.Core.Bool.{Bool, true, false}
+use mathlib.Core.List.{List, [], _∷_, _++_}
+use Prim.Native.Nat.{ℕ, _+_, _-_, _≤_, _<_}
+use native.Mathlib.Nat.{le-of-eq}
+use native.Mathlib.Omega.{arith}
+use lib.ListN.{length, take, drop, length-append, length-drop, drop-of-length-le}
+use lib.Seq.{take-all}
+use Rattle.lists.specs.Parts.{put}
+use Rattle.lists.proofs.Parts.{put-length}
+use Rattle.lists.proofs.Puts.{put-put}
+use Rattle.text_lines.specs.declared.Line.the-variants.{Refused}
+use Rattle.text_lines.specs.Decimal.{decimal, digitCount}
+use Rattle.text_lines.specs.Lines.{numberText, begins, isNumeral, numberAt, numberLine}
+use Rattle.text_lines.proofs.Begins.{begins-split}
+
+-- a part of a text that goes to its end
+pub to-end : (text : List ℕ) (at : ℕ) → take (length text - at) (drop at text) ≡ drop at text
+to-end text at = take-all (length text - at) (drop at text) (le-of-eq (length-drop at text))
+
+pub past-end : (name text : List ℕ) (at : ℕ) → length text < at → numberLine name text at ≡ Refused
+unfolding numberLine begins numberAt digitCount isNumeral
+past-end [] text at h = simp (drop-of-length-le text {i = at + 0} (omega arith))
+past-end (x ∷ name) text at h = simp (drop-of-length-le text {i = at} (omega arith))
+
+pub name-within : (name text : List ℕ) (at : ℕ) → at ≤ length text → begins name (drop at text) ≡ true → at + length name ≤ length text
+name-within name text at h e =
+    let l = ap length (begins-split name (drop at text) e) ∙ length-append name (drop (length name) (drop at text)) in
+    let d = length-drop at text in
+    omega arith
+
+-- ---- writing
+
+pub number-text-length : (name : List ℕ) (n : ℕ) → length (numberText name n) ≡ length name + length (decimal n) + 1
+number-text-length name n =
+    let e = length-append name (decimal n ++ (10 ∷ [])) in let d = length-append (decimal n) (10 ∷ []) in omega arith
+
+-- three parts side by side
+pub put-three : (at : ℕ) (a b d buffer : List ℕ) → at + length a ≤ length buffer
+    → put (at + length a + length b) d (put (at + length a) b (put at a buffer)) ≡ put at (a ++ (b ++ d)) buffer
+put-three at a b d buffer h =
+    let room : at + length a ≤ length (put at a buffer) = let e = put-length at a buffer h in omega arith in
+    put-put (at + length a) b d (put at a buffer) room ∙ put-put at a (b ++ d) buffer (omega arith)
