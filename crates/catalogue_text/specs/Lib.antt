@@ -1,4 +1,3 @@
-pub mod Decimal
 pub mod Text
 pub mod Parsing
 pub mod Writing

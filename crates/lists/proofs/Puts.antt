@@ -8,7 +8,7 @@ use lib.Seq.{length-take-le, take-at, drop-at, drop-drop, drop-cons, take-suc, a
 use Rattle.lists.specs.Parts.{put}
 
 -- two parts side by side are one
-pub put-put : (at : ℕ) (a b buffer : List ℕ) → at ≤ length buffer → put (at + length a) b (put at a buffer) ≡ put at (a ++ b) buffer
+put-put : (at : ℕ) (a b buffer : List ℕ) → at ≤ length buffer → put (at + length a) b (put at a buffer) ≡ put at (a ++ b) buffer
 put-put at a b buffer h =
     let front = take at buffer ++ a in
     let rest = drop (length a) (drop at buffer) in
@@ -32,3 +32,8 @@ put-before at byte bytes buffer h =
         (ap (λ (l : List ℕ). l ++ rest) (take-suc buffer at 0 h) ∙ append-snoc (take at buffer) (getD buffer at 0) rest)
     ∙ set-at (take at buffer) (getD buffer at 0) rest byte at (length-take-le at buffer (omega arith))
     ∙ ap (λ (l : List ℕ). take at buffer ++ (byte ∷ (bytes ++ drop (suc (length bytes)) l))) (sym (drop-cons buffer at 0 h))
+
+-- a part that is written where the last one ended
+pub put-next : (base at : ℕ) (a b buffer out : List ℕ) → base ≤ length buffer → at ≡ base + length a → out ≡ put base a buffer
+    → put at b out ≡ put base (a ++ b) buffer
+put-next base at a b buffer out h e f = ap₂ (λ (m : ℕ) (o : List ℕ). put m b o) e f ∙ put-put base a b buffer h

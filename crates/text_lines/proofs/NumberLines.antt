@@ -7,9 +7,6 @@ use native.Mathlib.Nat.{le-of-eq}
 use native.Mathlib.Omega.{arith}
 use lib.ListN.{length, take, drop, length-append, length-drop, drop-of-length-le}
 use lib.Seq.{take-all}
-use Rattle.lists.specs.Parts.{put}
-use Rattle.lists.proofs.Parts.{put-length}
-use Rattle.lists.proofs.Puts.{put-put}
 use Rattle.text_lines.specs.declared.Line.the-variants.{Refused}
 use Rattle.text_lines.specs.Decimal.{decimal, digitCount}
 use Rattle.text_lines.specs.Lines.{numberText, begins, isNumeral, numberAt, numberLine}
@@ -35,10 +32,3 @@ name-within name text at h e =
 pub number-text-length : (name : List ℕ) (n : ℕ) → length (numberText name n) ≡ length name + length (decimal n) + 1
 number-text-length name n =
     let e = length-append name (decimal n ++ (10 ∷ [])) in let d = length-append (decimal n) (10 ∷ []) in omega arith
-
--- three parts side by side
-pub put-three : (at : ℕ) (a b d buffer : List ℕ) → at + length a ≤ length buffer
-    → put (at + length a + length b) d (put (at + length a) b (put at a buffer)) ≡ put at (a ++ (b ++ d)) buffer
-put-three at a b d buffer h =
-    let room : at + length a ≤ length (put at a buffer) = let e = put-length at a buffer h in omega arith in
-    put-put (at + length a) b d (put at a buffer) room ∙ put-put at a (b ++ d) buffer (omega arith)

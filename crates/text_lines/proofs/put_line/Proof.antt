@@ -1,14 +1,14 @@
 -- `text_lines::put_line` meets its contract: the name, the digits and byte 10 are written side by side.
-use mathlib.Core.Path.{_≡_, sym, ap, ap₂, _∙_}
-use mathlib.Core.List.{List, [], _∷_}
+use mathlib.Core.Path.{_≡_, ap, _∙_}
+use mathlib.Core.List.{List, [], _∷_, _++_, append-assoc}
 use Prim.Native.Nat.{ℕ, _+_}
 use native.Mathlib.Omega.{arith}
 use borrow.Author.Needs.{needs}
-use lib.ListN.{length}
+use lib.ListN.{length, length-append}
 use Rattle.lists.specs.Parts.{put}
+use Rattle.lists.proofs.Puts.{put-next}
 use Rattle.text_lines.specs.Decimal.{decimal}
-use Rattle.text_lines.specs.Lines.{numberText}
-use Rattle.text_lines.proofs.NumberLines.{number-text-length, put-three}
+use Rattle.text_lines.proofs.NumberLines.{number-text-length}
 use Rattle.text_lines.proofs.put_line.Statement.{statement}
 use Rattle.text_lines.proofs.put_line.Tie as tie
 
@@ -59,11 +59,16 @@ returns c =
     let l = number-text-length written (a .n) in
     let p = from .pre in
     let start : name .result ≡ a .at + length written = name .ensures .0 in
-    let end : digits .result ≡ a .at + length written + length (decimal (a .n)) = digits .ensures .0 ∙ ap (λ (m : ℕ). m + length (decimal (a .n))) start in
+    let f = digits .ensures .0 in
+    let end : digits .result ≡ a .at + length (written ++ decimal (a .n)) = let e = length-append written (decimal (a .n)) in omega arith in
     let r = last .ensures .0 in
-    let middle : digits .last .0 ≡ put (a .at + length written) (decimal (a .n)) (put (a .at) written (a .out .now)) =
-    digits .ensures .1 ∙ ap₂ (λ (m : ℕ) (b : List ℕ). put m (decimal (a .n)) b) start (name .ensures .1) in
-    (omega arith, last .ensures .1 ∙ ap₂ (λ (m : ℕ) (b : List ℕ). put m (10 ∷ []) b) end middle ∙ put-three (a .at) written (decimal (a .n)) (10 ∷ []) (a .out .now) (omega arith))
+    let middle : digits .last .0 ≡ put (a .at) (written ++ decimal (a .n)) (a .out .now) =
+    digits .ensures .1 ∙ put-next (a .at) (name .result) written (decimal (a .n)) (a .out .now) (name .last .0) (omega arith) start (name .ensures .1) in (
+      omega arith,
+      last .ensures .1
+          ∙ put-next (a .at) (digits .result) (written ++ decimal (a .n)) (10 ∷ []) (a .out .now) (digits .last .0) (omega arith) end middle
+          ∙ ap (λ (l : List ℕ). put (a .at) l (a .out .now)) (append-assoc written (decimal (a .n)) (10 ∷ [])),
+    )
 
 pub put-line-spec : {M : Type 1} → statement M
 put-line-spec =

@@ -1,0 +1,2 @@
+pub mod TextLength
+pub mod FourLines
