@@ -71,6 +71,15 @@ unfolding digitCount
 count-all none = refl
 count-all (more d ds) = simp d (ap suc (count-all ds))
 
+pub count-most : (text : List ℕ) → digitCount text ≤ length text
+unfolding digitCount
+count-most [] = omega arith
+count-most (x ∷ text) = go (isDigit x) refl (count-most text)
+  where
+    go : (t : Bool) → isDigit x ≡ t → digitCount text ≤ length text → digitCount (x ∷ text) ≤ length (x ∷ text)
+    go true e h = rw e (omega arith)
+    go false e h = rw e (omega arith)
+
 -- ---- counting digits in a loop
 
 pub step : (text : List ℕ) (i : ℕ) → i < length text → drop i text ≡ getD text i 0 ∷ drop (i + 1) text

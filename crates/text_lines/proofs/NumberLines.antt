@@ -1,20 +1,14 @@
 -- A line of a name and a number: past the end of a text there is none, and what a line that begins with its name leaves.
-use mathlib.Core.Path.{_≡_, refl, sym, ap, _∙_}
-use mathlib.Core.Bool.{Bool, true, false}
+use mathlib.Core.Path.{_≡_, ap, _∙_}
+use mathlib.Core.Bool.{true}
 use mathlib.Core.List.{List, [], _∷_, _++_}
-use Prim.Native.Nat.{ℕ, _+_, _-_, _≤_, _<_}
-use native.Mathlib.Nat.{le-of-eq}
+use Prim.Native.Nat.{ℕ, _+_, _≤_, _<_}
 use native.Mathlib.Omega.{arith}
-use lib.ListN.{length, take, drop, length-append, length-drop, drop-of-length-le}
-use lib.Seq.{take-all}
+use lib.ListN.{length, drop, length-append, length-drop, drop-of-length-le}
 use Rattle.text_lines.specs.declared.Line.the-variants.{Refused}
 use Rattle.text_lines.specs.Decimal.{decimal, digitCount}
 use Rattle.text_lines.specs.Lines.{numberText, begins, isNumeral, numberAt, numberLine}
 use Rattle.text_lines.proofs.Begins.{begins-split}
-
--- a part of a text that goes to its end
-pub to-end : (text : List ℕ) (at : ℕ) → take (length text - at) (drop at text) ≡ drop at text
-to-end text at = take-all (length text - at) (drop at text) (le-of-eq (length-drop at text))
 
 pub past-end : (name text : List ℕ) (at : ℕ) → length text < at → numberLine name text at ≡ Refused
 unfolding numberLine begins numberAt digitCount isNumeral
