@@ -1,2 +1,3 @@
-pub mod TextLength
+pub mod TextParts
 pub mod FourLines
+pub mod RoundTrip

@@ -1,5 +1,5 @@
 -- A catalogue's text: four lines, each ended by byte 10 (document 01, 'Catalogue').
-use Prim.Native.Nat.{ℕ}
+use Prim.Native.Nat.{ℕ, _<_}
 use mathlib.Core.List.{List, _++_}
 use Rattle.lists.specs.Ascii.{ascii}
 use Rattle.catalogue.specs.declared.Code.{Code}
@@ -26,3 +26,9 @@ unfoldable pub textOf : Catalogue → List ℕ
 textOf c =
     codeText (c .code)
     ++ (numberText serversName (c .servers) ++ (numberText messagesName (c .messages) ++ numberText symbolName (c .symbol)))
+
+-- N, K and S have at most five digits, as every number of a text has
+pub record FiveDigits (c : Catalogue) : Type 0 where
+  pub servers : c .servers < 100000
+  pub messages : c .messages < 100000
+  pub symbol : c .symbol < 100000

@@ -1,17 +1,10 @@
 -- `catalogue_text::put_text` meets its contract: the four lines are written side by side.
-use mathlib.Core.Path.{_≡_, ap, sym, _∙_}
-use mathlib.Core.List.{List, _++_, append-assoc}
-use Prim.Native.Nat.{ℕ, _+_}
-use native.Mathlib.Nat.{zero-add}
 use native.Mathlib.Omega.{arith}
 use borrow.Author.Needs.{needs}
-use lib.ListN.{length, length-append}
-use Rattle.lists.specs.Parts.{put}
-use Rattle.lists.proofs.Puts.{put-next}
 use Rattle.text_lines.specs.Lines.{numberText}
 use Rattle.text_lines.proofs.NumberLines.{number-text-length}
 use Rattle.catalogue_text.specs.Text.{codeText, serversName, messagesName, symbolName, textOf}
-use Rattle.catalogue_text.proofs.TextLength.{text-length}
+use Rattle.catalogue_text.proofs.TextParts.{text-length, put-four}
 use Rattle.catalogue_text.proofs.put_text.Statement.{statement}
 use Rattle.catalogue_text.proofs.put_text.Tie as tie
 
@@ -85,20 +78,35 @@ returns c =
     let first = c .before .before .before .before .before .before .before .before .before .before .before .before .before .before .before .before .before .put-code in
     let from = c .before .before .before .before .before .before .before .before .before .before .before .before .before .before .before .before .before .before .before .before in
     let value = from .args .c in
-    let out = from .args .out .now in
-    let a = codeText (value .code) in
-    let b = numberText serversName (value .servers) in
-    let d = numberText messagesName (value .messages) in
-    let e = numberText symbolName (value .symbol) in
-    let first-end : first .result ≡ 0 + length a = first .ensures .0 ∙ sym (zero-add (length a)) in
-    let second-end : second .result ≡ 0 + length (a ++ b) = let f = second .ensures .0 in let l = length-append a b in omega arith in
-    let third-end : third .result ≡ 0 + length ((a ++ b) ++ d) = let f = third .ensures .0 in let l = length-append (a ++ b) d in omega arith in
-    let all : ((a ++ b) ++ d) ++ e ≡ a ++ (b ++ (d ++ e)) = simp append-assoc in
-    let second-is = second .ensures .1 ∙ put-next 0 (first .result) a b out (first .last .0) (omega arith) first-end (first .ensures .1) in
-    let third-is = third .ensures .1 ∙ put-next 0 (second .result) (a ++ b) d out (second .last .0) (omega arith) second-end second-is in (
-      fourth .ensures .0 ∙ (let l = length-append ((a ++ b) ++ d) e in omega (arith, ap length all)),
-      fourth .ensures .1 ∙ put-next 0 (third .result) ((a ++ b) ++ d) e out (third .last .0) (omega arith) third-end third-is
-          ∙ ap (λ (l : List ℕ). put 0 l out) all,
+    let t = text-length value in
+    let n = number-text-length serversName (value .servers) in
+    let m = number-text-length messagesName (value .messages) in
+    let s = number-text-length symbolName (value .symbol) in
+    let e = first .ensures .0 in
+    let f = second .ensures .0 in
+    let g = third .ensures .0 in
+    let h = fourth .ensures .0 in (
+      omega arith,
+      put-four
+      (codeText (value .code))
+      (numberText serversName (value .servers))
+      (numberText messagesName (value .messages))
+      (numberText symbolName (value .symbol))
+      (from .args .out .now)
+      (first .last .0)
+      (second .last .0)
+      (third .last .0)
+      (fourth .last .0)
+      (first .result)
+      (second .result)
+      (third .result)
+      e
+      f
+      g
+      (first .ensures .1)
+      (second .ensures .1)
+      (third .ensures .1)
+      (fourth .ensures .1),
     )
 
 pub put-text-spec : {M : Type 1} → statement M

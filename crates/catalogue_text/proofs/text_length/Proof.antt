@@ -1,7 +1,7 @@
 -- `catalogue_text::text_length` meets its contract: the lengths of the lines add up.
 use native.Mathlib.Omega.{arith}
 use Rattle.text_lines.proofs.Decimal.{length-most}
-use Rattle.catalogue_text.proofs.TextLength.{code-most, text-length}
+use Rattle.catalogue_text.proofs.TextParts.{code-most, text-length}
 use borrow.Author.Needs.{needs}
 use Rattle.catalogue_text.proofs.text_length.Statement.{statement}
 use Rattle.catalogue_text.proofs.text_length.Tie as tie
