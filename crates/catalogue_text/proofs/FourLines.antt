@@ -80,13 +80,14 @@ four-lines-written c rest small =
     let at-e : drop (length a + length b + length d) text ≡ e ++ rest = drop-after text d (e ++ rest) (length a + length b) at-d in
     let end : length a + length b + length d + length e ≡ length (a ++ (b ++ (d ++ e))) =
     let l = length-append a (b ++ (d ++ e)) in let m = length-append b (d ++ e) in let n = length-append d e in omega arith in
-    simp
-    (first,
-    line-written serversName text (d ++ (e ++ rest)) (length a) (c .servers) (small .servers) at-b,
-    line-written messagesName text (e ++ rest) (length a + length b) (c .messages) (small .messages) at-d,
-    line-written symbolName text rest (length a + length b + length d) (c .symbol) (small .symbol) at-e,
-    code-number (c .code),
-    end)
+    simp (
+      first,
+      line-written serversName text (d ++ (e ++ rest)) (length a) (c .servers) (small .servers) at-b,
+      line-written messagesName text (e ++ rest) (length a + length b) (c .messages) (small .messages) at-d,
+      line-written symbolName text rest (length a + length b + length d) (c .symbol) (small .symbol) at-e,
+      code-number (c .code),
+      end,
+    )
 
 -- ---- what is read is a catalogue's text
 

@@ -49,7 +49,7 @@ fourLines text =
     onLine (numberLine symbolName text d) λ S e.
     record { verdict = Accepted; catalogue = record { code = codeOf code; servers = N; messages = K; symbol = S }; next = e }
 
-abbrev linesBy : Verdict → Lines → Lines
+abbrev pub linesBy : Verdict → Lines → Lines
 linesBy Accepted found = found
 linesBy (Refused refusal) found = refusedLines refusal
 
@@ -60,7 +60,7 @@ linesOf text = let found = fourLines text in linesBy (andThen (found .verdict) (
 abbrev pub unread : Refusal → Reading
 unread refusal = record { verdict = Refused refusal; catalogue = zeroCatalogue }
 
-abbrev readingBy : Verdict → Catalogue → Reading
+abbrev pub readingBy : Verdict → Catalogue → Reading
 readingBy Accepted c = record { verdict = Accepted; catalogue = c }
 readingBy (Refused refusal) c = unread refusal
 

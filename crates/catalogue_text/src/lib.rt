@@ -176,7 +176,11 @@ fn text_length(c: Catalogue) -> usize
     ensures { λ r. ⌜ r ≡ length (textOf c) ⌝ }
 {
     let code = c.code;
-    code_length(code) + 23 + text_lines::width(c.servers) + text_lines::width(c.messages) + text_lines::width(c.symbol)
+    code_length(code)
+        + 23
+        + text_lines::width(c.servers)
+        + text_lines::width(c.messages)
+        + text_lines::width(c.symbol)
 }
 
 // Writes the catalogue's text at the start of `out`, and gives its length: refused 2 or 9.

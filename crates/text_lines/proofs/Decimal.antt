@@ -68,6 +68,7 @@ length-most (suc places) n h = go (ltb n 10) refl (λ k. length-most places (n /
   where
     power : 10 ^ suc (suc places) ≡ 10 ^ suc places * 10
     power = pow-suc 10 (suc places)
+
     go : (t : Bool) → ltb n 10 ≡ t → (n / 10 < 10 ^ suc places → length (decimal (n / 10)) ≤ suc places) → length (decimal n) ≤ suc (suc places)
     go true e front = let l = length-small n (ltb-true n 10 e) in omega arith
     go false e front =
@@ -82,6 +83,7 @@ below-power = by-digits (λ n. n < 10 ^ length (decimal n)) small large
   where
     small : (n : ℕ) → n < 10 → n < 10 ^ length (decimal n)
     small n h = rw (length-small n h) h
+
     large : (n : ℕ) → 10 ≤ n → n / 10 < 10 ^ length (decimal (n / 10)) → n < 10 ^ length (decimal n)
     large n h k = rw (length-large n h, add-one, pow-suc) (omega arith)
 
@@ -92,6 +94,7 @@ decimal-digits = by-digits (λ n. Digits (decimal n)) small large
   where
     small : (n : ℕ) → n < 10 → Digits (decimal n)
     small n h = rw (decimal-small n h) (more (digit-is n h) none)
+
     large : (n : ℕ) → 10 ≤ n → Digits (decimal (n / 10)) → Digits (decimal n)
     large n h d = rw (decimal-large n h) (digits-append d (more (digit-is (n % 10) (omega arith)) none))
 
@@ -100,6 +103,7 @@ first-digit = by-digits (λ n. 0 < n → 48 < getD (decimal n) 0 0) small large
   where
     small : (n : ℕ) → n < 10 → 0 < n → 48 < getD (decimal n) 0 0
     small n h k = rw (decimal-small n h) (omega arith)
+
     large : (n : ℕ) → 10 ≤ n → (0 < n / 10 → 48 < getD (decimal (n / 10)) 0 0) → 0 < n → 48 < getD (decimal n) 0 0
     large n h f k =
         let some = some-digits (n / 10) in
@@ -112,6 +116,7 @@ value-decimal = by-digits (λ n. valueFrom 0 (decimal n) ≡ n) small large
   where
     small : (n : ℕ) → n < 10 → valueFrom 0 (decimal n) ≡ n
     small n h = ap (valueFrom 0) (decimal-small n h) ∙ value-last 0 n ∙ omega arith
+
     large : (n : ℕ) → 10 ≤ n → valueFrom 0 (decimal (n / 10)) ≡ n / 10 → valueFrom 0 (decimal n) ≡ n
     large n h e =
         ap (valueFrom 0) (decimal-large n h) ∙ value-append 0 (decimal (n / 10)) (digit (n % 10) ∷ [])

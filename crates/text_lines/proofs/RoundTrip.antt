@@ -29,14 +29,15 @@ unfolding numberAt isNumeral
 number-written at n rest h =
     let text = decimal n ++ (10 ∷ rest) in
     let count : digitCount text ≡ length (decimal n) = count-digits (decimal-digits n) 10 rest (below-digits 10 (omega arith)) in
-    simp
-    (count,
-    le-leb 1 (length (decimal n)) (some-digits n),
-    le-leb (length (decimal n)) 5 (length-most 4 n h),
-    no-leading-zero n (10 ∷ rest),
-    getD-append-seam (decimal n) 10 rest 0,
-    take-append-seam (decimal n) (10 ∷ rest),
-    value-decimal n)
+    simp (
+      count,
+      le-leb 1 (length (decimal n)) (some-digits n),
+      le-leb (length (decimal n)) 5 (length-most 4 n h),
+      no-leading-zero n (10 ∷ rest),
+      getD-append-seam (decimal n) 10 rest 0,
+      take-append-seam (decimal n) (10 ∷ rest),
+      value-decimal n,
+    )
 
 pub line-written : (name text rest : List ℕ) (at n : ℕ) → n < 100000 → drop at text ≡ numberText name n ++ rest
     → numberLine name text at ≡ Value n (at + length (numberText name n))
@@ -48,7 +49,7 @@ line-written name text rest at n h e =
     let end : place + length (decimal n) + 1 ≡ at + length (numberText name n) = let l = number-text-length name n in omega arith in
     simp starts
     (ap (numberAt place) (drop-after text name (decimal n ++ (10 ∷ rest)) at here)
-        ∙ number-written place n rest h ∙ ap (Value n) end)
+    ∙ number-written place n rest h ∙ ap (Value n) end)
 
 -- ---- what is read is what is written
 
@@ -110,6 +111,7 @@ line-read name text at n next e = go (begins name (drop at text)) refl
   where
     place : ℕ
     place = at + length name
+
     go : (t : Bool) → begins name (drop at text) ≡ t → LineRead name text at n next
     go true starts =
         let r = number-read (drop place text) place n next (rw starts at e) in

@@ -88,25 +88,25 @@ returns c =
     let h = fourth .ensures .0 in (
       omega arith,
       put-four
-      (codeText (value .code))
-      (numberText serversName (value .servers))
-      (numberText messagesName (value .messages))
-      (numberText symbolName (value .symbol))
-      (from .args .out .now)
-      (first .last .0)
-      (second .last .0)
-      (third .last .0)
-      (fourth .last .0)
-      (first .result)
-      (second .result)
-      (third .result)
-      e
-      f
-      g
-      (first .ensures .1)
-      (second .ensures .1)
-      (third .ensures .1)
-      (fourth .ensures .1),
+          (codeText (value .code))
+          (numberText serversName (value .servers))
+          (numberText messagesName (value .messages))
+          (numberText symbolName (value .symbol))
+          (from .args .out .now)
+          (first .last .0)
+          (second .last .0)
+          (third .last .0)
+          (fourth .last .0)
+          (first .result)
+          (second .result)
+          (third .result)
+          e
+          f
+          g
+          (first .ensures .1)
+          (second .ensures .1)
+          (third .ensures .1)
+          (fourth .ensures .1),
     )
 
 pub put-text-spec : {M : Type 1} → statement M

@@ -38,7 +38,7 @@ module _ (at n : ℕ) (before : List ℕ) (i front : ℕ) (out : List ℕ) (w : 
   next : (j d : ℕ) → i ≡ suc j → set out j d ≡ put j (d ∷ w .written) before
   next j d e =
       ap (λ (l : List ℕ). set l j d) (w .bytes ∙ ap (λ (m : ℕ). put m (w .written) before) e)
-          ∙ put-before j d (w .written) before (let f = fits in omega arith)
+      ∙ put-before j d (w .written) before (let f = fits in omega arith)
 
 width-requires : tie.Need-width-requires Inv-loop μ-loop
 width-requires c κs = search needs
@@ -115,7 +115,7 @@ same-length c =
     let at = c .before in
     let from = at .before .before .before in
     length-set (at .loop .out) (from .args .at) _
-        ∙ same (from .args .at) (from .args .n) (from .args .out .now) (at .loop .i) (at .loop .front) (at .loop .out) (at .loop .inv) (from .pre)
+    ∙ same (from .args .at) (from .args .n) (from .args .out .now) (at .loop .i) (at .loop .front) (at .loop .out) (at .loop .inv) (from .pre)
 
 returns : tie.Need-returns Inv-loop μ-loop
 returns c =
