@@ -1,5 +1,5 @@
 -- What an admitted catalogue's numbers and sizes are bounded by, and that a catalogue which is not admitted is refused 2.
-use mathlib.Core.Path.{_≡_, refl, sym, ap, _∙_}
+use mathlib.Core.Path.{_≡_, refl, ap}
 use mathlib.Core.Bool.{Bool, true, false, not}
 use mathlib.Core.Logic.{_⊎_, inl, inr}
 use Prim.Native.Nat.{ℕ, _≤_}
@@ -9,7 +9,6 @@ use Rattle.refusal.specs.declared.Refusal.the-variants.{Bounds}
 use Rattle.refusal.specs.declared.Verdict.the-variants.{Accepted, Refused}
 use Rattle.refusal.specs.Chain.{refuseIf}
 use Rattle.refusal.proofs.Chain.{passed}
-use Rattle.parameters.specs.declared.Sizes.{Sizes}
 use Rattle.parameters.proofs.Bounds.{short-bounds, even-bounds}
 use Rattle.catalogue.specs.declared.Code.{Code}
 use Rattle.catalogue.specs.declared.Code.the-variants.{Short, Even}

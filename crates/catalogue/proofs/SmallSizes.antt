@@ -1,7 +1,7 @@
 -- The sizes of an admitted catalogue are small: what callers need so that their sums and products fit.
 
-use Prim.Native.Nat.{ℕ, _+_, _-_, _*_, _/_, _^_, _≤_, _<_}
-use native.Mathlib.Nat.{mul-le-mul, pow-le-pow-right, div-le-self, le-refl}
+use Prim.Native.Nat.{ℕ, _-_, _*_, _^_, _≤_, _<_}
+use native.Mathlib.Nat.{mul-le-mul, pow-le-pow-right, div-le-self}
 use native.Mathlib.Omega.{arith}
 use Rattle.parameters.specs.declared.Sizes.{Sizes}
 use Rattle.parameters.specs.Measures.{shortSizes, evenRows, evenSizes, keyPlaces, mostServers}

@@ -17,10 +17,9 @@ use Rattle.refusal.proofs.Chain.{not-refused}
 use Rattle.catalogue.specs.declared.Catalogue.{Catalogue}
 use Rattle.catalogue.specs.Catalogue.{catalogueVerdict, Admitted}
 use Rattle.catalogue.proofs.Admitted.{verdict-cases}
-use Rattle.catalogue_text.specs.declared.Lines.{Lines}
 use Rattle.catalogue_text.specs.declared.Reading.{Reading}
 use Rattle.catalogue_text.specs.Text.{textOf, FiveDigits}
-use Rattle.catalogue_text.specs.Parsing.{fourLines, linesBy, linesOf, refusedLines, unread, readingBy, readOf}
+use Rattle.catalogue_text.specs.Parsing.{fourLines, linesOf, refusedLines, unread, readingBy, readOf}
 use Rattle.catalogue_text.proofs.TextParts.{admitted-digits}
 use Rattle.catalogue_text.proofs.FourLines.{LinesRead, four-lines-written, four-lines-cases}
 

@@ -1,8 +1,8 @@
 -- Texts of digits: how many a text begins with, and their value, byte by byte.
 use mathlib.Core.Path.{_≡_, refl, sym, ap, _∙_}
-use mathlib.Core.Bool.{Bool, true, false, cond, _&&_}
+use mathlib.Core.Bool.{Bool, true, false}
 use mathlib.Core.List.{List, [], _∷_, _++_}
-use Prim.Native.Nat.{ℕ, zero, suc, _+_, _-_, _*_, _^_, _≤_, _<_}
+use Prim.Native.Nat.{ℕ, zero, suc, _+_, _-_, _*_, _≤_, _<_}
 use native.Mathlib.Nat.{not-suc-le-zero, le-of-suc-le-suc}
 use native.Mathlib.Numerals.{add-one}
 use native.Mathlib.Omega.{arith}
@@ -70,15 +70,6 @@ pub count-all : {xs : List ℕ} → Digits xs → digitCount xs ≡ length xs
 unfolding digitCount
 count-all none = refl
 count-all (more d ds) = simp d (ap suc (count-all ds))
-
-pub count-most : (text : List ℕ) → digitCount text ≤ length text
-unfolding digitCount
-count-most [] = omega arith
-count-most (x ∷ text) = go (isDigit x) refl (count-most text)
-  where
-    go : (t : Bool) → isDigit x ≡ t → digitCount text ≤ length text → digitCount (x ∷ text) ≤ length (x ∷ text)
-    go true e h = rw e (omega arith)
-    go false e h = rw e (omega arith)
 
 -- ---- counting digits in a loop
 

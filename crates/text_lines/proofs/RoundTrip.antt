@@ -1,22 +1,21 @@
 -- A line that is written reads back, and a line that is read is what is written for its value.
 use mathlib.Core.Path.{_≡_, refl, sym, ap, _∙_}
 use mathlib.Core.Bool.{Bool, true, false, cond, not, _&&_}
-use mathlib.Core.List.{List, [], _∷_, _++_, append-assoc}
-use Prim.Native.Nat.{ℕ, suc, _+_, _^_, _≤_, _<_}
+use mathlib.Core.List.{List, _∷_, _++_, append-assoc}
+use Prim.Native.Nat.{ℕ, _+_, _^_, _≤_, _<_}
 use native.Mathlib.Nat.{pow-le-pow-right}
 use native.Mathlib.Numerals.{add-one}
 use native.Mathlib.Omega.{arith}
-use borrow.Author.Tests.{le-leb, leb-true, eq-eqb, eqb-true, ltb-true, ltb-false, not-true}
+use borrow.Author.Tests.{le-leb, leb-true, eqb-true, ltb-true, ltb-false, not-true}
 use lib.Dec.{leb, ltb, eqb}
-use lib.ListN.{length, take, drop, getD, length-append, take-append-drop, List·getD-eq-default}
+use lib.ListN.{length, take, drop, getD, take-append-drop, List·getD-eq-default}
 use lib.Seq.{take-append-seam, getD-append-seam, length-take-le, drop-cons, drop-drop, getD-take}
 use Rattle.lists.proofs.Every.{both-true}
 use Rattle.lists.proofs.Cuts.{drop-after}
-use Rattle.text_lines.specs.declared.Line.{Line}
 use Rattle.text_lines.specs.declared.Line.the-variants.{Value, Refused}
 use Rattle.text_lines.specs.Decimal.{decimal, digitCount, valueFrom}
 use Rattle.text_lines.specs.Lines.{numberText, begins, leadingZero, isNumeral, numberAt, numberLine}
-use Rattle.text_lines.proofs.DigitTexts.{below-digits, digits-first, count-digits, count-most}
+use Rattle.text_lines.proofs.DigitTexts.{below-digits, digits-first, count-digits}
 use Rattle.text_lines.proofs.Decimal.{length-most, some-digits, below-power, decimal-digits, value-decimal}
 use Rattle.text_lines.proofs.Numerals.{no-leading-zero, decimal-value}
 use Rattle.text_lines.proofs.Begins.{begins-split, begins-joined}

@@ -1,5 +1,4 @@
 -- `catalogue::common_fits` meets its contract: each test is a part of the bound.
-use mathlib.Core.Path.{_≡_}
 use borrow.Author.Tests.{le-leb, lt-leb}
 use Rattle.catalogue.proofs.common_fits.Statement.{statement}
 use Rattle.catalogue.proofs.common_fits.Tie as tie

@@ -1,6 +1,5 @@
 -- `catalogue::even_sizes` meets its contract: the sizes of admitted parameters are small, so no sum and no product wraps.
-use mathlib.Core.Path.{_≡_, refl}
-use Prim.Native.Nat.{ℕ, _-_, _^_, _≤_}
+use Prim.Native.Nat.{_-_, _^_, _≤_}
 use native.Mathlib.Nat.{one-le-pow}
 use native.Mathlib.Omega.{arith}
 use Rattle.parameters.specs.Measures.{evenRows, evenSizes}

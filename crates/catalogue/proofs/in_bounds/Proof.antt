@@ -1,5 +1,5 @@
 -- `catalogue::in_bounds` meets its contract: the bounds are those of the catalogue's code.
-use mathlib.Core.Path.{_≡_, sym, _∙_}
+use mathlib.Core.Path.{_∙_}
 use borrow.Author.Needs.{needs}
 use Rattle.catalogue.proofs.in_bounds.Statement.{statement}
 use Rattle.catalogue.proofs.in_bounds.Tie as tie

@@ -1,6 +1,5 @@
 -- `catalogue::most_messages` meets its contract: the table's rule holds at each of its entries.
 use borrow.Author.Needs.{needs}
-use native.Mathlib.Omega.{arith}
 use Rattle.catalogue.proofs.Table.{table-most}
 use Rattle.catalogue.proofs.most_messages.Statement.{statement}
 use Rattle.catalogue.proofs.most_messages.Tie as tie

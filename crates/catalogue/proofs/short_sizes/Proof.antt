@@ -1,5 +1,5 @@
 -- `catalogue::short_sizes` meets its contract: the sizes of admitted parameters are small, so no product wraps.
-use mathlib.Core.Path.{_≡_, refl}
+use mathlib.Core.Path.{refl}
 use native.Mathlib.Omega.{arith}
 use Rattle.parameters.specs.Measures.{shortSizes}
 use Rattle.parameters.proofs.Bounds.{ShortBounds, short-bounds}

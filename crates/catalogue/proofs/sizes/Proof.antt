@@ -1,5 +1,5 @@
 -- `catalogue::sizes` meets its contract: a refusal is the verdict's, and else the sizes are those of the catalogue's code.
-use mathlib.Core.Path.{_≡_, sym, ap, _∙_}
+use mathlib.Core.Path.{sym, ap, _∙_}
 use borrow.Author.Needs.{needs}
 use Rattle.catalogue.specs.declared.Measured.the-variants.{Of}
 use Rattle.catalogue.specs.Catalogue.{measuredOf, sizesOf}

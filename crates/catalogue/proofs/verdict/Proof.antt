@@ -1,5 +1,5 @@
 -- `catalogue::verdict` meets its contract: the chain's one link is the test of the bounds.
-use mathlib.Core.Path.{_≡_, sym, _∙_}
+use mathlib.Core.Path.{sym, _∙_}
 use borrow.Author.Needs.{needs}
 use Rattle.catalogue.specs.Catalogue.{catalogueVerdict}
 use Rattle.catalogue.proofs.verdict.Statement.{statement}

@@ -1,5 +1,5 @@
 -- `catalogue_text::code_line` meets its contract: the tests are the definition's.
-use mathlib.Core.Path.{_≡_, sym, _∙_}
+use mathlib.Core.Path.{sym, _∙_}
 use Rattle.catalogue_text.specs.Parsing.{codeLine}
 use borrow.Author.Needs.{needs}
 use Rattle.catalogue_text.proofs.code_line.Statement.{statement}

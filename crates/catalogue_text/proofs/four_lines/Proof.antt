@@ -1,5 +1,5 @@
 -- `catalogue_text::four_lines` meets its contract: each line that is taken apart is the definition's line at that place.
-use mathlib.Core.Path.{_≡_, sym, _∙_}
+use mathlib.Core.Path.{sym, _∙_}
 use Rattle.catalogue_text.specs.Parsing.{fourLines}
 use borrow.Author.Needs.{needs}
 use Rattle.catalogue_text.proofs.four_lines.Statement.{statement}

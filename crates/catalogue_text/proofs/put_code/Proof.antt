@@ -1,9 +1,4 @@
 -- `catalogue_text::put_code` meets its contract: the line that is written is the code's.
-use mathlib.Core.Path.{_≡_, ap, sym, _∙_}
-use Prim.Native.Nat.{ℕ}
-use native.Mathlib.Omega.{arith}
-use lib.ListN.{length}
-use Rattle.catalogue_text.specs.Text.{codeText}
 use borrow.Author.Needs.{needs}
 use Rattle.catalogue_text.proofs.put_code.Statement.{statement}
 use Rattle.catalogue_text.proofs.put_code.Tie as tie

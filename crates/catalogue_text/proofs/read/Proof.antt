@@ -1,5 +1,5 @@
 -- `catalogue_text::read` meets its contract: the lines, then the end of the text, then the catalogue's own verdict.
-use mathlib.Core.Path.{_≡_, sym, _∙_}
+use mathlib.Core.Path.{sym, _∙_}
 use borrow.Author.Tests.{eq-eqb, ne-eqb}
 use Rattle.catalogue_text.specs.Parsing.{readOf}
 use borrow.Author.Needs.{needs}

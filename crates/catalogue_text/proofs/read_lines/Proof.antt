@@ -1,5 +1,5 @@
 -- `catalogue_text::read_lines` meets its contract: the lines, then the catalogue's own verdict.
-use mathlib.Core.Path.{_≡_, sym, _∙_}
+use mathlib.Core.Path.{sym, _∙_}
 use Rattle.catalogue_text.specs.Parsing.{linesOf}
 use borrow.Author.Needs.{needs}
 use Rattle.catalogue_text.proofs.read_lines.Statement.{statement}

@@ -1,8 +1,4 @@
 -- `catalogue_text::refused` meets its contract: it holds the catalogue of zeros.
-use mathlib.Core.Path.{_≡_, ap}
-use Rattle.refusal.specs.declared.Verdict.the-variants.{Refused}
-use Rattle.catalogue.specs.declared.Catalogue.{Catalogue}
-use Rattle.catalogue_text.specs.declared.Lines.{Lines}
 use borrow.Author.Needs.{needs}
 use Rattle.catalogue_text.proofs.refused.Statement.{statement}
 use Rattle.catalogue_text.proofs.refused.Tie as tie

@@ -1,5 +1,4 @@
 -- `catalogue_text::refused_reading` meets its contract: it holds the catalogue of zeros.
-use mathlib.Core.Path.{_≡_, ap}
 use borrow.Author.Needs.{needs}
 use Rattle.catalogue_text.proofs.refused_reading.Statement.{statement}
 use Rattle.catalogue_text.proofs.refused_reading.Tie as tie

@@ -1,6 +1,5 @@
 -- `catalogue_text::write` meets its contract: the catalogue's own verdict, then the room, then the text.
-use mathlib.Core.Path.{_≡_, refl, sym, ap, _∙_}
-use native.Mathlib.Omega.{arith}
+use mathlib.Core.Path.{sym, ap, _∙_}
 use borrow.Author.Tests.{lt-ltb, le-ltb}
 use Rattle.refusal.specs.declared.Outcome.the-variants.{Value}
 use Rattle.catalogue_text.specs.Writing.{writeVerdict}

@@ -1,9 +1,8 @@
 -- `text_lines::is_numeral` meets its contract: each test is a part of the rule.
-use mathlib.Core.Path.{_≡_}
 use borrow.Author.Needs.{needs}
 use borrow.Author.Tests.{le-leb, lt-leb, lt-ltb, le-ltb}
 use native.Mathlib.Omega.{arith}
-use lib.ListN.{length, getD, List·getD-eq-default}
+use lib.ListN.{List·getD-eq-default}
 use Rattle.text_lines.specs.Lines.{isNumeral}
 use Rattle.text_lines.proofs.is_numeral.Statement.{statement}
 use Rattle.text_lines.proofs.is_numeral.Tie as tie

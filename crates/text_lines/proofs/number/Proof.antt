@@ -1,6 +1,5 @@
 -- `text_lines::number` meets its contract: the tests are the rule's, and the digits that are lent have the value.
-use mathlib.Core.Path.{_≡_, refl, sym, ap, _∙_}
-use mathlib.Core.Bool.{true}
+use mathlib.Core.Path.{_≡_, sym, ap, _∙_}
 use Prim.Native.Nat.{ℕ, _≤_}
 use native.Mathlib.Omega.{arith}
 use borrow.Author.Needs.{needs}
@@ -10,7 +9,7 @@ use lib.ListN.{length, take, length-take, List·getD-eq-default}
 use lib.Seq.{length-take-le}
 use Rattle.lists.proofs.Every.{both-true}
 use Rattle.text_lines.specs.Decimal.{digitCount}
-use Rattle.text_lines.specs.Lines.{leadingZero, isNumeral, numberAt}
+use Rattle.text_lines.specs.Lines.{isNumeral, numberAt}
 use Rattle.text_lines.proofs.DigitTexts.{digits-first, count-all}
 use Rattle.text_lines.proofs.number.Statement.{statement}
 use Rattle.text_lines.proofs.number.Tie as tie

@@ -1,7 +1,6 @@
 -- `text_lines::number_line` meets its contract: the parts that are lent go to the text's end, and the name lies within it.
 use mathlib.Core.Path.{_≡_, sym, ap, _∙_}
 use mathlib.Core.Bool.{true}
-use mathlib.Core.List.{List}
 use Prim.Native.Nat.{_+_, _≤_}
 use native.Mathlib.Omega.{arith}
 use borrow.Author.Needs.{needs}

@@ -1,11 +1,11 @@
 -- `text_lines::value` meets its contract: n is the value of the first i digits, below 10^i, and stands before the rest.
 use mathlib.Core.Path.{_≡_, refl, sym, _∙_}
-use Prim.Native.Nat.{ℕ, _+_, _-_, _*_, _^_, _≤_, _<_}
+use Prim.Native.Nat.{_+_, _-_, _*_, _^_, _≤_, _<_}
 use native.Mathlib.Nat.{pow-suc, pow-le-pow-right}
 use native.Mathlib.Numerals.{add-one}
 use native.Mathlib.Omega.{arith}
 use lib.ListN.{length, drop, getD}
-use Rattle.text_lines.specs.Decimal.{isDigit, digitCount, valueFrom}
+use Rattle.text_lines.specs.Decimal.{valueFrom}
 use Rattle.text_lines.proofs.DigitTexts.{digit-range, all-digits, digits-at, value-more, value-end}
 use Rattle.text_lines.proofs.value.Statement.{statement}
 use Rattle.text_lines.proofs.value.Tie as tie

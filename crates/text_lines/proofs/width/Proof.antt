@@ -1,6 +1,6 @@
 -- `text_lines::width` meets its contract: the digits counted, less one, and those of what is left are all of them.
 use mathlib.Core.Path.{_≡_}
-use Prim.Native.Nat.{_+_, _≤_}
+use Prim.Native.Nat.{_+_}
 use native.Mathlib.Omega.{arith}
 use lib.ListN.{length}
 use Rattle.text_lines.specs.Decimal.{decimal}
