@@ -39,6 +39,7 @@ pub fn code_line(text: &[u8]) -> Line
     Line::Refused
 }
 
+// The code of a first line's value.
 fn code_of(value: usize) -> Code
     ensures { λ r. ⌜ r ≡ codeOf value ⌝ }
 {
@@ -162,6 +163,7 @@ fn put_text(out: &mut [u8], c: Catalogue) -> usize
     text_lines::put_line(out, d, b"piece=", c.symbol)
 }
 
+// The bytes of the first line.
 fn code_length(code: Code) -> usize
     ensures { λ r. ⌜ r ≡ length (codeText code) ⌝ }
 {
@@ -171,16 +173,15 @@ fn code_length(code: Code) -> usize
     }
 }
 
-// The bytes of the catalogue's text: the lines' names, 23 bytes with the ends of the lines, and the rest.
+// The bytes of the catalogue's text.
 fn text_length(c: Catalogue) -> usize
     ensures { λ r. ⌜ r ≡ length (textOf c) ⌝ }
 {
     let code = c.code;
-    code_length(code)
-        + 23
-        + text_lines::width(c.servers)
-        + text_lines::width(c.messages)
-        + text_lines::width(c.symbol)
+    let a = code_length(code);
+    let b = a + text_lines::line_length(b"mirrors=", c.servers);
+    let d = b + text_lines::line_length(b"packs=", c.messages);
+    d + text_lines::line_length(b"piece=", c.symbol)
 }
 
 // Writes the catalogue's text at the start of `out`, and gives its length: refused 2 or 9.

@@ -132,6 +132,13 @@ pub fn width(n: usize) -> usize
     count
 }
 
+// The bytes of the line of a name and a number.
+pub fn line_length(name: &[u8], n: usize) -> usize
+    ensures { λ r. ⌜ r ≡ length (numberText (now (name .entry)) n) ⌝ }
+{
+    name.len() + width(n) + 1
+}
+
 // Writes the bytes from place `at` on, and gives the place after them.
 pub fn put_bytes(out: &mut [u8], at: usize, bytes: &[u8]) -> usize
     requires { ⌜ at + length (now bytes) ≤ length (now out) ⌝ }

@@ -2,7 +2,6 @@
 use native.Mathlib.Omega.{arith}
 use borrow.Author.Needs.{needs}
 use Rattle.text_lines.specs.Lines.{numberText}
-use Rattle.text_lines.proofs.NumberLines.{number-text-length}
 use Rattle.catalogue_text.specs.Text.{codeText, serversName, messagesName, symbolName, textOf}
 use Rattle.catalogue_text.proofs.TextParts.{text-length, put-four}
 use Rattle.catalogue_text.proofs.put_text.Statement.{statement}
@@ -20,7 +19,6 @@ put-line-requires c κs =
     let from = c .before .before .before .before .before .before .before in
     let first = c .before .before .before .before .put-code in
     let t = text-length (from .args .c) in
-    let n = number-text-length serversName (from .args .c .servers) in
     let p = from .pre in
     let e = first .ensures .0 in
     let k = first .kept .0 in
@@ -35,8 +33,6 @@ put-line-requires-2 c κs =
     let first = c .before .before .before .before .before .before .before .before .before .put-code in
     let from = c .before .before .before .before .before .before .before .before .before .before .before .before in
     let t = text-length (from .args .c) in
-    let n = number-text-length serversName (from .args .c .servers) in
-    let m = number-text-length messagesName (from .args .c .messages) in
     let p = from .pre in
     let e = first .ensures .0 in
     let k = first .kept .0 in
@@ -54,9 +50,6 @@ put-line-requires-3 c κs =
     let first = c .before .before .before .before .before .before .before .before .before .before .before .before .before .before .put-code in
     let from = c .before .before .before .before .before .before .before .before .before .before .before .before .before .before .before .before .before in
     let t = text-length (from .args .c) in
-    let n = number-text-length serversName (from .args .c .servers) in
-    let m = number-text-length messagesName (from .args .c .messages) in
-    let s = number-text-length symbolName (from .args .c .symbol) in
     let p = from .pre in
     let e = first .ensures .0 in
     let k = first .kept .0 in
@@ -79,9 +72,6 @@ returns c =
     let from = c .before .before .before .before .before .before .before .before .before .before .before .before .before .before .before .before .before .before .before .before in
     let value = from .args .c in
     let t = text-length value in
-    let n = number-text-length serversName (value .servers) in
-    let m = number-text-length messagesName (value .messages) in
-    let s = number-text-length symbolName (value .symbol) in
     let e = first .ensures .0 in
     let f = second .ensures .0 in
     let g = third .ensures .0 in
