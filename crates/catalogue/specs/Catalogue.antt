@@ -4,7 +4,7 @@ use mathlib.Core.Bool.{Bool, not}
 use Prim.Native.Nat.{ℕ}
 use Rattle.refusal.specs.declared.Refusal.the-variants.{Bounds}
 use Rattle.refusal.specs.declared.Verdict.{Verdict}
-use Rattle.refusal.specs.declared.Verdict.the-variants.{Accepted}
+use Rattle.refusal.specs.declared.Verdict.the-variants.{Accepted, Refused}
 use Rattle.refusal.specs.Chain.{refuseIf}
 use Rattle.parameters.specs.declared.Sizes.{Sizes}
 use Rattle.parameters.specs.Bounds.{shortFits, evenFits}
@@ -12,6 +12,8 @@ use Rattle.parameters.specs.Measures.{shortSizes, evenSizes}
 use Rattle.catalogue.specs.declared.Code.{Code}
 use Rattle.catalogue.specs.declared.Code.the-variants.{Short, Even}
 use Rattle.catalogue.specs.declared.Catalogue.{Catalogue}
+use Rattle.catalogue.specs.declared.Measured.{Measured}
+use Rattle.catalogue.specs.declared.Measured.the-variants.{Of, Refused as NotMeasured}
 
 -- N, K and S are within the bounds of the code
 abbrev pub fits : Code → ℕ → ℕ → ℕ → Bool
@@ -33,6 +35,14 @@ sizesBy Even = evenSizes
 -- the sizes of an admitted catalogue
 unfoldable pub sizesOf : Catalogue → Sizes
 sizesOf c = sizesBy (c .code) (c .servers) (c .messages) (c .symbol)
+
+abbrev measuredBy : Verdict → Sizes → Measured
+measuredBy Accepted sizes = Of sizes
+measuredBy (Refused refusal) sizes = NotMeasured refusal
+
+-- the sizes, or why the catalogue is refused
+unfoldable pub measuredOf : Catalogue → Measured
+measuredOf c = measuredBy (catalogueVerdict c) (sizesOf c)
 
 -- what a refused reading hands back: zeros, the code short
 abbrev pub zeroCatalogue : Catalogue

@@ -1,0 +1,57 @@
+-- What an admitted catalogue's numbers and sizes are bounded by, and that a catalogue which is not admitted is refused 2.
+use mathlib.Core.Path.{_≡_, refl, ap}
+use mathlib.Core.Bool.{Bool, true, false, not}
+use mathlib.Core.Logic.{_⊎_, inl, inr}
+use Prim.Native.Nat.{ℕ, _≤_}
+use native.Mathlib.Omega.{arith}
+use borrow.Author.Tests.{not-false}
+use Rattle.refusal.specs.declared.Refusal.the-variants.{Bounds}
+use Rattle.refusal.specs.declared.Verdict.the-variants.{Accepted, Refused}
+use Rattle.refusal.specs.Chain.{refuseIf}
+use Rattle.refusal.proofs.Chain.{passed}
+use Rattle.parameters.proofs.Bounds.{short-bounds, even-bounds}
+use Rattle.catalogue.specs.declared.Code.{Code}
+use Rattle.catalogue.specs.declared.Code.the-variants.{Short, Even}
+use Rattle.catalogue.specs.declared.Catalogue.{Catalogue}
+use Rattle.catalogue.specs.Catalogue.{fits, catalogueVerdict, Admitted, sizesOf}
+use Rattle.catalogue.proofs.SmallSizes.{Small, short-small, even-small}
+
+-- the bounds that hold in every code
+pub record Numbers (N K S : ℕ) : Type 0 where
+  pub servers-low : 2 ≤ N
+  pub servers-high : N ≤ 16
+  pub messages-low : 1 ≤ K
+  pub messages-high : K ≤ 32
+  pub symbol-low : 1 ≤ S
+  pub symbol-high : S ≤ 4096
+
+fits-numbers : (code : Code) (N K S : ℕ) → fits code N K S ≡ true → Numbers N K S
+fits-numbers Short N K S e = let b = short-bounds N K S e in omega arith
+fits-numbers Even N K S e = let b = even-bounds N K S e in omega arith
+
+pub admitted-fits : (c : Catalogue) → Admitted c → fits (c .code) (c .servers) (c .messages) (c .symbol) ≡ true
+unfolding catalogueVerdict
+admitted-fits c a =
+    let f = fits (c .code) (c .servers) (c .messages) (c .symbol) in not-false f (passed (not f) Bounds Accepted a .0)
+
+pub admitted-numbers : (c : Catalogue) → Admitted c → Numbers (c .servers) (c .messages) (c .symbol)
+admitted-numbers c a = fits-numbers (c .code) (c .servers) (c .messages) (c .symbol) (admitted-fits c a)
+
+pub admitted-small : (c : Catalogue) → Admitted c → Small (c .servers) (sizesOf c)
+unfolding sizesOf
+admitted-small c a = go (c .code) refl
+  where
+    go : (code : Code) → c .code ≡ code → Small (c .servers) (sizesOf c)
+    go Short e =
+        rw e (short-small (c .servers) (c .messages) (c .symbol) (short-bounds (c .servers) (c .messages) (c .symbol) (rw e at (admitted-fits c a))))
+    go Even e =
+        rw e (even-small (c .servers) (c .messages) (c .symbol) (even-bounds (c .servers) (c .messages) (c .symbol) (rw e at (admitted-fits c a))))
+
+-- a value is admitted or refused 2
+pub verdict-cases : (c : Catalogue) → (Admitted c) ⊎ (catalogueVerdict c ≡ Refused Bounds)
+unfolding catalogueVerdict
+verdict-cases c = go (not (fits (c .code) (c .servers) (c .messages) (c .symbol))) refl
+  where
+    go : (t : Bool) → not (fits (c .code) (c .servers) (c .messages) (c .symbol)) ≡ t → (Admitted c) ⊎ (catalogueVerdict c ≡ Refused Bounds)
+    go true e = inr (ap (λ (f : Bool). refuseIf f Bounds Accepted) e)
+    go false e = inl (ap (λ (f : Bool). refuseIf f Bounds Accepted) e)

@@ -1,0 +1,15 @@
+-- The bounds of a code are those that the codes share, then those on K.
+use mathlib.Core.Path.{_≡_, sym, ap, _∙_}
+use mathlib.Core.Bool.{Bool, true, false, _&&_, and-assoc}
+use Prim.Native.Nat.{ℕ}
+use Rattle.parameters.specs.Bounds.{serversFit, symbolFits}
+
+module _ (N S : ℕ) (common : Bool) (e : common ≡ serversFit N && symbolFits S) (rest : Bool) where
+  common-first : serversFit N && (symbolFits S && rest) ≡ common && rest
+  common-first = sym (and-assoc (serversFit N) (symbolFits S) rest) ∙ ap (λ (t : Bool). t && rest) (sym e)
+
+  pub common-fails : common ≡ false → false ≡ serversFit N && (symbolFits S && rest)
+  common-fails f = sym (common-first ∙ ap (λ (t : Bool). t && rest) f)
+
+  pub common-holds : common ≡ true → rest ≡ serversFit N && (symbolFits S && rest)
+  common-holds f = sym (common-first ∙ ap (λ (t : Bool). t && rest) f)

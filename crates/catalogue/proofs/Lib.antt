@@ -1,0 +1,4 @@
+pub mod Table
+pub mod Common
+pub mod SmallSizes
+pub mod Admitted

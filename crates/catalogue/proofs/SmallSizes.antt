@@ -1,0 +1,67 @@
+-- The sizes of an admitted catalogue are small: what callers need so that their sums and products fit.
+
+use Prim.Native.Nat.{ℕ, _-_, _*_, _^_, _≤_, _<_}
+use native.Mathlib.Nat.{mul-le-mul, pow-le-pow-right, div-le-self}
+use native.Mathlib.Omega.{arith}
+use Rattle.parameters.specs.declared.Sizes.{Sizes}
+use Rattle.parameters.specs.Measures.{shortSizes, evenRows, evenSizes, keyPlaces, mostServers}
+use Rattle.parameters.proofs.Bounds.{ShortBounds, EvenBounds}
+
+-- the sizes, and the slots of N servers together
+pub record Small (N : ℕ) (sizes : Sizes) : Type 0 where
+  pub servers : N ≤ mostServers
+  pub symbols : sizes .symbols ≤ 256
+  pub message : sizes .message < 2 ^ 32
+  pub store : sizes .store < 2 ^ 32
+  pub key : sizes .key ≤ keyPlaces
+  pub query : sizes .query ≤ keyPlaces
+  pub slot : sizes .slot < 2 ^ 32
+  pub slots : N * sizes .slot < 2 ^ 32
+
+pub short-small : (N K S : ℕ) → ShortBounds N K S → Small N (shortSizes N K S)
+unfolding shortSizes
+short-small N K S b =
+    let n : N - 1 ≤ 15 = omega arith in
+    let m : (N - 1) * S ≤ 15 * 4096 = mul-le-mul n (b .symbol-high) in
+    let t : K * ((N - 1) * S) ≤ 32 * (15 * 4096) = mul-le-mul (b .messages-high) m in
+    let l : N * S ≤ 16 * 4096 = mul-le-mul (b .servers-high) (b .symbol-high) in
+    record {
+      servers = b .servers-high;
+      symbols = omega arith;
+      message = omega arith;
+      store = omega arith;
+      key = omega arith;
+      query = omega arith;
+      slot = omega arith;
+      slots = omega arith;
+    }
+
+-- a server's share of a message's symbols
+pub share-small : (N K S : ℕ) → EvenBounds N K S → N ^ (K - 1) ≤ 256
+share-small N K S b =
+    let h : N ^ (K - 1) ≤ N ^ K = pow-le-pow-right {n = N} (omega arith) (omega arith) in omega arith
+
+pub rows-small : (N K S : ℕ) → EvenBounds N K S → evenRows N K ≤ 512
+unfolding evenRows
+rows-small N K S b =
+    let h = share-small N K S b in let d = div-le-self (N ^ (K - 1) - 1) (N - 1) in omega arith
+
+pub even-small : (N K S : ℕ) → EvenBounds N K S → Small N (evenSizes N K S)
+unfolding evenSizes
+even-small N K S b =
+    let m : N ^ K * S ≤ 256 * 4096 = mul-le-mul (b .symbols-high) (b .symbol-high) in
+    let t : K * (N ^ K * S) ≤ 8 * (256 * 4096) = mul-le-mul (b .messages-high) m in
+    let k : K * N ^ K ≤ 8 * 256 = mul-le-mul (b .messages-high) (b .symbols-high) in
+    let q : K * N ^ (K - 1) ≤ 8 * 256 = mul-le-mul (b .messages-high) (share-small N K S b) in
+    let s : evenRows N K * S ≤ 512 * 4096 = mul-le-mul (rows-small N K S b) (b .symbol-high) in
+    let l : N * (evenRows N K * S) ≤ 16 * (512 * 4096) = mul-le-mul (b .servers-high) s in
+    record {
+      servers = b .servers-high;
+      symbols = b .symbols-high;
+      message = omega arith;
+      store = omega arith;
+      key = k;
+      query = q;
+      slot = omega arith;
+      slots = omega arith;
+    }

@@ -1,0 +1,52 @@
+-- The table of the greatest message counts: its rule, by one computed test over all entries, and what an entry decides.
+use mathlib.Core.Path.{_≡_, refl, sym, ap, _∙_}
+use mathlib.Core.Bool.{Bool, true, false, _&&_}
+use mathlib.Core.List.{List, [], _∷_}
+use Prim.Native.Nat.{ℕ, _+_, _-_, _^_, _≤_}
+use native.Mathlib.Nat.{pow-le-pow-right}
+use native.Mathlib.Omega.{arith}
+use borrow.Author.Tests.{leb-true, leb-false, ltb-true, le-leb, lt-leb}
+use lib.Dec.{leb, ltb}
+use lib.ListN.{getD}
+use Rattle.lists.specs.Ranges.{every}
+use Rattle.lists.proofs.Every.{every-at, both-true}
+use Rattle.catalogue.specs.Most.{Most}
+
+-- for N = 2, 3, .., 16
+abbrev pub table : List ℕ
+table = 8 ∷ 5 ∷ 4 ∷ 3 ∷ 3 ∷ 2 ∷ 2 ∷ 2 ∷ 2 ∷ 2 ∷ 2 ∷ 2 ∷ 2 ∷ 2 ∷ 2 ∷ []
+
+-- the rule of `Most`, as a test
+abbrev isMost : ℕ → ℕ → Bool
+isMost N K = leb (N ^ K) 256 && ltb 256 (N ^ (K + 1))
+
+is-most : (N K : ℕ) → isMost N K ≡ true → Most N K
+is-most N K e =
+    let p = both-true (leb (N ^ K) 256) (ltb 256 (N ^ (K + 1))) e in
+    record { within = leb-true (N ^ K) 256 (p .0); beyond = ltb-true 256 (N ^ (K + 1)) (p .1) }
+
+table-right : every 15 (λ i. isMost (i + 2) (getD table i 0)) ≡ true
+unfolding every
+table-right = refl
+
+pub table-most : (N : ℕ) → 2 ≤ N → N ≤ 16 → Most N (getD table (N - 2) 0)
+table-most N low high =
+    let e : N - 2 + 2 ≡ N = omega arith in
+    is-most N (getD table (N - 2) 0)
+    (ap (λ (n : ℕ). isMost n (getD table (N - 2) 0)) (sym e)
+    ∙ every-at 15 (λ i. isMost (i + 2) (getD table i 0)) table-right (N - 2) (omega arith))
+
+-- K is at most the entry exactly if N^K is at most 256
+pub most-decides : (N K most : ℕ) → 2 ≤ N → Most N most → leb K most ≡ leb (N ^ K) 256
+most-decides N K most low m = go (leb K most) refl
+  where
+    go : (t : Bool) → leb K most ≡ t → t ≡ leb (N ^ K) 256
+    go true few =
+        let h : N ^ K ≤ N ^ most = pow-le-pow-right {n = N} (omega arith) (leb-true K most few) in
+        let w = m .within in
+        sym (le-leb (N ^ K) 256 (omega arith))
+    go false many =
+        let more = leb-false K most many in
+        let h : N ^ (most + 1) ≤ N ^ K = pow-le-pow-right {n = N} (omega arith) (omega arith) in
+        let b = m .beyond in
+        sym (lt-leb (N ^ K) 256 (omega arith))

@@ -1,0 +1,56 @@
+-- `catalogue::even_fits` meets its contract: the shared bounds, then K against the table's entry, which decides N^K against 256.
+use mathlib.Core.Path.{_≡_, sym, _∙_}
+use mathlib.Core.Bool.{false}
+use Prim.Native.Nat.{_^_, _≤_}
+use borrow.Author.Needs.{needs}
+use borrow.Author.Tests.{le-leb, lt-leb, leb-true, not-true, not-false}
+use lib.Dec.{leb}
+use Rattle.lists.proofs.Every.{both-true}
+use Rattle.parameters.specs.Bounds.{serversFit, symbolFits, evenMessagesFit, evenFits}
+use Rattle.catalogue.proofs.Common.{common-fails, common-holds}
+use Rattle.catalogue.proofs.Table.{most-decides}
+use Rattle.catalogue.proofs.even_fits.Statement.{statement}
+use Rattle.catalogue.proofs.even_fits.Tie as tie
+
+common-fits-requires : tie.Need-common-fits-requires
+common-fits-requires c κs = search needs
+
+returns : tie.Need-returns
+unfolding evenFits
+returns c =
+    let f = c .before .common-fits in
+    let a = c .before .before .args in
+    common-fails (a .n) (a .s) (f .result) (f .ensures) (evenMessagesFit (a .n) (a .k)) (not-true (f .result) (c .if1 .taken))
+
+returns-2 : tie.Need-returns-2
+unfolding evenFits
+returns-2 c =
+    let f = c .before .before .common-fits in
+    let a = c .before .before .before .args in
+    let few : false ≡ evenMessagesFit (a .n) (a .k) = simp (lt-leb _ _ (c .if2 .taken)) in
+    few ∙ common-holds (a .n) (a .s) (f .result) (f .ensures) (evenMessagesFit (a .n) (a .k)) (not-false (f .result) (c .before .if1 .left))
+
+-- N is 2 to 16, as the shared bounds hold
+servers : (c : tie.Else2) → (2 ≤ c .before .before .before .args .n) × (c .before .before .before .args .n ≤ 16)
+servers c =
+    let at = c .before .before in
+    let n = at .before .args .n in
+    let e = sym (at .common-fits .ensures) ∙ not-false (at .common-fits .result) (c .before .if1 .left) in
+    let p = both-true (leb 2 n) (leb n 16) (both-true (serversFit n) (symbolFits (at .before .args .s)) e .0) in
+    (leb-true 2 n (p .0), leb-true n 16 (p .1))
+
+most-messages-requires : tie.Need-most-messages-requires
+most-messages-requires c κs = servers c
+
+returns-3 : tie.Need-returns-3
+unfolding evenFits
+returns-3 c =
+    let f = c .before .before .before .common-fits in
+    let a = c .before .before .before .before .args in
+    let decided = most-decides (a .n) (a .k) (c .most-messages .result) (servers (c .before) .0) (c .most-messages .ensures) in
+    let some : leb (a .n ^ a .k) 256 ≡ evenMessagesFit (a .n) (a .k) = simp (le-leb _ _ (c .before .if2 .left)) in
+    decided ∙ some
+    ∙ common-holds (a .n) (a .s) (f .result) (f .ensures) (evenMessagesFit (a .n) (a .k)) (not-false (f .result) (c .before .before .if1 .left))
+
+pub even-fits-spec : {M : Type 1} → statement M
+even-fits-spec = tie.close (tie.spec common-fits-requires returns returns-2 most-messages-requires returns-3)

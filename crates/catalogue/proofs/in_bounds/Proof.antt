@@ -1,0 +1,27 @@
+-- `catalogue::in_bounds` meets its contract: the bounds are those of the catalogue's code.
+use mathlib.Core.Path.{_∙_}
+use borrow.Author.Needs.{needs}
+use Rattle.catalogue.proofs.in_bounds.Statement.{statement}
+use Rattle.catalogue.proofs.in_bounds.Tie as tie
+
+enum-told : tie.Need-enum-told
+enum-told c = search needs
+
+short-fits-requires : tie.Need-short-fits-requires
+short-fits-requires c κs = search needs
+
+enum-told-2 : tie.Need-enum-told-2
+enum-told-2 c = search needs
+
+even-fits-requires : tie.Need-even-fits-requires
+even-fits-requires c κs = search needs
+
+returns : tie.Need-returns
+returns c = c .short-fits .ensures ∙ simp (c .before .enum-told .given .1)
+
+returns-2 : tie.Need-returns-2
+returns-2 c = c .even-fits .ensures ∙ simp (c .before .enum-told2 .given .1)
+
+pub in-bounds-spec : {M : Type 1} → statement M
+in-bounds-spec =
+    tie.close (tie.spec enum-told short-fits-requires enum-told-2 even-fits-requires returns returns-2)

@@ -1,0 +1,137 @@
+-- Catalogue text and catalogue value turn into each other without change (demand 2), and a text is refused exactly as the
+-- numbers 1 and 2 say. `textOf` is what `write` writes, `readOf` what `read` answers, `linesOf` what `read_lines` answers.
+use mathlib.Core.Path.{_≡_, refl, sym, ap, _∙_}
+use mathlib.Core.Bool.{Bool, true, false}
+use mathlib.Core.List.{List, [], _++_, append-nil}
+use mathlib.Core.Logic.{_↔_, _⊎_, inl, inr, ⊎-elim}
+use Prim.Native.Nat.{ℕ}
+use native.Mathlib.Omega.{arith}
+use borrow.Author.Tests.{eq-eqb, eqb-true}
+use lib.Dec.{eqb}
+use lib.ListN.{length, drop}
+use lib.Seq.{drop-length}
+use Rattle.refusal.specs.declared.Refusal.the-variants.{Text, Bounds}
+use Rattle.refusal.specs.declared.Verdict.{Verdict}
+use Rattle.refusal.specs.declared.Verdict.the-variants.{Accepted, Refused}
+use Rattle.refusal.proofs.Chain.{not-refused}
+use Rattle.catalogue.specs.declared.Catalogue.{Catalogue}
+use Rattle.catalogue.specs.Catalogue.{catalogueVerdict, Admitted}
+use Rattle.catalogue.proofs.Admitted.{verdict-cases}
+use Rattle.catalogue_text.specs.declared.Reading.{Reading}
+use Rattle.catalogue_text.specs.Text.{textOf, FiveDigits}
+use Rattle.catalogue_text.specs.Parsing.{fourLines, linesOf, refusedLines, unread, readingBy, readOf}
+use Rattle.catalogue_text.proofs.TextParts.{admitted-digits}
+use Rattle.catalogue_text.proofs.FourLines.{LinesRead, four-lines-written, four-lines-cases}
+
+-- ---- what decides a reading
+
+-- the text of a value is judged as the value is
+text-judged : (c : Catalogue) → FiveDigits c → readOf (textOf c) ≡ readingBy (catalogueVerdict c) c
+unfolding readOf
+text-judged c small =
+    let found : fourLines (textOf c) ≡ record { verdict = Accepted; catalogue = c; next = length (textOf c) } =
+    ap fourLines (sym (append-nil (textOf c))) ∙ four-lines-written c [] small in
+    simp (found, eq-eqb (length (textOf c)) (length (textOf c)) refl)
+
+-- a text is the text of a value, or it is refused 1
+text-or-refused : (text : List ℕ) → ((c : Catalogue) × FiveDigits c × (textOf c ≡ text)) ⊎ (readOf text ≡ unread Text)
+unfolding readOf
+text-or-refused text = ⊎-elim refused (λ r. go r (eqb (fourLines text .next) (length text)) refl) (four-lines-cases text)
+  where
+    refused : fourLines text ≡ refusedLines Text → ((c : Catalogue) × FiveDigits c × (textOf c ≡ text)) ⊎ (readOf text ≡ unread Text)
+    refused e = inr (simp e)
+
+    go : LinesRead text (fourLines text) → (t : Bool) → eqb (fourLines text .next) (length text) ≡ t
+        → ((c : Catalogue) × FiveDigits c × (textOf c ≡ text)) ⊎ (readOf text ≡ unread Text)
+    go r true e =
+        let end : drop (fourLines text .next) text ≡ [] = ap (λ (n : ℕ). drop n text) (eqb-true (fourLines text .next) (length text) e) ∙ drop-length text in
+        let text-is : textOf (fourLines text .catalogue) ≡ text =
+        sym (r .here ∙ ap (λ (l : List ℕ). textOf (fourLines text .catalogue) ++ l) end ∙ append-nil (textOf (fourLines text .catalogue))) in
+        inl (fourLines text .catalogue, r .digits, text-is)
+    go r false e = inr (simp (r .accepted, e))
+
+reading-verdict : (v : Verdict) (c : Catalogue) → readingBy v c .verdict ≡ v
+reading-verdict Accepted c = refl
+reading-verdict (Refused refusal) c = refl
+
+text-verdict : (c : Catalogue) (text : List ℕ) → FiveDigits c → textOf c ≡ text → readOf text .verdict ≡ catalogueVerdict c
+text-verdict c text small e =
+    ap (λ (t : List ℕ). readOf t .verdict) (sym e) ∙ ap (λ (r : Reading). r .verdict) (text-judged c small) ∙ reading-verdict (catalogueVerdict c) c
+
+bounds-not-text : {A : Type 0} → Refused Bounds ≡ Refused Text → A
+bounds-not-text e = let z : _≡_ {A = ℕ} 0 1 = cc in absurd (let w : ⊥ = omega arith in w)
+
+-- a value's own verdict is never 1
+not-text : (c : Catalogue) → catalogueVerdict c ≡ Refused Text → ⊥
+not-text c e = ⊎-elim (λ a. not-refused Text (sym e ∙ a)) (λ b. bounds-not-text (sym b ∙ e)) (verdict-cases c)
+
+-- ---- the whole text
+
+-- what the writer writes reads back
+pub written-reads-back : (c : Catalogue) → Admitted c → readOf (textOf c) ≡ record { verdict = Accepted; catalogue = c }
+written-reads-back c a = text-judged c (admitted-digits c a) ∙ ap (λ (v : Verdict). readingBy v c) a
+
+-- every text that is read is what the writer writes for its value
+pub read-is-written : (text : List ℕ) → readOf text .verdict ≡ Accepted → Admitted (readOf text .catalogue) × (textOf (readOf text .catalogue) ≡ text)
+read-is-written text e = ⊎-elim of-value refused (text-or-refused text)
+  where
+    of-value : (c : Catalogue) × FiveDigits c × (textOf c ≡ text) → Admitted (readOf text .catalogue) × (textOf (readOf text .catalogue) ≡ text)
+    of-value v =
+        let a : Admitted (v .0) = sym (text-verdict (v .0) text (v .1) (v .2)) ∙ e in
+        let same : readOf text .catalogue ≡ v .0 =
+        ap (λ (t : List ℕ). readOf t .catalogue) (sym (v .2)) ∙ ap (λ (r : Reading). r .catalogue) (written-reads-back (v .0) a) in
+        rw same (a, v .2)
+
+    refused : readOf text ≡ unread Text → Admitted (readOf text .catalogue) × (textOf (readOf text .catalogue) ≡ text)
+    refused r = not-refused Text (sym (ap (λ (r : Reading). r .verdict) r) ∙ e)
+
+-- refused 1 exactly if the text is no value's
+pub refused-text : (text : List ℕ) → (readOf text .verdict ≡ Refused Text) ↔ ((c : Catalogue) → FiveDigits c → textOf c ≡ text → ⊥)
+refused-text text = (no-value, no-text)
+  where
+    no-value : readOf text .verdict ≡ Refused Text → (c : Catalogue) → FiveDigits c → textOf c ≡ text → ⊥
+    no-value e c small is = not-text c (sym (text-verdict c text small is) ∙ e)
+
+    no-text : ((c : Catalogue) → FiveDigits c → textOf c ≡ text → ⊥) → readOf text .verdict ≡ Refused Text
+    no-text none =
+        ⊎-elim (λ v. absurd (none (v .0) (v .1) (v .2))) (λ e. ap (λ (r : Reading). r .verdict) e) (text-or-refused text)
+
+-- refused 2 exactly if the text is that of a value which is not admitted
+pub refused-bounds : (text : List ℕ)
+    → (readOf text .verdict ≡ Refused Bounds) ↔ ((c : Catalogue) × FiveDigits c × (textOf c ≡ text) × (Admitted c → ⊥))
+refused-bounds text = (of-value, out-of-bounds)
+  where
+    of-value : readOf text .verdict ≡ Refused Bounds → (c : Catalogue) × FiveDigits c × (textOf c ≡ text) × (Admitted c → ⊥)
+    of-value e =
+        ⊎-elim
+        (λ v. (v .0, v .1, v .2, λ a. not-refused Bounds (sym e ∙ text-verdict (v .0) text (v .1) (v .2) ∙ a)))
+        (λ r. bounds-not-text (sym e ∙ ap (λ (r : Reading). r .verdict) r))
+        (text-or-refused text)
+
+    out-of-bounds : (c : Catalogue) × FiveDigits c × (textOf c ≡ text) × (Admitted c → ⊥) → readOf text .verdict ≡ Refused Bounds
+    out-of-bounds v = text-verdict (v .0) text (v .1) (v .2) ∙ ⊎-elim (λ a. absurd (v .3 a)) (λ b. b) (verdict-cases (v .0))
+
+-- ---- the lines at the start of a text
+
+-- what the writer writes reads back, whatever follows it
+pub written-lines-read-back : (c : Catalogue) (rest : List ℕ) → Admitted c
+    → linesOf (textOf c ++ rest) ≡ record { verdict = Accepted; catalogue = c; next = length (textOf c) }
+unfolding linesOf
+written-lines-read-back c rest a = simp (four-lines-written c rest (admitted-digits c a), a)
+
+-- lines that are read are what the writer writes for their value, and `next` is where they end
+pub lines-are-written : (text : List ℕ) → linesOf text .verdict ≡ Accepted → Admitted (linesOf text .catalogue) × LinesRead text (linesOf text)
+unfolding linesOf
+lines-are-written text e = ⊎-elim refused found (four-lines-cases text)
+  where
+    refused : fourLines text ≡ refusedLines Text → Admitted (linesOf text .catalogue) × LinesRead text (linesOf text)
+    refused r = not-refused Text (rw r at e)
+
+    found : LinesRead text (fourLines text) → Admitted (linesOf text .catalogue) × LinesRead text (linesOf text)
+    found r = ⊎-elim admitted out-of-bounds (verdict-cases (fourLines text .catalogue))
+      where
+        admitted : Admitted (fourLines text .catalogue) → Admitted (linesOf text .catalogue) × LinesRead text (linesOf text)
+        admitted a = let same : linesOf text ≡ fourLines text = simp (r .accepted, a) in rw same (a, r)
+
+        out-of-bounds : catalogueVerdict (fourLines text .catalogue) ≡ Refused Bounds → Admitted (linesOf text .catalogue) × LinesRead text (linesOf text)
+        out-of-bounds b = not-refused Bounds (simp (r .accepted, b) at e)

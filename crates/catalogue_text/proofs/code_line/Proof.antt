@@ -1,0 +1,42 @@
+-- `catalogue_text::code_line` meets its contract: the tests are the definition's.
+use mathlib.Core.Path.{sym, _∙_}
+use Rattle.catalogue_text.specs.Parsing.{codeLine}
+use borrow.Author.Needs.{needs}
+use Rattle.catalogue_text.proofs.code_line.Statement.{statement}
+use Rattle.catalogue_text.proofs.code_line.Tie as tie
+
+slice-aggregate-starts : tie.Need-slice-aggregate-starts
+slice-aggregate-starts c = search needs
+
+starts-requires : tie.Need-starts-requires
+starts-requires c κs = search needs
+
+returns : tie.Need-returns
+unfolding codeLine
+returns c = simp (sym (c .before .starts .ensures) ∙ c .if1 .taken)
+
+slice-aggregate-starts-2 : tie.Need-slice-aggregate-starts-2
+slice-aggregate-starts-2 c = search needs
+
+starts-requires-2 : tie.Need-starts-requires-2
+starts-requires-2 c κs = search needs
+
+returns-2 : tie.Need-returns-2
+unfolding codeLine
+returns-2 c = simp (sym (c .before .before .before .before .starts .ensures) ∙ c .before .before .before .if1 .left, sym (c .before .starts2 .ensures) ∙ c .if2 .taken)
+
+returns-3 : tie.Need-returns-3
+unfolding codeLine
+returns-3 c = simp (sym (c .before .before .before .before .starts .ensures) ∙ c .before .before .before .if1 .left, sym (c .before .starts2 .ensures) ∙ c .if2 .left)
+
+pub code-line-spec : {M : Type 1} → statement M
+code-line-spec =
+    tie.close
+    (tie.spec
+    slice-aggregate-starts
+    starts-requires
+    returns
+    slice-aggregate-starts-2
+    starts-requires-2
+    returns-2
+    returns-3)

@@ -1,0 +1,116 @@
+-- `catalogue_text::four_lines` meets its contract: each line that is taken apart is the definition's line at that place.
+use mathlib.Core.Path.{sym, _∙_}
+use Rattle.catalogue_text.specs.Parsing.{fourLines}
+use borrow.Author.Needs.{needs}
+use Rattle.catalogue_text.proofs.four_lines.Statement.{statement}
+use Rattle.catalogue_text.proofs.four_lines.Tie as tie
+
+code-line-requires : tie.Need-code-line-requires
+code-line-requires c κs = search needs
+
+enum-known-code : tie.Need-enum-known-code
+enum-known-code c = search needs
+
+enum-told : tie.Need-enum-told
+enum-told c = search needs
+
+refused-requires : tie.Need-refused-requires
+refused-requires c κs = search needs
+
+returns : tie.Need-returns
+unfolding fourLines
+returns c = c .refused .ensures ∙ simp (sym (c .before .before .before .code-line .ensures) ∙ c .before .enum-told .given .1)
+
+slice-aggregate-number-line : tie.Need-slice-aggregate-number-line
+slice-aggregate-number-line c = search needs
+
+number-line-requires : tie.Need-number-line-requires
+number-line-requires c κs = search needs
+
+enum-known-n : tie.Need-enum-known-n
+enum-known-n c = search needs
+
+enum-told-2 : tie.Need-enum-told-2
+enum-told-2 c = search needs
+
+refused-requires-2 : tie.Need-refused-requires-2
+refused-requires-2 c κs = search needs
+
+returns-2 : tie.Need-returns-2
+unfolding fourLines
+returns-2 c = c .refused2 .ensures ∙ simp (sym (c .before .before .before .before .before .before .before .before .code-line .ensures) ∙ c .before .before .before .before .before .before .code .given .1, sym (c .before .before .before .number-line .ensures) ∙ c .before .enum-told2 .given .1)
+
+slice-aggregate-number-line-2 : tie.Need-slice-aggregate-number-line-2
+slice-aggregate-number-line-2 c = search needs
+
+number-line-requires-2 : tie.Need-number-line-requires-2
+number-line-requires-2 c κs = search needs
+
+enum-known-k : tie.Need-enum-known-k
+enum-known-k c = search needs
+
+enum-told-3 : tie.Need-enum-told-3
+enum-told-3 c = search needs
+
+refused-requires-3 : tie.Need-refused-requires-3
+refused-requires-3 c κs = search needs
+
+returns-3 : tie.Need-returns-3
+unfolding fourLines
+returns-3 c = c .refused3 .ensures ∙ simp (sym (c .before .before .before .before .before .before .before .before .before .before .before .before .before .code-line .ensures) ∙ c .before .before .before .before .before .before .before .before .before .before .before .code .given .1, sym (c .before .before .before .before .before .before .before .before .number-line .ensures) ∙ c .before .before .before .before .before .before .n .given .1, sym (c .before .before .before .number-line2 .ensures) ∙ c .before .enum-told3 .given .1)
+
+slice-aggregate-number-line-3 : tie.Need-slice-aggregate-number-line-3
+slice-aggregate-number-line-3 c = search needs
+
+number-line-requires-3 : tie.Need-number-line-requires-3
+number-line-requires-3 c κs = search needs
+
+enum-known-s : tie.Need-enum-known-s
+enum-known-s c = search needs
+
+enum-told-4 : tie.Need-enum-told-4
+enum-told-4 c = search needs
+
+refused-requires-4 : tie.Need-refused-requires-4
+refused-requires-4 c κs = search needs
+
+returns-4 : tie.Need-returns-4
+unfolding fourLines
+returns-4 c = c .refused4 .ensures ∙ simp (sym (c .before .before .before .before .before .before .before .before .before .before .before .before .before .before .before .before .before .before .code-line .ensures) ∙ c .before .before .before .before .before .before .before .before .before .before .before .before .before .before .before .before .code .given .1, sym (c .before .before .before .before .before .before .before .before .before .before .before .before .before .number-line .ensures) ∙ c .before .before .before .before .before .before .before .before .before .before .before .n .given .1, sym (c .before .before .before .before .before .before .before .before .number-line2 .ensures) ∙ c .before .before .before .before .before .before .k .given .1, sym (c .before .before .before .number-line3 .ensures) ∙ c .before .enum-told4 .given .1)
+
+code-of-requires : tie.Need-code-of-requires
+code-of-requires c κs = search needs
+
+returns-5 : tie.Need-returns-5
+unfolding fourLines
+returns-5 c = simp (sym (c .before .before .before .before .before .before .before .before .before .before .before .before .before .before .before .before .before .before .before .code-line .ensures) ∙ c .before .before .before .before .before .before .before .before .before .before .before .before .before .before .before .before .before .code .given .1, sym (c .before .before .before .before .before .before .before .before .before .before .before .before .before .before .number-line .ensures) ∙ c .before .before .before .before .before .before .before .before .before .before .before .before .n .given .1, sym (c .before .before .before .before .before .before .before .before .before .number-line2 .ensures) ∙ c .before .before .before .before .before .before .before .k .given .1, sym (c .before .before .before .before .number-line3 .ensures) ∙ c .before .before .s .given .1, c .code-of .ensures)
+
+pub four-lines-spec : {M : Type 1} → statement M
+four-lines-spec =
+    tie.close
+    (tie.spec
+    code-line-requires
+    enum-known-code
+    enum-told
+    refused-requires
+    returns
+    slice-aggregate-number-line
+    number-line-requires
+    enum-known-n
+    enum-told-2
+    refused-requires-2
+    returns-2
+    slice-aggregate-number-line-2
+    number-line-requires-2
+    enum-known-k
+    enum-told-3
+    refused-requires-3
+    returns-3
+    slice-aggregate-number-line-3
+    number-line-requires-3
+    enum-known-s
+    enum-told-4
+    refused-requires-4
+    returns-4
+    code-of-requires
+    returns-5)

@@ -1,0 +1,68 @@
+-- `catalogue_text::read` meets its contract: the lines, then the end of the text, then the catalogue's own verdict.
+use mathlib.Core.Path.{sym, _∙_}
+use borrow.Author.Tests.{eq-eqb, ne-eqb}
+use Rattle.catalogue_text.specs.Parsing.{readOf}
+use borrow.Author.Needs.{needs}
+use Rattle.catalogue_text.proofs.read.Statement.{statement}
+use Rattle.catalogue_text.proofs.read.Tie as tie
+
+four-lines-requires : tie.Need-four-lines-requires
+four-lines-requires c κs = search needs
+
+enum-known-verdict : tie.Need-enum-known-verdict
+enum-known-verdict c = search needs
+
+refused-reading-requires : tie.Need-refused-reading-requires
+refused-reading-requires c κs = search needs
+
+returns : tie.Need-returns
+unfolding readOf
+returns c = c .refused-reading .ensures ∙ simp (sym (c .before .before .before .before .before .four-lines .ensures), c .before .before .verdict .given .1)
+
+enum-told : tie.Need-enum-told
+enum-told c = search needs
+
+refused-reading-requires-2 : tie.Need-refused-reading-requires-2
+refused-reading-requires-2 c κs = search needs
+
+returns-2 : tie.Need-returns-2
+unfolding readOf
+returns-2 c = c .refused-reading2 .ensures ∙ simp (sym (c .before .before .before .before .before .four-lines .ensures), c .before .before .enum-told .given .1, ne-eqb _ _ (c .before .if1 .taken))
+
+verdict-requires : tie.Need-verdict-requires
+verdict-requires c κs = search needs
+
+enum-known-refusal : tie.Need-enum-known-refusal
+enum-known-refusal c = search needs
+
+refused-reading-requires-3 : tie.Need-refused-reading-requires-3
+refused-reading-requires-3 c κs = search needs
+
+returns-3 : tie.Need-returns-3
+unfolding readOf
+returns-3 c = c .refused-reading3 .ensures ∙ simp (sym (c .before .before .before .before .before .before .before .before .before .four-lines .ensures), c .before .before .before .before .before .before .enum-told .given .1, eq-eqb _ _ (c .before .before .before .before .before .if1 .left), sym (c .before .before .before .before .verdict2 .ensures) ∙ c .before .before .refusal .given .1)
+
+enum-told-2 : tie.Need-enum-told-2
+enum-told-2 c = search needs
+
+returns-4 : tie.Need-returns-4
+unfolding readOf
+returns-4 c = simp (sym (c .before .before .before .before .before .before .before .four-lines .ensures), c .before .before .before .before .enum-told .given .1, eq-eqb _ _ (c .before .before .before .if1 .left), sym (c .before .before .verdict2 .ensures) ∙ c .enum-told2 .given .1)
+
+pub read-spec : {M : Type 1} → statement M
+read-spec =
+    tie.close
+    (tie.spec
+    four-lines-requires
+    enum-known-verdict
+    refused-reading-requires
+    returns
+    enum-told
+    refused-reading-requires-2
+    returns-2
+    verdict-requires
+    enum-known-refusal
+    refused-reading-requires-3
+    returns-3
+    enum-told-2
+    returns-4)

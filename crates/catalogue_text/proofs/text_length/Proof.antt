@@ -1,0 +1,87 @@
+-- `catalogue_text::text_length` meets its contract: the lengths of the lines add up, and each is small.
+use native.Mathlib.Omega.{arith}
+use borrow.Author.Needs.{needs}
+use Rattle.text_lines.proofs.NumberLines.{number-text-most}
+use Rattle.catalogue_text.specs.Text.{serversName, messagesName, symbolName}
+use Rattle.catalogue_text.proofs.TextParts.{code-most, text-length}
+use Rattle.catalogue_text.proofs.text_length.Statement.{statement}
+use Rattle.catalogue_text.proofs.text_length.Tie as tie
+
+code-length-requires : tie.Need-code-length-requires
+code-length-requires c κs = search needs
+
+slice-aggregate-line-length : tie.Need-slice-aggregate-line-length
+slice-aggregate-line-length c = search needs
+
+line-length-requires : tie.Need-line-length-requires
+line-length-requires c κs = search needs
+
+add-b : tie.Need-add-b
+add-b c =
+    let value = c .before .before .before .args .c in
+    let a = code-most (value .code) in
+    let e = c .before .before .code-length .ensures in
+    let n = number-text-most serversName 19 (value .servers) (search needs) in
+    let f = c .line-length .ensures in
+    omega arith
+
+slice-aggregate-line-length-2 : tie.Need-slice-aggregate-line-length-2
+slice-aggregate-line-length-2 c = search needs
+
+line-length-requires-2 : tie.Need-line-length-requires-2
+line-length-requires-2 c κs = search needs
+
+add-d : tie.Need-add-d
+add-d c =
+    let value = c .before .before .before .before .before .args .c in
+    let a = code-most (value .code) in
+    let e = c .before .before .before .before .code-length .ensures in
+    let n = number-text-most serversName 19 (value .servers) (search needs) in
+    let f = c .before .before .line-length .ensures in
+    let k = number-text-most messagesName 19 (value .messages) (search needs) in
+    let g = c .line-length2 .ensures in
+    omega arith
+
+slice-aggregate-line-length-3 : tie.Need-slice-aggregate-line-length-3
+slice-aggregate-line-length-3 c = search needs
+
+line-length-requires-3 : tie.Need-line-length-requires-3
+line-length-requires-3 c κs = search needs
+
+add-result : tie.Need-add-result
+add-result c =
+    let value = c .before .before .before .before .before .before .before .args .c in
+    let a = code-most (value .code) in
+    let e = c .before .before .before .before .before .before .code-length .ensures in
+    let n = number-text-most serversName 19 (value .servers) (search needs) in
+    let f = c .before .before .before .before .line-length .ensures in
+    let k = number-text-most messagesName 19 (value .messages) (search needs) in
+    let g = c .before .before .line-length2 .ensures in
+    let s = number-text-most symbolName 19 (value .symbol) (search needs) in
+    let h = c .line-length3 .ensures in
+    omega arith
+
+returns : tie.Need-returns
+returns c =
+    let t = text-length (c .before .before .before .before .before .before .before .args .c) in
+    let e = c .before .before .before .before .before .before .code-length .ensures in
+    let f = c .before .before .before .before .line-length .ensures in
+    let g = c .before .before .line-length2 .ensures in
+    let h = c .line-length3 .ensures in
+    omega arith
+
+pub text-length-spec : {M : Type 1} → statement M
+text-length-spec =
+    tie.close
+    (tie.spec
+    code-length-requires
+    slice-aggregate-line-length
+    line-length-requires
+    add-b
+    slice-aggregate-line-length-2
+    line-length-requires-2
+    add-d
+    slice-aggregate-line-length-3
+    line-length-requires-3
+    add-result
+    returns)

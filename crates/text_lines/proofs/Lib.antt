@@ -1,0 +1,6 @@
+pub mod DigitTexts
+pub mod Decimal
+pub mod Numerals
+pub mod Begins
+pub mod NumberLines
+pub mod RoundTrip

@@ -1,0 +1,56 @@
+-- Digits without leading zero are the decimal digits of their value, and those of a number have no leading zero.
+use mathlib.Core.Path.{_≡_, refl, sym, ap, _∙_}
+use mathlib.Core.Bool.{Bool, true, false, and-false}
+use mathlib.Core.List.{List, [], _∷_, _++_, append-nil, append-assoc}
+use Prim.Native.Nat.{ℕ, _+_, _-_, _*_, _/_, _%_, _≤_, _<_}
+use native.Mathlib.Nat.{not-suc-le-zero}
+use native.Mathlib.Omega.{arith}
+use borrow.Author.Tests.{ltb-true, ltb-false, lt-ltb, le-ltb, ne-eqb, eqb-false}
+use lib.Dec.{ltb, eqb}
+use lib.ListN.{length, getD, List·getD-append}
+use Rattle.text_lines.specs.Decimal.{digit, decimal, valueFrom}
+use Rattle.text_lines.specs.Lines.{leadingZero}
+use Rattle.text_lines.proofs.DigitTexts.{Digits, none, more, digit-range}
+use Rattle.text_lines.proofs.Decimal.{decimal-small, decimal-large, length-small, some-digits, first-digit}
+
+pub no-leading-zero : (n : ℕ) (rest : List ℕ) → leadingZero (length (decimal n)) (decimal n ++ rest) ≡ false
+no-leading-zero n rest = go (ltb n 10) refl
+  where
+    go : (t : Bool) → ltb n 10 ≡ t → leadingZero (length (decimal n)) (decimal n ++ rest) ≡ false
+    go true e = simp (le-ltb 1 (length (decimal n)) (let l = length-small n (ltb-true n 10 e) in omega arith))
+    go false e =
+        let first : getD (decimal n ++ rest) 0 0 ≡ getD (decimal n) 0 0 = List·getD-append (decimal n) rest 0 0 (some-digits n) in
+        let h = ltb-false n 10 e in
+        let high = first-digit n (omega arith) in
+        let other : getD (decimal n ++ rest) 0 0 ≡ 48 → ⊥ = λ same. let w : ⊥ = omega arith in w in
+        simp (ne-eqb (getD (decimal n ++ rest) 0 0) 48 other, and-false)
+
+-- ---- from digits to their value and back
+
+after-front : (front : ℕ) {xs : List ℕ} → 0 < front → Digits xs → decimal (valueFrom front xs) ≡ decimal front ++ xs
+unfolding valueFrom
+after-front front h none = sym (append-nil (decimal front))
+after-front front h (more {x = x} {xs = xs} d ds) =
+    let range = digit-range x d in
+    let next = front * 10 + (x - 48) in
+    let high : 10 ≤ next = omega arith in
+    let same-front : next / 10 ≡ front = omega arith in
+    let same-digit : digit (next % 10) ≡ x = omega arith in
+    let made : decimal next ≡ decimal front ++ (x ∷ []) = decimal-large next high ∙ rw (same-front, same-digit) in
+    after-front next (omega arith) ds ∙ ap (λ (l : List ℕ). l ++ xs) made ∙ append-assoc (decimal front) (x ∷ []) xs
+
+first-is : (x : ℕ) → 48 ≤ x → x ≤ 57 → decimal (0 * 10 + (x - 48)) ≡ x ∷ []
+first-is x h k =
+    decimal-small (0 * 10 + (x - 48)) (omega arith) ∙ ap (λ (y : ℕ). y ∷ []) (let e : digit (0 * 10 + (x - 48)) ≡ x = omega arith in e)
+
+pub decimal-value : {xs : List ℕ} → Digits xs → 1 ≤ length xs → leadingZero (length xs) xs ≡ false → decimal (valueFrom 0 xs) ≡ xs
+unfolding valueFrom
+decimal-value none h e = absurd (not-suc-le-zero h)
+decimal-value (more {x = x} d none) h e = let r = digit-range x d in first-is x (r .0) (r .1)
+decimal-value (more {x = x} d (more {x = y} {xs = xs} f ds)) h e =
+    let r = digit-range x d in
+    let two : ltb 1 (length (x ∷ (y ∷ xs))) ≡ true = lt-ltb 1 (length (x ∷ (y ∷ xs))) (omega arith) in
+    let other : eqb x 48 ≡ false = rw two at e in
+    let no48 = eqb-false x 48 other in
+    let above : 48 < x = omega arith in
+    after-front (0 * 10 + (x - 48)) (omega arith) (more f ds) ∙ ap (λ (l : List ℕ). l ++ (y ∷ xs)) (first-is x (r .0) (r .1))

@@ -1,0 +1,127 @@
+-- A line that is written reads back, and a line that is read is what is written for its value.
+use mathlib.Core.Path.{_≡_, refl, sym, ap, _∙_}
+use mathlib.Core.Bool.{Bool, true, false, cond, not, _&&_}
+use mathlib.Core.List.{List, _∷_, _++_, append-assoc}
+use Prim.Native.Nat.{ℕ, _+_, _^_, _≤_, _<_}
+use native.Mathlib.Nat.{pow-le-pow-right}
+use native.Mathlib.Numerals.{add-one}
+use native.Mathlib.Omega.{arith}
+use borrow.Author.Tests.{le-leb, leb-true, eqb-true, ltb-true, ltb-false, not-true}
+use lib.Dec.{leb, ltb, eqb}
+use lib.ListN.{length, take, drop, getD, take-append-drop, List·getD-eq-default}
+use lib.Seq.{take-append-seam, getD-append-seam, length-take-le, drop-cons, drop-drop, getD-take}
+use Rattle.lists.proofs.Every.{both-true}
+use Rattle.lists.proofs.Cuts.{drop-after}
+use Rattle.text_lines.specs.declared.Line.the-variants.{Value, Refused}
+use Rattle.text_lines.specs.Decimal.{decimal, digitCount, valueFrom}
+use Rattle.text_lines.specs.Lines.{numberText, begins, leadingZero, isNumeral, numberAt, numberLine}
+use Rattle.text_lines.proofs.DigitTexts.{below-digits, digits-first, count-digits}
+use Rattle.text_lines.proofs.Decimal.{length-most, some-digits, below-power, decimal-digits, value-decimal}
+use Rattle.text_lines.proofs.Numerals.{no-leading-zero, decimal-value}
+use Rattle.text_lines.proofs.Begins.{begins-split, begins-joined}
+use Rattle.text_lines.proofs.NumberLines.{number-text-length}
+
+-- ---- what is written reads back
+
+number-written : (at n : ℕ) (rest : List ℕ) → n < 100000 → numberAt at (decimal n ++ (10 ∷ rest)) ≡ Value n (at + length (decimal n) + 1)
+unfolding numberAt isNumeral
+number-written at n rest h =
+    let text = decimal n ++ (10 ∷ rest) in
+    let count : digitCount text ≡ length (decimal n) = count-digits (decimal-digits n) 10 rest (below-digits 10 (omega arith)) in
+    simp (
+      count,
+      le-leb 1 (length (decimal n)) (some-digits n),
+      le-leb (length (decimal n)) 5 (length-most 4 n h),
+      no-leading-zero n (10 ∷ rest),
+      getD-append-seam (decimal n) 10 rest 0,
+      take-append-seam (decimal n) (10 ∷ rest),
+      value-decimal n,
+    )
+
+pub line-written : (name text rest : List ℕ) (at n : ℕ) → n < 100000 → drop at text ≡ numberText name n ++ rest
+    → numberLine name text at ≡ Value n (at + length (numberText name n))
+unfolding numberLine
+line-written name text rest at n h e =
+    let here : drop at text ≡ name ++ (decimal n ++ (10 ∷ rest)) = e ∙ simp append-assoc in
+    let starts : begins name (drop at text) ≡ true = ap (begins name) here ∙ begins-joined name (decimal n ++ (10 ∷ rest)) in
+    let place = at + length name in
+    let end : place + length (decimal n) + 1 ≡ at + length (numberText name n) = let l = number-text-length name n in omega arith in
+    simp starts
+    (ap (numberAt place) (drop-after text name (decimal n ++ (10 ∷ rest)) at here)
+    ∙ number-written place n rest h ∙ ap (Value n) end)
+
+-- ---- what is read is what is written
+
+-- a line read at a place of a text: the text's next bytes are the line's, and `next` is the place after them
+pub record LineRead (name text : List ℕ) (at n next : ℕ) : Type 0 where
+  pub below : n < 100000
+  pub next-is : next ≡ at + length (numberText name n)
+  pub here : drop at text ≡ numberText name n ++ drop next text
+
+-- a test that yields a line has passed
+passed : (t : Bool) (v place n next : ℕ) → cond t (Value v place) Refused ≡ Value n next → (t ≡ true) × (v ≡ n) × (place ≡ next)
+passed true v place n next e = (refl, cc, cc)
+passed false v place n next e = let z : _≡_ {A = ℕ} 0 1 = cc in absurd (let w : ⊥ = omega arith in w)
+
+record NumberRead (text : List ℕ) (at n next : ℕ) : Type 0 where
+  below : n < 100000
+  next-is : next ≡ at + length (decimal n) + 1
+  here : text ≡ decimal n ++ (10 ∷ drop (length (decimal n) + 1) text)
+
+within : (text : List ℕ) (i : ℕ) → getD text i 0 ≡ 10 → i < length text
+within text i e = go (ltb i (length text)) refl
+  where
+    go : (t : Bool) → ltb i (length text) ≡ t → i < length text
+    go true h = ltb-true i (length text) h
+    go false h =
+        let d = List·getD-eq-default text 0 (ltb-false i (length text) h) in absurd (let w : ⊥ = omega arith in w)
+
+number-read : (text : List ℕ) (at n next : ℕ) → numberAt at text ≡ Value n next → NumberRead text at n next
+unfolding numberAt isNumeral
+number-read text at n next e =
+    let count = digitCount text in
+    let first = take count text in
+    let p = passed (isNumeral count text && eqb (getD text count 0) 10) (valueFrom 0 first) (at + count + 1) n next e in
+    let q = both-true (isNumeral count text) (eqb (getD text count 0) 10) (p .0) in
+    let r = both-true (leb 1 count) (leb count 5 && not (leadingZero count text)) (q .0) in
+    let s = both-true (leb count 5) (not (leadingZero count text)) (r .1) in
+    let some : 1 ≤ count = leb-true 1 count (r .0) in
+    let few : count ≤ 5 = leb-true count 5 (s .0) in
+    let ended : getD text count 0 ≡ 10 = eqb-true (getD text count 0) 10 (q .1) in
+    let inside : count < length text = within text count ended in
+    let long : length first ≡ count = length-take-le count text (omega arith) in
+    let same-first : getD first 0 0 ≡ getD text 0 0 = getD-take count text 0 0 (omega arith) in
+    let plain : leadingZero (length first) first ≡ false = rw (long, same-first) (not-true (leadingZero count text) (s .1)) in
+    let written : decimal n ≡ first = ap decimal (sym (p .1)) ∙ decimal-value (digits-first text) (omega arith) plain in
+    let many : length (decimal n) ≡ count = ap length written ∙ long in
+    let power : 10 ^ length (decimal n) ≤ 10 ^ 5 = pow-le-pow-right {n = 10} (omega arith) {i = length (decimal n)} {j = 5} (omega arith) in
+    let small = below-power n in
+    let rest : drop count text ≡ 10 ∷ drop (length (decimal n) + 1) text =
+    drop-cons text count 0 inside ∙ rw (ended, many, add-one) in
+    record {
+      below = omega arith;
+      next-is = let f = p .2 in omega arith;
+      here = sym (take-append-drop count text) ∙ ap (λ (l : List ℕ). l ++ drop count text) (sym written) ∙ ap (λ (l : List ℕ). decimal n ++ l) rest;
+    }
+
+pub line-read : (name text : List ℕ) (at n next : ℕ) → numberLine name text at ≡ Value n next → LineRead name text at n next
+unfolding numberLine
+line-read name text at n next e = go (begins name (drop at text)) refl
+  where
+    place : ℕ
+    place = at + length name
+
+    go : (t : Bool) → begins name (drop at text) ≡ t → LineRead name text at n next
+    go true starts =
+        let r = number-read (drop place text) place n next (rw starts at e) in
+        let l = number-text-length name n in
+        let end : place + (length (decimal n) + 1) ≡ next = let f = r .next-is in omega arith in
+        record {
+          below = r .below;
+          next-is = let f = r .next-is in omega arith;
+          here =
+              begins-split name (drop at text) starts
+              ∙ ap (λ (l : List ℕ). name ++ l) (drop-drop (length name) at text ∙ r .here)
+              ∙ rw (drop-drop (length (decimal n) + 1) place text, end) (simp append-assoc);
+        }
+    go false other = let z : _≡_ {A = ℕ} 0 1 = cc (rw other at e) in absurd (let w : ⊥ = omega arith in w)
