@@ -1,4 +1,4 @@
--- Writing two strings one after the other is writing them joined; and parts that lie side by side.
+-- Writing twice: one string behind another is the two joined, one over another is the second alone. And parts that lie side by side.
 use mathlib.Core.Path.{_≡_, refl, sym, ap, ap₂, _∙_}
 use mathlib.Core.List.{List, [], _∷_, _++_, append-assoc, flatMap}
 use Prim.Native.Nat.{ℕ, zero, suc, _+_, _*_, _≤_}
@@ -12,6 +12,21 @@ use Rattle.lists.specs.Ranges.{range}
 -- writing nothing
 pub put-nil : (at : ℕ) (buffer : List ℕ) → put at [] buffer ≡ buffer
 put-nil at buffer = take-append-drop at buffer
+
+-- what was written is read again
+pub cut-put : (at : ℕ) (a buffer : List ℕ) → at ≤ length buffer → cut at (length a) (put at a buffer) ≡ a
+cut-put at a buffer h =
+    let rest = drop (length a) (drop at buffer) in
+    ap (take (length a)) (drop-at (take at buffer) (a ++ rest) at (length-take-le at buffer h)) ∙ take-at a rest (length a) refl
+
+-- a string over another of the same length
+pub put-over : (at : ℕ) (a b buffer : List ℕ) → at ≤ length buffer → length a ≡ length b → put at b (put at a buffer) ≡ put at b buffer
+put-over at a b buffer h e =
+    let front = take at buffer in
+    let rest = drop (length a) (drop at buffer) in
+    let long = length-take-le at buffer h in
+    ap₂ (λ (x y : List ℕ). x ++ (b ++ drop (length b) y)) (take-at front (a ++ rest) at long) (drop-at front (a ++ rest) at long)
+    ∙ ap (λ (x : List ℕ). front ++ (b ++ x)) (drop-at a rest (length b) e ∙ ap (λ (n : ℕ). drop n (drop at buffer)) e)
 
 -- the first string, then the second behind it
 pub put-append : (at : ℕ) (a b buffer : List ℕ) → at ≤ length buffer → put (at + length a) b (put at a buffer) ≡ put at (a ++ b) buffer

@@ -1,3 +1,17 @@
+-- `short_code::gather` meets its contract: what is gathered so far, with what the digits left will name, gives the whole.
+use mathlib.Core.Path.{_≡_, refl, sym, ap, ap₂, _∙_}
+use mathlib.Core.Bool.{Bool, false}
+use mathlib.Core.List.{List, [], _∷_}
+use Prim.Native.Nat.{ℕ, _+_, _-_, _*_, _≤_, _<_}
+use native.Mathlib.Omega.{arith}
+use lib.ListN.{length, getD, drop, drop-of-length-le}
+use Rattle.lists.proofs.Below.{allBelow-below}
+use Rattle.parameters.specs.Measures.{shortSizes}
+use Rattle.parameters.proofs.Bounds.{short-bounds}
+use Rattle.short_code.specs.Short.{named}
+use Rattle.short_code.specs.Steps.{gathered, begunBy}
+use Rattle.short_code.proofs.Offsets.{digit-within}
+use Rattle.short_code.proofs.Gathering.{gather-more}
 use Rattle.short_code.proofs.gather.Statement.{statement}
 use Rattle.short_code.proofs.gather.Tie as tie
 use Rattle.short_code.proofs.gather.Reads as reads
@@ -5,46 +19,79 @@ use Rattle.short_code.proofs.gather.Lts as lts
 use Rattle.short_code.proofs.gather_digit.Reads as gather-digit-reads
 
 abbrev Inv-loop : tie.InvT-loop
-Inv-loop n k s store query out₀ begun₀ p₀ out begun p = ?
+Inv-loop n k s store query out₀ begun₀ p₀ out begun p =
+    (p ≤ k) × (length out ≡ length out₀)
+    × (gathered begun out (named n s store p (drop p query)) ≡ gathered false out₀ (named n s store 0 query))
 
 abbrev μ-loop : tie.MeasureT-loop
-μ-loop n k s store query out₀ begun₀ p₀ out begun p = ?
+μ-loop n k s store query out₀ begun₀ p₀ out begun p = k - p
 
 -- src/lib.rt:168:5
 loop-holds : tie.Need-loop-holds Inv-loop μ-loop
-loop-holds c = ?
+loop-holds c = (omega arith, refl, refl)
 
 -- src/lib.rt:169:46
 shared-slice-read-gather-digit : tie.Need-shared-slice-read-gather-digit Inv-loop μ-loop
-shared-slice-read-gather-digit c = ?
+shared-slice-read-gather-digit c = let row = c .before .before .before .before .before .before .pre .1 .1 .0 in omega (arith, row .long)
 
 -- src/lib.rt:169:46
 cast-gather-digit : tie.Need-cast-gather-digit Inv-loop μ-loop
-cast-gather-digit c = ?
+cast-gather-digit c = omega (arith, c .shared-slice-known3 .given (c .before .before .loop .p))
 
 -- src/lib.rt:169:9
 gather-digit-requires : tie.Need-gather-digit-requires Inv-loop μ-loop
-gather-digit-requires c κs = ?
+unfolding shortSizes
+gather-digit-requires c κs =
+    let start = c .before .before .before .before .before .before .before in
+    let at = c .before .before .before in
+    let a = start .args in
+    let row = start .pre .1 .1 .0 in
+    let b = short-bounds (a .n) (a .k) (a .s) (start .pre .0) in
+    let d = allBelow-below (a .n) (a .query .now) (row .digits) (at .loop .p) (omega (arith, row .long)) in
+    let w = digit-within (a .n) (a .k) (a .s) (at .loop .p) (getD (a .query .now) (at .loop .p) 0) (omega arith) d in
+    let whole = start .pre .1 .0 in
+    ((omega arith, omega arith, omega arith), omega arith)
 
 -- src/lib.rt:170:9
 add-p : tie.Need-add-p Inv-loop μ-loop
-add-p c = ?
+add-p c = omega arith
 
 -- src/lib.rt:168:5
 loop-less : tie.Need-loop-less Inv-loop μ-loop
-loop-less c = ?
+loop-less c = omega arith
 
 -- src/lib.rt:168:5
 loop-again : tie.Need-loop-again Inv-loop μ-loop
-loop-again c = ?
+loop-again c =
+    let g = c .before .before in
+    let at = g .before .before .before .before in
+    let start = at .before .before .before .before in
+    let a = start .args in
+    let row = start .pre .1 .1 .0 in
+    let p = at .loop .p in
+    let h : p < length (a .query .now) = omega (arith, row .long) in (
+      omega arith,
+      g .gather-digit .kept .1 .1 .1 .1 .1 .1 .0 ∙ at .loop .inv .1,
+      ap₂ (λ (t : Bool) (l : List ℕ). gathered t l (named (a .n) (a .s) (a .store .now) (p + 1) (drop (p + 1) (a .query .now)))) (g .gather-digit .ensures .0) (g .gather-digit .ensures .1)
+          ∙ gather-more (a .n) (a .s) (a .store .now) p (a .query .now) (at .loop .begun) (at .loop .out) h
+          ∙ at .loop .inv .2,
+    )
 
 -- src/lib.rt:159:1
 same-length : tie.Need-same-length Inv-loop μ-loop
-same-length c = ?
+same-length c = c .before .loop .inv .1
 
 -- src/lib.rt:159:1
 returns : tie.Need-returns Inv-loop μ-loop
-returns c = ?
+unfolding gathered named
+returns c =
+    let at = c .before in
+    let start = at .before .before .before .before in
+    let a = start .args in
+    let row = start .pre .1 .1 .0 in
+    ap (λ (l : List ℕ). gathered (at .loop .begun) (at .loop .out) (named (a .n) (a .s) (a .store .now) (at .loop .p) l))
+    (sym (drop-of-length-le (a .query .now) {i = at .loop .p} (omega (arith, row .long))))
+    ∙ at .loop .inv .2
 
 pub gather-spec : {M : Type 1} → statement M
 gather-spec =

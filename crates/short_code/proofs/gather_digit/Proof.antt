@@ -1,3 +1,15 @@
+-- `short_code::gather_digit` meets its contract: the part that it lends is the symbol that the digit names.
+use mathlib.Core.Path.{_≡_, sym, ap, _∙_}
+use mathlib.Core.Bool.{Bool, true, false, cond}
+use mathlib.Core.List.{List}
+use Prim.Native.Nat.{ℕ, _+_, _-_, _*_}
+use native.Mathlib.Nat.{add-sub-cancel-left}
+use native.Mathlib.Omega.{arith}
+use lib.ListN.{length, take, drop}
+use Rattle.lists.specs.Parts.{cut}
+use Rattle.symbol.specs.Xor.{xor}
+use Rattle.short_code.proofs.Offsets.{part-within}
+use Rattle.short_code.proofs.Gathering.{gather-none, gather-one}
 use borrow.Author.Needs.{needs}
 use Rattle.short_code.proofs.gather_digit.Statement.{statement}
 use Rattle.short_code.proofs.gather_digit.Tie as tie
@@ -8,7 +20,7 @@ use Rattle.symbol.proofs.copy.Reads as copy-reads
 
 -- src/lib.rt:146:9
 returns : tie.Need-returns
-returns c = ?
+returns c = let a = c .before .before .before .args in gather-none (a .n) (a .s) (a .store .now) (a .p) (a .d) (a .begun) (a .out .now) (c .if1 .taken)
 
 -- src/lib.rt:148:20
 sub-at : tie.Need-sub-at
@@ -16,7 +28,10 @@ sub-at c = search needs
 
 -- src/lib.rt:148:15
 mul-at : tie.Need-mul-at
-mul-at c = ?
+mul-at c =
+    let a = c .before .before .before .args in
+    let w = part-within (a .p * (a .n - 1)) (a .d) (a .s) (length (a .store .now)) (omega arith) (omega arith) (omega arith) in
+    omega arith
 
 -- src/lib.rt:148:30
 sub-at-2 : tie.Need-sub-at-2
@@ -24,15 +39,24 @@ sub-at-2 c = search needs
 
 -- src/lib.rt:148:15
 add-at : tie.Need-add-at
-add-at c = ?
+add-at c =
+    let a = c .before .before .before .args in
+    let w = part-within (a .p * (a .n - 1)) (a .d) (a .s) (length (a .store .now)) (omega arith) (omega arith) (omega arith) in
+    omega arith
 
 -- src/lib.rt:148:14
 mul-at-2 : tie.Need-mul-at-2
-mul-at-2 c = ?
+mul-at-2 c =
+    let a = c .before .before .before .args in
+    let w = part-within (a .p * (a .n - 1)) (a .d) (a .s) (length (a .store .now)) (omega arith) (omega arith) (omega arith) in
+    omega arith
 
 -- src/lib.rt:149:15
 add-end : tie.Need-add-end
-add-end c = ?
+add-end c =
+    let a = c .before .before .before .args in
+    let w = part-within (a .p * (a .n - 1)) (a .d) (a .s) (length (a .store .now)) (omega arith) (omega arith) (omega arith) in
+    omega arith
 
 -- src/lib.rt:151:30
 sub-combine : tie.Need-sub-combine
@@ -44,7 +68,10 @@ part-combine-start c = search needs
 
 -- src/lib.rt:151:30
 part-combine-end : tie.Need-part-combine-end
-part-combine-end c = ?
+part-combine-end c =
+    let a = c .before .before .before .before .before .args in
+    let w = part-within (a .p * (a .n - 1)) (a .d) (a .s) (length (a .store .now)) (omega arith) (omega arith) (omega arith) in
+    omega arith
 
 -- src/lib.rt:151:9
 combine-requires : tie.Need-combine-requires
@@ -56,7 +83,17 @@ same-length c = search needs
 
 -- src/lib.rt:152:9
 returns-2 : tie.Need-returns-2
-returns-2 c = ?
+returns-2 c =
+    let g = c .before .before in
+    let a = g .before .before .before .before .before .before .before .args in
+    let at = (a .p * (a .n - 1) + (a .d - 1)) * a .s in
+    let x = cut at (a .s) (a .store .now) in
+    let one = gather-one (a .n) (a .s) (a .store .now) (a .p) (a .d) (a .begun) (a .out .now) (omega arith) in (
+      one .0,
+      g .combine .ensures
+          ∙ ap (λ (m : ℕ). xor .plus (a .out .now) (take m (drop at (a .store .now)))) (add-sub-cancel-left at (a .s))
+          ∙ ap (λ (t : Bool). cond t (xor .plus (a .out .now) x) x) (sym (g .before .before .before .if2 .taken)) ∙ one .1,
+    )
 
 -- src/lib.rt:154:23
 sub-copy : tie.Need-sub-copy
@@ -68,7 +105,10 @@ part-copy-start c = search needs
 
 -- src/lib.rt:154:23
 part-copy-end : tie.Need-part-copy-end
-part-copy-end c = ?
+part-copy-end c =
+    let a = c .before .before .before .before .before .args in
+    let w = part-within (a .p * (a .n - 1)) (a .d) (a .s) (length (a .store .now)) (omega arith) (omega arith) (omega arith) in
+    omega arith
 
 -- src/lib.rt:154:5
 copy-requires : tie.Need-copy-requires
@@ -80,7 +120,17 @@ same-length-2 c = search needs
 
 -- src/lib.rt:139:1
 returns-3 : tie.Need-returns-3
-returns-3 c = ?
+returns-3 c =
+    let g = c .before .before in
+    let a = g .before .before .before .before .before .before .before .args in
+    let at = (a .p * (a .n - 1) + (a .d - 1)) * a .s in
+    let x = cut at (a .s) (a .store .now) in
+    let one = gather-one (a .n) (a .s) (a .store .now) (a .p) (a .d) (a .begun) (a .out .now) (omega arith) in (
+      one .0,
+      g .copy .ensures
+          ∙ ap (λ (m : ℕ). take m (drop at (a .store .now))) (add-sub-cancel-left at (a .s))
+          ∙ ap (λ (t : Bool). cond t (xor .plus (a .out .now) x) x) (sym (g .before .before .before .if2 .left)) ∙ one .1,
+    )
 
 pub gather-digit-spec : {M : Type 1} → statement M
 gather-digit-spec =

@@ -1,0 +1,93 @@
+-- `short_code::answer` meets its contract: the row of zeros is left alone, and of any other row the total is gathered.
+use mathlib.Core.Path.{_≡_, sym, ap, ap₂, _∙_}
+use mathlib.Core.Bool.{false}
+use mathlib.Core.List.{List, _++_}
+use Prim.Native.Nat.{ℕ, _+_, _≤_}
+use native.Mathlib.Nat.{zero-add, le-of-eq}
+use native.Mathlib.Omega.{arith}
+use lib.ListN.{length, take, drop}
+use lib.Seq.{length-take-le}
+use Rattle.lists.specs.Parts.{put}
+use Rattle.lists.specs.Below.{allBelow}
+use Rattle.lists.proofs.Below.{allBelow-below}
+use Rattle.parameters.specs.Measures.{shortSizes}
+use Rattle.parameters.proofs.Bounds.{short-bounds}
+use Rattle.symbol.specs.Xor.{xor}
+use Rattle.short_code.specs.Short.{shortAnswer}
+use Rattle.short_code.proofs.ZeroRow.{room-some, answer-none, answer-some}
+use Rattle.short_code.proofs.Gathering.{gathered-total}
+use borrow.Author.Needs.{needs}
+use Rattle.short_code.proofs.answer.Statement.{statement}
+use Rattle.short_code.proofs.answer.Tie as tie
+use Rattle.short_code.proofs.answer.Reads as reads
+use Rattle.short_code.proofs.answer.Lts as lts
+use Rattle.short_code.proofs.all_below.Reads as all-below-reads
+use Rattle.short_code.proofs.gather.Reads as gather-reads
+
+-- src/lib.rt:182:8
+all-below-requires : tie.Need-all-below-requires
+all-below-requires c κs = search needs
+
+-- src/lib.rt:183:9
+returns : tie.Need-returns
+returns c =
+    let a = c .before .before .before .before .before .args in
+    ap (λ (l : List ℕ). put 0 l (a .out .now))
+    (sym (answer-none xor (a .n) (a .s) (a .store .now) (a .query .now) (sym (c .before .all-below .ensures) ∙ c .if1 .taken)))
+
+-- src/lib.rt:185:35
+-- a row that is not all zeros has room for a symbol
+roomy : (c : tie.Else1) → c .before .before .before .before .before .args .s ≤ length (c .before .before .before .before .before .args .out .now)
+roomy c =
+    let start = c .before .before .before .before .before in
+    let a = start .args in
+    room-some (a .s) (a .query .now) (length (a .out .now)) (sym (c .before .all-below .ensures) ∙ c .if1 .left) (start .pre .1 .1 .1)
+
+slice-relend-prefix-gather : tie.Need-slice-relend-prefix-gather
+slice-relend-prefix-gather c = roomy c
+
+slice-aggregate-gather : tie.Need-slice-aggregate-gather
+slice-aggregate-gather c =
+    let a = c .before .before .before .before .before .before .args in
+    sym (length-take-le (a .s) (a .out .now) (roomy (c .before)))
+
+gather-requires : tie.Need-gather-requires
+gather-requires c κs =
+    let start = c .before .before .before .before .before .before in
+    let a = start .args in
+    (start .pre .0, (start .pre .1 .0, (start .pre .1 .1 .0, length-take-le (a .s) (a .out .now) (roomy (c .before)))))
+
+same-length : tie.Need-same-length
+same-length c = search needs
+
+-- src/lib.rt:175:1
+returns-2 : tie.Need-returns-2
+unfolding shortSizes
+returns-2 c =
+    let g = c .before .before in
+    let start = g .before .before .before .before .before .before .before in
+    let a = start .args in
+    let row = start .pre .1 .1 .0 in
+    let b = short-bounds (a .n) (a .k) (a .s) (start .pre .0) in
+    let some : allBelow 1 (a .query .now) ≡ false = sym (g .before .before .before .all-below .ensures) ∙ g .before .before .if1 .left in
+    let last = g .gather .last .1 .1 .1 .1 .1 .0 in
+    let made : last ≡ shortAnswer xor (a .n) (a .s) (a .store .now) (a .query .now) =
+    g .gather .ensures
+    ∙ gathered-total (a .n) (a .s) (a .store .now) (a .k) 0 (a .query .now) (take (a .s) (a .out .now)) (start .pre .1 .0) (b .symbol-low)
+    (omega (arith, row .long)) (allBelow-below (a .n) (a .query .now) (row .digits)) some
+    ∙ sym (answer-some xor (a .n) (a .s) (a .store .now) (a .query .now) some) in
+    let long : a .s ≡ length last =
+    sym (g .gather .kept .1 .1 .1 .1 .1 .0 ∙ length-take-le (a .s) (a .out .now) (roomy (g .before .before))) in
+    ap (λ (n : ℕ). last ++ drop n (a .out .now)) long ∙ ap (λ (l : List ℕ). put 0 l (a .out .now)) made
+
+pub answer-spec : {M : Type 1} → statement M
+answer-spec =
+    tie.close
+    (tie.spec
+    all-below-requires
+    returns
+    slice-relend-prefix-gather
+    slice-aggregate-gather
+    gather-requires
+    same-length
+    returns-2)
