@@ -3,7 +3,7 @@
 use mathlib.Core.Path.{_≡_, refl, sym, ap, _∙_}
 use mathlib.Core.List.{List, [], _∷_, _++_}
 use Prim.Native.Nat.{ℕ, zero, suc, _+_, _-_, _%_, _≤_, _<_}
-use native.Mathlib.Nat.{mod-lt, mod-eq-of-lt, mod-add-mod, add-mod-mod, add-mod-right, mod-eq-sub-mod}
+use native.Mathlib.Nat.{zero-add, mod-lt, mod-eq-of-lt, mod-add-mod, add-mod-mod, add-mod-right, mod-eq-sub-mod}
 use native.Mathlib.Numerals.{add-one}
 use native.Mathlib.Omega.{arith}
 use lib.ListN.{length, getD, drop}
@@ -66,3 +66,12 @@ module _ (N n : ℕ) (key : List ℕ) (known : n < N) where
 
   pub balance-high : n < keySum N key → balancing N n key ≡ n + (N - keySum N key)
   balance-high h = mod-eq-of-lt (let r = mod-lt (digitSum key) {m = N} (omega arith) in omega arith)
+
+-- Server (d + T) modulo N is asked for digit d, and server T for digit 0
+pub balance-turn : (N d : ℕ) (key : List ℕ) → d < N → balancing N ((d + keySum N key) % N) key ≡ d
+balance-turn N d key h =
+    balance-only N ((d + keySum N key) % N) key (mod-lt (d + keySum N key) (omega arith)) d h (sym (add-mod-mod d (digitSum key) N))
+
+pub balance-none : (N : ℕ) (key : List ℕ) → 0 < N → balancing N (keySum N key) key ≡ 0
+balance-none N key h =
+    balance-only N (keySum N key) key (mod-lt (digitSum key) h) 0 h (ap (λ (x : ℕ). x % N) (zero-add (digitSum key)))
