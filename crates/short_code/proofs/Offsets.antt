@@ -8,10 +8,6 @@ use lib.ListN.{length}
 use Rattle.lists.proofs.Parts.{cut-length}
 use Rattle.short_code.specs.Short.{symbolAt}
 
--- slot i of n
-pub slot-within : (i n S : ℕ) → i < n → i * S + S ≤ n * S
-slot-within i n S h = le-trans (le-of-eq (sym (suc-mul i S))) (mul-le-mul-right S h)
-
 -- the symbol that ends at a + d, and how large the numbers are that lead there
 pub part-within : (a d S long : ℕ) → 0 < d → 0 < S → (a + d) * S ≤ long → ((a + (d - 1)) * S + S ≤ long) × (a + d ≤ long)
 part-within a d S long h s l =

@@ -12,7 +12,9 @@ use Rattle.lists.specs.Ranges.{range}
 use Rattle.lists.specs.Below.{allBelow}
 use Rattle.lists.specs.Inserts.{insertAt}
 use Rattle.lists.proofs.Parts.{cut-length}
-use Rattle.lists.proofs.Writes.{put-nil, put-append}
+use Rattle.lists.proofs.Slots.{slot-end}
+use Rattle.lists.proofs.Puts.{put-put}
+use Rattle.lists.proofs.Writes.{put-nil}
 use Rattle.lists.proofs.Mapped.{mapped-at, joined-equal}
 use Rattle.parameters.specs.Measures.{shortSizes}
 use Rattle.symbol.specs.Sum.{zeros}
@@ -22,7 +24,6 @@ use Rattle.scheme.specs.Scheme.{answersIn}
 use Rattle.short_code.specs.Short.{digitSum, keySum, balancing, shortQuery, shortAnswerLength, orZeros, recovered, shortRecover, shortScheme}
 use Rattle.short_code.specs.Steps.{fromSlots}
 use Rattle.short_code.proofs.Digits.{balance-turn, balance-none}
-use Rattle.short_code.proofs.Offsets.{slot-within}
 use Rattle.short_code.proofs.ZeroRow.{zeros-more, zeros-broken, length-some}
 
 -- an answer that is not empty counts as it is
@@ -32,7 +33,7 @@ or-zeros-some S [] h = absurd (not-suc-le-zero h)
 or-zeros-some S (x ∷ answer) h = refl
 
 pub slot-length : (N S i : ℕ) (answers : List ℕ) → i < N → N * S ≤ length answers → length (cut (i * S) S answers) ≡ S
-slot-length N S i answers h room = cut-length (i * S) S answers (omega (arith, slot-within i N S h))
+slot-length N S i answers h room = cut-length (i * S) S answers (omega (arith, slot-end i N S h))
 
 module _ (N S T d : ℕ) (answers : List ℕ) (known : T < N) (some : 0 < S) (room : N * S ≤ length answers) where
   pub from-one : cut ((d + T) % N * S) S answers ≡ fromSlots N S T true answers d
@@ -93,10 +94,10 @@ pub write-more : (f : ℕ → List ℕ) (N S d : ℕ) (message : List ℕ) → 0
 unfolding range flatMap
 write-more f N S d message low h long room =
     let rest = flatMap f (range (suc d) (N - suc d)) in
-    let within = slot-within (d - 1) d S (omega arith) in
+    let within = slot-end (d - 1) d S (omega arith) in
     let count : suc (N - suc d) ≡ N - d = omega arith in
     let place : (d + 1 - 1) * S ≡ (d - 1) * S + length (f d) =
     ap (λ (n : ℕ). n * S) (let e : d + 1 - 1 ≡ suc (d - 1) = omega arith in e) ∙ suc-mul (d - 1) S ∙ ap (λ (n : ℕ). (d - 1) * S + n) (sym long) in
     ap₂ (λ (n m : ℕ). put n (flatMap f (range m (N - m))) (put ((d - 1) * S) (f d) message)) place (add-one d)
-    ∙ put-append ((d - 1) * S) (f d) rest message (omega arith)
+    ∙ put-put ((d - 1) * S) (f d) rest message (omega arith)
     ∙ ap (λ (n : ℕ). put ((d - 1) * S) (flatMap f (range d n)) message) count

@@ -8,11 +8,11 @@ use native.Mathlib.Omega.{arith}
 use lib.ListN.{length, take, drop}
 use Rattle.lists.specs.Parts.{cut, put}
 use Rattle.lists.proofs.Parts.{put-part}
-use Rattle.lists.proofs.Writes.{cut-put, put-over}
+use Rattle.lists.proofs.Slots.{slot-end, cut-put}
+use Rattle.lists.proofs.Writes.{put-over}
 use Rattle.symbol.specs.Xor.{xor}
 use Rattle.symbol.proofs.XorBytes.{xor-length}
 use Rattle.short_code.specs.Steps.{fromSlots}
-use Rattle.short_code.proofs.Offsets.{slot-within}
 use Rattle.short_code.proofs.Slots.{slot-length, from-one, from-two}
 use borrow.Author.Needs.{needs}
 use Rattle.short_code.proofs.recover_symbol.Statement.{statement}
@@ -32,7 +32,7 @@ mul-from : tie.Need-mul-from
 mul-from c =
     let a = c .before .before .before .args in
     let m : (a .d + a .t) % a .n < a .n = mod-lt (a .d + a .t) (omega arith) in
-    let w = slot-within (c .add-modulo .result) (a .n) (a .s) (omega arith) in
+    let w = slot-end (c .add-modulo .result) (a .n) (a .s) (omega arith) in
     omega arith
 
 -- src/lib.rt:196:20
@@ -40,7 +40,7 @@ add-from-end : tie.Need-add-from-end
 add-from-end c =
     let a = c .before .before .before .args in
     let m : (a .d + a .t) % a .n < a .n = mod-lt (a .d + a .t) (omega arith) in
-    let w = slot-within (c .add-modulo .result) (a .n) (a .s) (omega arith) in
+    let w = slot-end (c .add-modulo .result) (a .n) (a .s) (omega arith) in
     omega arith
 
 -- src/lib.rt:197:15
@@ -49,11 +49,11 @@ sub-at c = search needs
 
 -- src/lib.rt:197:14
 mul-at : tie.Need-mul-at
-mul-at c = let a = c .before .before .before .args in let w = slot-within (a .d - 1) (a .d) (a .s) (omega arith) in omega arith
+mul-at c = let a = c .before .before .before .args in let w = slot-end (a .d - 1) (a .d) (a .s) (omega arith) in omega arith
 
 -- src/lib.rt:198:15
 add-end : tie.Need-add-end
-add-end c = let a = c .before .before .before .args in let w = slot-within (a .d - 1) (a .d) (a .s) (omega arith) in omega arith
+add-end c = let a = c .before .before .before .args in let w = slot-end (a .d - 1) (a .d) (a .s) (omega arith) in omega arith
 
 -- src/lib.rt:199:18
 sub-copy : tie.Need-sub-copy
@@ -65,7 +65,7 @@ part-copy-start c = search needs
 
 -- src/lib.rt:199:18
 part-copy-end : tie.Need-part-copy-end
-part-copy-end c = let a = c .before .before .before .args in let w = slot-within (a .d - 1) (a .d) (a .s) (omega arith) in omega arith
+part-copy-end c = let a = c .before .before .before .args in let w = slot-end (a .d - 1) (a .d) (a .s) (omega arith) in omega arith
 
 -- src/lib.rt:199:41
 sub-copy-2 : tie.Need-sub-copy-2
@@ -80,7 +80,7 @@ part-copy-end-2 : tie.Need-part-copy-end-2
 part-copy-end-2 c =
     let a = c .before .before .before .before .args in
     let m : (a .d + a .t) % a .n < a .n = mod-lt (a .d + a .t) (omega arith) in
-    let w = slot-within (c .before .add-modulo .result) (a .n) (a .s) (omega arith) in
+    let w = slot-end (c .before .add-modulo .result) (a .n) (a .s) (omega arith) in
     omega arith
 
 -- src/lib.rt:199:5
@@ -116,11 +116,11 @@ returns c =
 
 -- src/lib.rt:203:17
 mul-other : tie.Need-mul-other
-mul-other c = let a = c .before .before .before .before .before .before .before .before .before .args in let w = slot-within (a .t) (a .n) (a .s) (omega arith) in omega arith
+mul-other c = let a = c .before .before .before .before .before .before .before .before .before .args in let w = slot-end (a .t) (a .n) (a .s) (omega arith) in omega arith
 
 -- src/lib.rt:204:21
 add-other-end : tie.Need-add-other-end
-add-other-end c = let a = c .before .before .before .before .before .before .before .before .before .args in let w = slot-within (a .t) (a .n) (a .s) (omega arith) in omega arith
+add-other-end c = let a = c .before .before .before .before .before .before .before .before .before .args in let w = slot-end (a .t) (a .n) (a .s) (omega arith) in omega arith
 
 -- src/lib.rt:205:21
 sub-combine : tie.Need-sub-combine
@@ -134,7 +134,7 @@ part-combine-start c = search needs
 part-combine-end : tie.Need-part-combine-end
 part-combine-end c =
     let a = c .before .before .before .before .before .before .before .before .before .args in
-    let w = slot-within (a .d - 1) (a .d) (a .s) (omega arith) in
+    let w = slot-end (a .d - 1) (a .d) (a .s) (omega arith) in
     omega arith
 
 -- src/lib.rt:205:44
@@ -147,7 +147,7 @@ part-combine-start-2 c = search needs
 
 -- src/lib.rt:205:44
 part-combine-end-2 : tie.Need-part-combine-end-2
-part-combine-end-2 c = let a = c .before .before .before .before .before .before .before .before .before .before .args in let w = slot-within (a .t) (a .n) (a .s) (omega arith) in omega arith
+part-combine-end-2 c = let a = c .before .before .before .before .before .before .before .before .before .before .args in let w = slot-end (a .t) (a .n) (a .s) (omega arith) in omega arith
 
 -- src/lib.rt:205:5
 combine-requires : tie.Need-combine-requires
@@ -169,7 +169,7 @@ returns-2 c =
     let last = h .combine .last .0 in
     let made : g .copy .last .0 ≡ x = copied g in
     let long : length x ≡ a .s = slot-length (a .n) (a .s) ((a .d + a .t) % a .n) (a .answers .now) (mod-lt (a .d + a .t) (omega arith)) (omega arith) in
-    let w = slot-within (a .d - 1) (a .d) (a .s) (omega arith) in
+    let w = slot-end (a .d - 1) (a .d) (a .s) (omega arith) in
     let first = put at x (a .message .now) in
     let held : take at (a .message .now) ++ (g .copy .last .0 ++ drop (at + a .s - at) (drop at (a .message .now))) ≡ first =
     put-part at (a .s) (g .copy .last .0) (a .message .now) (ap length made ∙ long) ∙ ap (λ (l : List ℕ). put at l (a .message .now)) made in
