@@ -78,8 +78,8 @@ pub recover-slots : (N K S wanted : ℕ) (key answers : List ℕ) → 0 < S → 
     → shortRecover xor N S key (answersIn (shortScheme xor N K S) N wanted key answers) ≡ flatMap (fromSlots N S (keySum N key) (allBelow 1 key) answers) (range 1 (N - 1))
 unfolding shortRecover
 recover-slots N K S wanted key answers s room =
-    joined-equal (recovered xor N S key (answersIn (shortScheme xor N K S) N wanted key answers)) (fromSlots N S (keySum N key) (allBelow 1 key) answers) 1 (N - 1)
-    (λ d low h. recovered-slots N K S wanted d key answers low (omega arith) s room)
+    joined-equal (recovered xor N S key (answersIn (shortScheme xor N K S) N wanted key answers)) (fromSlots N S (keySum N key) (allBelow 1 key) answers) 1 1 (N - 1)
+    (λ i h. recovered-slots N K S wanted (i + 1) key answers (omega arith) (omega arith) s room)
 
 -- nothing is left to write
 pub write-done : (f : ℕ → List ℕ) (N S d : ℕ) (message : List ℕ) → N ≤ d → put ((d - 1) * S) (flatMap f (range d (N - d))) message ≡ message

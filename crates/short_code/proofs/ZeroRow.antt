@@ -53,9 +53,9 @@ module _ (sum : Sum) (N S : ℕ) (store query : List ℕ) where
   unfolding shortAnswer
   answer-some e = ap (λ (t : Bool). cond t [] (total sum S (named N S store 0 query))) e
 
-  -- the row of zeros names nothing
-  pub named-zeros : (p : ℕ) (row : List ℕ) → allBelow 1 row ≡ true → named N S store p row ≡ []
-  unfolding allBelow named
-  named-zeros p [] e = refl
-  named-zeros p (zero ∷ row) e = named-zeros (suc p) row e
-  named-zeros p (suc d ∷ row) e = let h = allBelow-below 1 (suc d ∷ row) e 0 (omega arith) in absurd (let w : ⊥ = omega arith in w)
+-- the row of zeros names nothing
+pub named-zeros : (N S : ℕ) (store : List ℕ) (p : ℕ) (row : List ℕ) → allBelow 1 row ≡ true → named N S store p row ≡ []
+unfolding allBelow named
+named-zeros N S store p [] e = refl
+named-zeros N S store p (zero ∷ row) e = named-zeros N S store (suc p) row e
+named-zeros N S store p (suc d ∷ row) e = let h = allBelow-below 1 (suc d ∷ row) e 0 (omega arith) in absurd (let w : ⊥ = omega arith in w)
