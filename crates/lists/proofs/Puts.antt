@@ -15,13 +15,13 @@ put-put at a b buffer h =
     let whole : put at a buffer ≡ front ++ rest = sym (append-assoc (take at buffer) a rest) in
     let long : length front ≡ at + length a = length-append (take at buffer) a ∙ ap (λ (n : ℕ). n + length a) (length-take-le at buffer h) in
     ap₂ (λ (s t : List ℕ). s ++ (b ++ drop (length b) t))
-        (ap (take (at + length a)) whole ∙ take-at front rest (at + length a) long)
-        (ap (drop (at + length a)) whole ∙ drop-at front rest (at + length a) long)
+    (ap (take (at + length a)) whole ∙ take-at front rest (at + length a) long)
+    (ap (drop (at + length a)) whole ∙ drop-at front rest (at + length a) long)
     ∙ append-assoc (take at buffer) a (b ++ drop (length b) rest)
     ∙ ap (λ (l : List ℕ). take at buffer ++ l)
-        (sym (append-assoc a b (drop (length b) rest))
-        ∙ ap (λ (l : List ℕ). (a ++ b) ++ l)
-            (drop-drop (length b) (length a) (drop at buffer) ∙ ap (λ (n : ℕ). drop n (drop at buffer)) (sym (length-append a b))))
+    (sym (append-assoc a b (drop (length b) rest))
+    ∙ ap (λ (l : List ℕ). (a ++ b) ++ l)
+    (drop-drop (length b) (length a) (drop at buffer) ∙ ap (λ (n : ℕ). drop n (drop at buffer)) (sym (length-append a b))))
 
 -- a byte written before a part is the part's first
 pub put-before : (at byte : ℕ) (bytes buffer : List ℕ) → at < length buffer
@@ -29,6 +29,6 @@ pub put-before : (at byte : ℕ) (bytes buffer : List ℕ) → at < length buffe
 put-before at byte bytes buffer h =
     let rest = bytes ++ drop (length bytes) (drop (suc at) buffer) in
     ap (λ (l : List ℕ). set l at byte)
-        (ap (λ (l : List ℕ). l ++ rest) (take-suc buffer at 0 h) ∙ append-snoc (take at buffer) (getD buffer at 0) rest)
+    (ap (λ (l : List ℕ). l ++ rest) (take-suc buffer at 0 h) ∙ append-snoc (take at buffer) (getD buffer at 0) rest)
     ∙ set-at (take at buffer) (getD buffer at 0) rest byte at (length-take-le at buffer (omega arith))
     ∙ ap (λ (l : List ℕ). take at buffer ++ (byte ∷ (bytes ++ drop (suc (length bytes)) l))) (sym (drop-cons buffer at 0 h))

@@ -1,7 +1,7 @@
 -- Digits modulo N: their sums from place to place, and the balancing digit, which is the one digit with which they sum up to the
 -- server's number.
 use mathlib.Core.Path.{_≡_, refl, sym, ap, _∙_}
-use mathlib.Core.List.{List, [], _∷_, _++_}
+use mathlib.Core.List.{List, [], _∷_}
 use Prim.Native.Nat.{ℕ, zero, suc, _+_, _-_, _%_, _≤_, _<_}
 use native.Mathlib.Nat.{zero-add, mod-lt, mod-eq-of-lt, mod-add-mod, add-mod-mod, add-mod-right, mod-eq-sub-mod}
 use native.Mathlib.Numerals.{add-one}

@@ -3,7 +3,7 @@
 use mathlib.Core.Path.{_≡_, sym, ap, _∙_}
 use mathlib.Core.Bool.{true}
 use mathlib.Core.List.{List}
-use Prim.Native.Nat.{ℕ, _-_, _<_}
+use Prim.Native.Nat.{ℕ, _<_}
 use Rattle.lists.specs.Inserts.{removeAt}
 use Rattle.parameters.specs.Measures.{shortSizes}
 use Rattle.symbol.specs.Sum.{Sum}

@@ -1,5 +1,5 @@
 -- How the answer is gathered: one digit more, and what all digits leave behind is the answer.
-use mathlib.Core.Path.{_≡_, refl, sym, ap, ap₂, _∙_}
+use mathlib.Core.Path.{_≡_, refl, sym, ap, _∙_}
 use mathlib.Core.Bool.{Bool, true, false, cond}
 use mathlib.Core.List.{List, [], _∷_}
 use Prim.Native.Nat.{ℕ, zero, suc, _+_, _-_, _*_, _≤_, _<_}
@@ -8,12 +8,11 @@ use native.Mathlib.Numerals.{add-one, sub-one}
 use native.Mathlib.Omega.{arith}
 use lib.ListN.{length, getD, drop}
 use lib.Seq.{drop-cons}
-use Rattle.lists.specs.Parts.{cut}
 use Rattle.lists.specs.Below.{allBelow, Below}
 use Rattle.symbol.specs.Sum.{zeros, totalFrom, total}
 use Rattle.symbol.specs.Xor.{xor}
 use Rattle.symbol.proofs.XorBytes.{xor-zeros}
-use Rattle.short_code.specs.Short.{symbolAt, named, shortAnswer}
+use Rattle.short_code.specs.Short.{symbolAt, named}
 use Rattle.short_code.specs.Steps.{gathered, begunBy}
 use Rattle.short_code.proofs.Offsets.{symbol-length}
 

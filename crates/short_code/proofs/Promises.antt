@@ -1,12 +1,11 @@
 -- The short code keeps the promises of a retrieval code, over any abelian group of symbols: `short-laws`. And over exclusive or: `short-promises`.
 use mathlib.Core.Path.{_≡_, refl, _∙_}
 use mathlib.Core.Bool.{true}
-use mathlib.Core.List.{List}
-use Prim.Native.Nat.{ℕ, _≤_, _<_}
+use Prim.Native.Nat.{ℕ}
 use native.Mathlib.Omega.{arith}
 use Rattle.parameters.specs.Bounds.{shortFits}
-use Rattle.parameters.specs.Measures.{shortSizes, keyPlaces, mostServers}
-use Rattle.parameters.proofs.Bounds.{ShortBounds, short-bounds}
+use Rattle.parameters.specs.Measures.{shortSizes}
+use Rattle.parameters.proofs.Bounds.{short-bounds}
 use Rattle.symbol.specs.Sum.{Sum}
 use Rattle.symbol.specs.Group.{AbelianGroup}
 use Rattle.symbol.specs.Xor.{xor}

@@ -1,25 +1,24 @@
 -- Recovery: server (d + T) modulo N is asked for what server T is asked for and the symbol of digit d besides, so the difference of
 -- their answers is that symbol. Only the laws of an abelian group are used.
-use mathlib.Core.Path.{_≡_, refl, sym, ap, ap₂, _∙_}
-use mathlib.Core.Bool.{Bool, true}
-use mathlib.Core.List.{List, [], _∷_, _++_, map, flatMap}
-use Prim.Native.Nat.{ℕ, zero, suc, _+_, _-_, _*_, _%_, _≤_, _<_}
+use mathlib.Core.Path.{_≡_, ap, ap₂, _∙_}
+use mathlib.Core.Bool.{true}
+use mathlib.Core.List.{List, [], _∷_, _++_}
+use Prim.Native.Nat.{ℕ, suc, _+_, _-_, _*_, _%_, _<_}
 use native.Mathlib.Nat.{mod-lt, mul-assoc, add-comm}
 use native.Mathlib.Numerals.{add-one}
 use native.Mathlib.Omega.{arith}
 use lib.ListN.{length, getD, take, drop, length-take, length-drop}
 use Rattle.lists.specs.Parts.{cut}
-use Rattle.lists.specs.Ranges.{range}
 use Rattle.lists.specs.Below.{allBelow, Below}
 use Rattle.lists.specs.Inserts.{insertAt}
 use Rattle.lists.proofs.Below.{allBelow-below, below-take, below-drop}
 use Rattle.lists.proofs.Mapped.{mapped-at, joined-equal}
 use Rattle.lists.proofs.Writes.{cut-join}
-use Rattle.symbol.specs.Sum.{Symbol, Sum, total}
+use Rattle.symbol.specs.Sum.{Sum, total}
 use Rattle.symbol.specs.Group.{AbelianGroup, Symbols, more}
 use Rattle.symbol.proofs.Totals.{total-symbol, total-found, symbols-append}
 use Rattle.scheme.specs.Scheme.{honestAnswers}
-use Rattle.short_code.specs.Short.{digitSum, keySum, balancing, symbolAt, named, shortQuery, shortAnswer, orZeros, recovered, shortRecover, shortScheme}
+use Rattle.short_code.specs.Short.{digitSum, keySum, balancing, symbolAt, shortQuery, shortAnswer, orZeros, recovered, shortRecover, shortScheme}
 use Rattle.short_code.proofs.Digits.{balance-turn, balance-none}
 use Rattle.short_code.proofs.Named.{namedBefore, namedBehind, named-none, named-one, symbol-whole, named-symbols}
 use Rattle.short_code.proofs.Answers.{answer-total}

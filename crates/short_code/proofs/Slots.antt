@@ -1,7 +1,7 @@
 -- Recovery from the slots of the answer buffer: what is written of each symbol, and that the symbols are those of the rule.
 use mathlib.Core.Path.{_≡_, refl, sym, ap, ap₂, _∙_}
 use mathlib.Core.Bool.{Bool, true, false, cond}
-use mathlib.Core.List.{List, [], _∷_, _++_, map, flatMap}
+use mathlib.Core.List.{List, [], _∷_, map, flatMap}
 use Prim.Native.Nat.{ℕ, zero, suc, _+_, _-_, _*_, _%_, _≤_, _<_}
 use native.Mathlib.Nat.{not-suc-le-zero, mod-lt, suc-mul}
 use native.Mathlib.Numerals.{add-one}

@@ -136,7 +136,15 @@ pub fn answer_length(s: usize, query: &[u8]) -> usize
 }
 
 // Gathers the symbol that digit d of message p names in `out`, and says whether one has begun it now. Digit 0 names none.
-fn gather_digit(n: usize, s: usize, store: &[u8], p: usize, d: usize, begun: bool, out: &mut [u8]) -> bool
+fn gather_digit(
+    n: usize,
+    s: usize,
+    store: &[u8],
+    p: usize,
+    d: usize,
+    begun: bool,
+    out: &mut [u8],
+) -> bool
     requires { ⌜ (0 < n) × (0 < s) × ((p * (n - 1) + d) * s ≤ length (now store)) ⌝ }
     requires { ⌜ length (now out) ≡ s ⌝ }
     ensures { λ r. ⌜ r ≡ begunBy begun d ⌝ }
@@ -186,7 +194,15 @@ pub fn answer(n: usize, k: usize, s: usize, store: &[u8], query: &[u8], out: &mu
 }
 
 // Writes the symbol that digit d names into its own part of the message. `empty`: server t's answer is, and its slot is not read.
-fn recover_symbol(n: usize, s: usize, t: usize, empty: bool, answers: &[u8], d: usize, message: &mut [u8])
+fn recover_symbol(
+    n: usize,
+    s: usize,
+    t: usize,
+    empty: bool,
+    answers: &[u8],
+    d: usize,
+    message: &mut [u8],
+)
     requires { ⌜ (t < n) × (0 < d) × (d < n) × (0 < s) ⌝ }
     requires { ⌜ n * s ≤ length (now answers) ⌝ }
     requires { ⌜ d * s ≤ length (now message) ⌝ }
@@ -206,7 +222,15 @@ fn recover_symbol(n: usize, s: usize, t: usize, empty: bool, answers: &[u8], d: 
 }
 
 // Writes the wanted message, from the slots of the answer buffer. The key is enough: k and `wanted` say what it was used for.
-pub fn recover(n: usize, k: usize, s: usize, wanted: usize, key: &[u8], answers: &[u8], message: &mut [u8])
+pub fn recover(
+    n: usize,
+    k: usize,
+    s: usize,
+    wanted: usize,
+    key: &[u8],
+    answers: &[u8],
+    message: &mut [u8],
+)
     requires { ⌜ shortFits n k s ≡ true ⌝ }
     requires { ⌜ wanted < k ⌝ }
     requires { ⌜ Valid (shortScheme xor n k s) (now key) ⌝ }

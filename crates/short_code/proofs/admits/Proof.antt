@@ -1,13 +1,13 @@
 -- `short_code::admits` meets its contract: it makes the three tests of the query set in order.
-use mathlib.Core.Path.{_≡_, sym, ap, ap₂, _∙_}
-use mathlib.Core.Bool.{Bool, true, false, _&&_}
-use Prim.Native.Nat.{ℕ, _%_}
+use mathlib.Core.Path.{_≡_, sym, ap, _∙_}
+use mathlib.Core.Bool.{true, false}
+use Prim.Native.Nat.{ℕ}
 use borrow.Author.Needs.{needs}
 use borrow.Author.Tests.{eq-eqb, ne-eqb, not-true, not-false}
 use lib.Dec.{eqb}
 use lib.ListN.{length}
 use Rattle.lists.specs.Below.{allBelow}
-use Rattle.short_code.specs.Short.{digitSum, shortAdmits}
+use Rattle.short_code.specs.Short.{shortAdmits}
 use Rattle.short_code.proofs.admits.Statement.{statement}
 use Rattle.short_code.proofs.admits.Tie as tie
 

@@ -1,6 +1,6 @@
 -- `short_code::all_below` meets its contract: after i turns the first i digits have passed, and the rest decides.
 use mathlib.Core.Path.{_≡_, refl, sym, ap, _∙_}
-use Prim.Native.Nat.{ℕ, _-_, _≤_}
+use Prim.Native.Nat.{_-_, _≤_}
 use native.Mathlib.Omega.{arith}
 use lib.ListN.{length, drop, drop-of-length-le}
 use Rattle.lists.specs.Below.{allBelow}

@@ -1,9 +1,8 @@
 -- `short_code::answer` meets its contract: the row of zeros is left alone, and of any other row the total is gathered.
-use mathlib.Core.Path.{_≡_, sym, ap, ap₂, _∙_}
+use mathlib.Core.Path.{_≡_, sym, ap, _∙_}
 use mathlib.Core.Bool.{false}
 use mathlib.Core.List.{List, _++_}
-use Prim.Native.Nat.{ℕ, _+_, _≤_}
-use native.Mathlib.Nat.{zero-add, le-of-eq}
+use Prim.Native.Nat.{ℕ, _≤_}
 use native.Mathlib.Omega.{arith}
 use lib.ListN.{length, take, drop}
 use lib.Seq.{length-take-le}
@@ -19,23 +18,16 @@ use Rattle.short_code.proofs.Gathering.{gathered-total}
 use borrow.Author.Needs.{needs}
 use Rattle.short_code.proofs.answer.Statement.{statement}
 use Rattle.short_code.proofs.answer.Tie as tie
-use Rattle.short_code.proofs.answer.Reads as reads
-use Rattle.short_code.proofs.answer.Lts as lts
-use Rattle.short_code.proofs.all_below.Reads as all-below-reads
-use Rattle.short_code.proofs.gather.Reads as gather-reads
 
--- src/lib.rt:182:8
 all-below-requires : tie.Need-all-below-requires
 all-below-requires c κs = search needs
 
--- src/lib.rt:183:9
 returns : tie.Need-returns
 returns c =
     let a = c .before .before .before .before .before .args in
     ap (λ (l : List ℕ). put 0 l (a .out .now))
     (sym (answer-none xor (a .n) (a .s) (a .store .now) (a .query .now) (sym (c .before .all-below .ensures) ∙ c .if1 .taken)))
 
--- src/lib.rt:185:35
 -- a row that is not all zeros has room for a symbol
 roomy : (c : tie.Else1) → c .before .before .before .before .before .args .s ≤ length (c .before .before .before .before .before .args .out .now)
 roomy c =
@@ -60,7 +52,6 @@ gather-requires c κs =
 same-length : tie.Need-same-length
 same-length c = search needs
 
--- src/lib.rt:175:1
 returns-2 : tie.Need-returns-2
 unfolding shortSizes
 returns-2 c =

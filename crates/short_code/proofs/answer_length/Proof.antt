@@ -1,5 +1,5 @@
 -- `short_code::answer_length` meets its contract: the row of zeros is the one whose digits are all below 1.
-use mathlib.Core.Path.{_≡_, sym, ap, _∙_}
+use mathlib.Core.Path.{sym, ap, _∙_}
 use mathlib.Core.Bool.{Bool, cond}
 use borrow.Author.Needs.{needs}
 use Rattle.short_code.specs.Short.{shortAnswerLength}

@@ -1,6 +1,6 @@
 -- `short_code::balancing_digit` meets its contract: it is the server's number less the key's sum, with n added where that is below 0.
 use mathlib.Core.Path.{_≡_, sym, ap, _∙_}
-use Prim.Native.Nat.{ℕ, _+_, _-_, _%_, _≤_, _<_}
+use Prim.Native.Nat.{ℕ, _+_, _-_, _%_, _<_}
 use native.Mathlib.Nat.{mod-lt}
 use native.Mathlib.Omega.{arith}
 use Rattle.short_code.specs.Short.{digitSum, keySum}

@@ -1,5 +1,5 @@
 -- `short_code::digit_sum` meets its contract: the sum so far is below n, and with the digits that are left it gives the whole.
-use mathlib.Core.Path.{_≡_, refl, sym, ap, _∙_}
+use mathlib.Core.Path.{_≡_, sym, ap, _∙_}
 use mathlib.Core.List.{List}
 use Prim.Native.Nat.{ℕ, _+_, _-_, _%_, _≤_, _<_}
 use native.Mathlib.Nat.{zero-add, add-zero, zero-mod, mod-mod, mod-lt}

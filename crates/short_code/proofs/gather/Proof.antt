@@ -1,22 +1,19 @@
 -- `short_code::gather` meets its contract: what is gathered so far, with what the digits left will name, gives the whole.
 use mathlib.Core.Path.{_≡_, refl, sym, ap, ap₂, _∙_}
 use mathlib.Core.Bool.{Bool, false}
-use mathlib.Core.List.{List, [], _∷_}
-use Prim.Native.Nat.{ℕ, _+_, _-_, _*_, _≤_, _<_}
+use mathlib.Core.List.{List}
+use Prim.Native.Nat.{ℕ, _+_, _-_, _≤_, _<_}
 use native.Mathlib.Omega.{arith}
 use lib.ListN.{length, getD, drop, drop-of-length-le}
 use Rattle.lists.proofs.Below.{allBelow-below}
 use Rattle.parameters.specs.Measures.{shortSizes}
 use Rattle.parameters.proofs.Bounds.{short-bounds}
 use Rattle.short_code.specs.Short.{named}
-use Rattle.short_code.specs.Steps.{gathered, begunBy}
+use Rattle.short_code.specs.Steps.{gathered}
 use Rattle.short_code.proofs.Offsets.{digit-within}
 use Rattle.short_code.proofs.Gathering.{gather-more}
 use Rattle.short_code.proofs.gather.Statement.{statement}
 use Rattle.short_code.proofs.gather.Tie as tie
-use Rattle.short_code.proofs.gather.Reads as reads
-use Rattle.short_code.proofs.gather.Lts as lts
-use Rattle.short_code.proofs.gather_digit.Reads as gather-digit-reads
 
 abbrev Inv-loop : tie.InvT-loop
 Inv-loop n k s store query out₀ begun₀ p₀ out begun p =
@@ -26,19 +23,15 @@ Inv-loop n k s store query out₀ begun₀ p₀ out begun p =
 abbrev μ-loop : tie.MeasureT-loop
 μ-loop n k s store query out₀ begun₀ p₀ out begun p = k - p
 
--- src/lib.rt:168:5
 loop-holds : tie.Need-loop-holds Inv-loop μ-loop
 loop-holds c = (omega arith, refl, refl)
 
--- src/lib.rt:169:46
 shared-slice-read-gather-digit : tie.Need-shared-slice-read-gather-digit Inv-loop μ-loop
 shared-slice-read-gather-digit c = let row = c .before .before .before .before .before .before .pre .1 .1 .0 in omega (arith, row .long)
 
--- src/lib.rt:169:46
 cast-gather-digit : tie.Need-cast-gather-digit Inv-loop μ-loop
 cast-gather-digit c = omega (arith, c .shared-slice-known3 .given (c .before .before .loop .p))
 
--- src/lib.rt:169:9
 gather-digit-requires : tie.Need-gather-digit-requires Inv-loop μ-loop
 unfolding shortSizes
 gather-digit-requires c κs =
@@ -52,15 +45,12 @@ gather-digit-requires c κs =
     let whole = start .pre .1 .0 in
     ((omega arith, omega arith, omega arith), omega arith)
 
--- src/lib.rt:170:9
 add-p : tie.Need-add-p Inv-loop μ-loop
 add-p c = omega arith
 
--- src/lib.rt:168:5
 loop-less : tie.Need-loop-less Inv-loop μ-loop
 loop-less c = omega arith
 
--- src/lib.rt:168:5
 loop-again : tie.Need-loop-again Inv-loop μ-loop
 loop-again c =
     let g = c .before .before in
@@ -77,11 +67,9 @@ loop-again c =
           ∙ at .loop .inv .2,
     )
 
--- src/lib.rt:159:1
 same-length : tie.Need-same-length Inv-loop μ-loop
 same-length c = c .before .loop .inv .1
 
--- src/lib.rt:159:1
 returns : tie.Need-returns Inv-loop μ-loop
 unfolding gathered named
 returns c =

@@ -1,7 +1,6 @@
 -- `short_code::gather_digit` meets its contract: the part that it lends is the symbol that the digit names.
-use mathlib.Core.Path.{_≡_, sym, ap, _∙_}
-use mathlib.Core.Bool.{Bool, true, false, cond}
-use mathlib.Core.List.{List}
+use mathlib.Core.Path.{sym, ap, _∙_}
+use mathlib.Core.Bool.{Bool, cond}
 use Prim.Native.Nat.{ℕ, _+_, _-_, _*_}
 use native.Mathlib.Nat.{add-sub-cancel-left}
 use native.Mathlib.Omega.{arith}
@@ -13,75 +12,58 @@ use Rattle.short_code.proofs.Gathering.{gather-none, gather-one}
 use borrow.Author.Needs.{needs}
 use Rattle.short_code.proofs.gather_digit.Statement.{statement}
 use Rattle.short_code.proofs.gather_digit.Tie as tie
-use Rattle.short_code.proofs.gather_digit.Reads as reads
-use Rattle.short_code.proofs.gather_digit.Lts as lts
-use Rattle.symbol.proofs.combine.Reads as combine-reads
-use Rattle.symbol.proofs.copy.Reads as copy-reads
 
--- src/lib.rt:146:9
 returns : tie.Need-returns
 returns c = let a = c .before .before .before .args in gather-none (a .n) (a .s) (a .store .now) (a .p) (a .d) (a .begun) (a .out .now) (c .if1 .taken)
 
--- src/lib.rt:148:20
 sub-at : tie.Need-sub-at
 sub-at c = search needs
 
--- src/lib.rt:148:15
 mul-at : tie.Need-mul-at
 mul-at c =
     let a = c .before .before .before .args in
     let w = part-within (a .p * (a .n - 1)) (a .d) (a .s) (length (a .store .now)) (omega arith) (omega arith) (omega arith) in
     omega arith
 
--- src/lib.rt:148:30
 sub-at-2 : tie.Need-sub-at-2
 sub-at-2 c = search needs
 
--- src/lib.rt:148:15
 add-at : tie.Need-add-at
 add-at c =
     let a = c .before .before .before .args in
     let w = part-within (a .p * (a .n - 1)) (a .d) (a .s) (length (a .store .now)) (omega arith) (omega arith) (omega arith) in
     omega arith
 
--- src/lib.rt:148:14
 mul-at-2 : tie.Need-mul-at-2
 mul-at-2 c =
     let a = c .before .before .before .args in
     let w = part-within (a .p * (a .n - 1)) (a .d) (a .s) (length (a .store .now)) (omega arith) (omega arith) (omega arith) in
     omega arith
 
--- src/lib.rt:149:15
 add-end : tie.Need-add-end
 add-end c =
     let a = c .before .before .before .args in
     let w = part-within (a .p * (a .n - 1)) (a .d) (a .s) (length (a .store .now)) (omega arith) (omega arith) (omega arith) in
     omega arith
 
--- src/lib.rt:151:30
 sub-combine : tie.Need-sub-combine
 sub-combine c = search needs
 
--- src/lib.rt:151:30
 part-combine-start : tie.Need-part-combine-start
 part-combine-start c = search needs
 
--- src/lib.rt:151:30
 part-combine-end : tie.Need-part-combine-end
 part-combine-end c =
     let a = c .before .before .before .before .before .args in
     let w = part-within (a .p * (a .n - 1)) (a .d) (a .s) (length (a .store .now)) (omega arith) (omega arith) (omega arith) in
     omega arith
 
--- src/lib.rt:151:9
 combine-requires : tie.Need-combine-requires
 combine-requires c κs = search needs
 
--- src/lib.rt:152:9
 same-length : tie.Need-same-length
 same-length c = search needs
 
--- src/lib.rt:152:9
 returns-2 : tie.Need-returns-2
 returns-2 c =
     let g = c .before .before in
@@ -95,30 +77,24 @@ returns-2 c =
           ∙ ap (λ (t : Bool). cond t (xor .plus (a .out .now) x) x) (sym (g .before .before .before .if2 .taken)) ∙ one .1,
     )
 
--- src/lib.rt:154:23
 sub-copy : tie.Need-sub-copy
 sub-copy c = search needs
 
--- src/lib.rt:154:23
 part-copy-start : tie.Need-part-copy-start
 part-copy-start c = search needs
 
--- src/lib.rt:154:23
 part-copy-end : tie.Need-part-copy-end
 part-copy-end c =
     let a = c .before .before .before .before .before .args in
     let w = part-within (a .p * (a .n - 1)) (a .d) (a .s) (length (a .store .now)) (omega arith) (omega arith) (omega arith) in
     omega arith
 
--- src/lib.rt:154:5
 copy-requires : tie.Need-copy-requires
 copy-requires c κs = search needs
 
--- src/lib.rt:139:1
 same-length-2 : tie.Need-same-length-2
 same-length-2 c = search needs
 
--- src/lib.rt:139:1
 returns-3 : tie.Need-returns-3
 returns-3 c =
     let g = c .before .before in

@@ -1,6 +1,5 @@
 -- `short_code::query` meets its contract: the balancing digit is below n, so it is a byte, and it goes to the wanted position.
 use mathlib.Core.Path.{_≡_, ap, _∙_}
-use mathlib.Core.List.{List}
 use Prim.Native.Nat.{ℕ, _<_}
 use native.Mathlib.Omega.{arith}
 use borrow.Author.Needs.{needs}

@@ -1,7 +1,7 @@
 -- `short_code::recover` meets its contract: after each turn, what the symbols left will add to the message gives the whole.
 use mathlib.Core.Path.{_≡_, refl, sym, ap, ap₂, _∙_}
 use mathlib.Core.Bool.{Bool}
-use mathlib.Core.List.{List, [], flatMap}
+use mathlib.Core.List.{List, flatMap}
 use Prim.Native.Nat.{ℕ, _+_, _-_, _*_, _%_, _≤_, _<_}
 use native.Mathlib.Nat.{mod-lt, mul-le-mul-right, zero-mul}
 use native.Mathlib.Omega.{arith}
@@ -16,11 +16,6 @@ use Rattle.short_code.specs.Steps.{fromSlots}
 use Rattle.short_code.proofs.Slots.{from-length, recover-slots, write-done, write-more}
 use Rattle.short_code.proofs.recover.Statement.{statement}
 use Rattle.short_code.proofs.recover.Tie as tie
-use Rattle.short_code.proofs.recover.Reads as reads
-use Rattle.short_code.proofs.recover.Lts as lts
-use Rattle.short_code.proofs.all_below.Reads as all-below-reads
-use Rattle.short_code.proofs.digit_sum.Reads as digit-sum-reads
-use Rattle.short_code.proofs.recover_symbol.Reads as recover-symbol-reads
 
 abbrev Inv-loop : tie.InvT-loop
 Inv-loop n k s wanted key answers message₀ t empty d₀ message d =
@@ -31,7 +26,6 @@ Inv-loop n k s wanted key answers message₀ t empty d₀ message d =
 abbrev μ-loop : tie.MeasureT-loop
 μ-loop n k s wanted key answers message₀ t empty d₀ message d = n - d
 
--- src/lib.rt:217:9
 digit-sum-requires : tie.Need-digit-sum-requires Inv-loop μ-loop
 digit-sum-requires c κs = c .before .before .before .pre .1 .1 .0 .good
 
@@ -44,11 +38,9 @@ below c =
     let m : digitSum (a .key .now) % a .n < a .n = mod-lt (digitSum (a .key .now)) (omega arith) in
     omega (arith, c .digit-sum .ensures)
 
--- src/lib.rt:218:9
 all-below-requires : tie.Need-all-below-requires Inv-loop μ-loop
 all-below-requires c κs = search needs
 
--- src/lib.rt:220:5
 loop-holds : tie.Need-loop-holds Inv-loop μ-loop
 loop-holds c =
     let start = c .before .before .before .before .before in
@@ -57,7 +49,6 @@ loop-holds c =
     let f = fromSlots (a .n) (a .s) (c .before .digit-sum .result) (c .all-below .result) (a .answers .now) in
     (omega arith, omega arith, refl, ap (λ (at : ℕ). put at (flatMap f (range 1 (a .n - 1))) (a .message .now)) (zero-mul (a .s)))
 
--- src/lib.rt:221:9
 recover-symbol-requires : tie.Need-recover-symbol-requires Inv-loop μ-loop
 unfolding shortSizes
 recover-symbol-requires c κs =
@@ -71,15 +62,12 @@ recover-symbol-requires c κs =
     let w : at .loop .d * a .s ≤ (a .n - 1) * a .s = mul-le-mul-right (a .s) (omega arith) in
     ((t, omega arith, omega arith, omega arith), (slots, omega arith))
 
--- src/lib.rt:222:9
 add-d : tie.Need-add-d Inv-loop μ-loop
 add-d c = omega arith
 
--- src/lib.rt:220:5
 loop-less : tie.Need-loop-less Inv-loop μ-loop
 loop-less c = omega arith
 
--- src/lib.rt:220:5
 loop-again : tie.Need-loop-again Inv-loop μ-loop
 unfolding shortSizes
 loop-again c =
@@ -102,11 +90,9 @@ loop-again c =
           ∙ write-more f (a .n) (a .s) d (at .loop .message) (omega arith) (omega arith) long (omega arith) ∙ at .loop .inv .3,
     )
 
--- src/lib.rt:209:1
 same-length : tie.Need-same-length Inv-loop μ-loop
 same-length c = c .before .loop .inv .2
 
--- src/lib.rt:209:1
 returns : tie.Need-returns Inv-loop μ-loop
 unfolding shortSizes
 returns c =

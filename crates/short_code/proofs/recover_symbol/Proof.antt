@@ -2,7 +2,7 @@
 use mathlib.Core.Path.{_≡_, sym, ap, ap₂, _∙_}
 use mathlib.Core.Bool.{Bool}
 use mathlib.Core.List.{List, _++_}
-use Prim.Native.Nat.{ℕ, _+_, _-_, _*_, _%_, _<_, _≤_}
+use Prim.Native.Nat.{ℕ, _+_, _-_, _*_, _%_, _<_}
 use native.Mathlib.Nat.{add-sub-cancel-left, mod-lt}
 use native.Mathlib.Omega.{arith}
 use lib.ListN.{length, take, drop}
@@ -17,17 +17,10 @@ use Rattle.short_code.proofs.Slots.{slot-length, from-one, from-two}
 use borrow.Author.Needs.{needs}
 use Rattle.short_code.proofs.recover_symbol.Statement.{statement}
 use Rattle.short_code.proofs.recover_symbol.Tie as tie
-use Rattle.short_code.proofs.recover_symbol.Reads as reads
-use Rattle.short_code.proofs.recover_symbol.Lts as lts
-use Rattle.short_code.proofs.add_modulo.Reads as add-modulo-reads
-use Rattle.symbol.proofs.combine.Reads as combine-reads
-use Rattle.symbol.proofs.copy.Reads as copy-reads
 
--- src/lib.rt:195:16
 add-modulo-requires : tie.Need-add-modulo-requires
 add-modulo-requires c κs = search needs
 
--- src/lib.rt:195:16
 mul-from : tie.Need-mul-from
 mul-from c =
     let a = c .before .before .before .args in
@@ -35,7 +28,6 @@ mul-from c =
     let w = slot-end (c .add-modulo .result) (a .n) (a .s) (omega arith) in
     omega arith
 
--- src/lib.rt:196:20
 add-from-end : tie.Need-add-from-end
 add-from-end c =
     let a = c .before .before .before .args in
@@ -43,39 +35,30 @@ add-from-end c =
     let w = slot-end (c .add-modulo .result) (a .n) (a .s) (omega arith) in
     omega arith
 
--- src/lib.rt:197:15
 sub-at : tie.Need-sub-at
 sub-at c = search needs
 
--- src/lib.rt:197:14
 mul-at : tie.Need-mul-at
 mul-at c = let a = c .before .before .before .args in let w = slot-end (a .d - 1) (a .d) (a .s) (omega arith) in omega arith
 
--- src/lib.rt:198:15
 add-end : tie.Need-add-end
 add-end c = let a = c .before .before .before .args in let w = slot-end (a .d - 1) (a .d) (a .s) (omega arith) in omega arith
 
--- src/lib.rt:199:18
 sub-copy : tie.Need-sub-copy
 sub-copy c = search needs
 
--- src/lib.rt:199:18
 part-copy-start : tie.Need-part-copy-start
 part-copy-start c = search needs
 
--- src/lib.rt:199:18
 part-copy-end : tie.Need-part-copy-end
 part-copy-end c = let a = c .before .before .before .args in let w = slot-end (a .d - 1) (a .d) (a .s) (omega arith) in omega arith
 
--- src/lib.rt:199:41
 sub-copy-2 : tie.Need-sub-copy-2
 sub-copy-2 c = search needs
 
--- src/lib.rt:199:41
 part-copy-start-2 : tie.Need-part-copy-start-2
 part-copy-start-2 c = search needs
 
--- src/lib.rt:199:41
 part-copy-end-2 : tie.Need-part-copy-end-2
 part-copy-end-2 c =
     let a = c .before .before .before .before .args in
@@ -83,15 +66,12 @@ part-copy-end-2 c =
     let w = slot-end (c .before .add-modulo .result) (a .n) (a .s) (omega arith) in
     omega arith
 
--- src/lib.rt:199:5
 copy-requires : tie.Need-copy-requires
 copy-requires c κs = search needs
 
--- src/lib.rt:201:9
 same-length : tie.Need-same-length
 same-length c = search needs
 
--- src/lib.rt:201:9
 -- the first slot
 copied : (g : tie.After-copy) → g .copy .last .0 ≡ cut ((g .before .before .before .before .before .before .args .d + g .before .before .before .before .before .before .args .t) % g .before .before .before .before .before .before .args .n * g .before .before .before .before .before .before .args .s) (g .before .before .before .before .before .before .args .s) (g .before .before .before .before .before .before .args .answers .now)
 copied g =
@@ -114,50 +94,39 @@ returns c =
     (made ∙ from-one (a .n) (a .s) (a .t) (a .d) (a .answers .now) (omega arith) (omega arith) (omega arith)
     ∙ ap (λ (t : Bool). fromSlots (a .n) (a .s) (a .t) t (a .answers .now) (a .d)) (sym (c .if1 .taken)))
 
--- src/lib.rt:203:17
 mul-other : tie.Need-mul-other
 mul-other c = let a = c .before .before .before .before .before .before .before .before .before .args in let w = slot-end (a .t) (a .n) (a .s) (omega arith) in omega arith
 
--- src/lib.rt:204:21
 add-other-end : tie.Need-add-other-end
 add-other-end c = let a = c .before .before .before .before .before .before .before .before .before .args in let w = slot-end (a .t) (a .n) (a .s) (omega arith) in omega arith
 
--- src/lib.rt:205:21
 sub-combine : tie.Need-sub-combine
 sub-combine c = search needs
 
--- src/lib.rt:205:21
 part-combine-start : tie.Need-part-combine-start
 part-combine-start c = search needs
 
--- src/lib.rt:205:21
 part-combine-end : tie.Need-part-combine-end
 part-combine-end c =
     let a = c .before .before .before .before .before .before .before .before .before .args in
     let w = slot-end (a .d - 1) (a .d) (a .s) (omega arith) in
     omega arith
 
--- src/lib.rt:205:44
 sub-combine-2 : tie.Need-sub-combine-2
 sub-combine-2 c = search needs
 
--- src/lib.rt:205:44
 part-combine-start-2 : tie.Need-part-combine-start-2
 part-combine-start-2 c = search needs
 
--- src/lib.rt:205:44
 part-combine-end-2 : tie.Need-part-combine-end-2
 part-combine-end-2 c = let a = c .before .before .before .before .before .before .before .before .before .before .args in let w = slot-end (a .t) (a .n) (a .s) (omega arith) in omega arith
 
--- src/lib.rt:205:5
 combine-requires : tie.Need-combine-requires
 combine-requires c κs = search needs
 
--- src/lib.rt:189:1
 same-length-2 : tie.Need-same-length-2
 same-length-2 c = search needs
 
--- src/lib.rt:189:1
 returns-2 : tie.Need-returns-2
 returns-2 c =
     let h = c .before .before in
