@@ -8,7 +8,7 @@ use lib.ListN.{length, length-replicate}
 use Rattle.lists.specs.Below.{allBelow, Below}
 use Rattle.lists.proofs.Below.{allBelow-below}
 use Rattle.symbol.specs.Sum.{Sum, zeros, totalFrom, total}
-use Rattle.short_code.specs.Short.{symbolAt, named, orZeros, shortAnswerLength, shortAnswer}
+use Rattle.short_code.specs.Short.{allZero, symbolAt, named, orZeros, shortAnswerLength, shortAnswer}
 use Rattle.short_code.specs.Steps.{Row}
 use Rattle.short_code.proofs.Offsets.{symbol-length}
 use Rattle.short_code.proofs.ZeroRow.{length-none, length-some, answer-none, answer-some, named-zeros}
@@ -35,17 +35,17 @@ module _ (sum : Sum) (N K S : ℕ) (keeps : KeepsLength sum S) (store : List ℕ
       from-length (zeros S) 0 query (length-replicate S 0) (omega (arith, row .long)) (allBelow-below N query (row .digits))
 
   pub answer-long : (query : List ℕ) → Row N K query → length (shortAnswer sum N S store query) ≡ shortAnswerLength S query
-  answer-long query row = go (allBelow 1 query) refl
+  answer-long query row = go (allZero query) refl
     where
-      go : (t : Bool) → allBelow 1 query ≡ t → length (shortAnswer sum N S store query) ≡ shortAnswerLength S query
+      go : (t : Bool) → allZero query ≡ t → length (shortAnswer sum N S store query) ≡ shortAnswerLength S query
       go true e = ap length (answer-none sum N S store query e) ∙ sym (length-none S query e)
       go false e = ap length (answer-some sum N S store query e) ∙ total-length query row ∙ sym (length-some S query e)
 
 -- the row of zeros is answered with no bytes, and any other with one symbol at most
 pub answer-short : (S : ℕ) (query : List ℕ) → shortAnswerLength S query ≤ S
-answer-short S query = go (allBelow 1 query) refl
+answer-short S query = go (allZero query) refl
   where
-    go : (t : Bool) → allBelow 1 query ≡ t → shortAnswerLength S query ≤ S
+    go : (t : Bool) → allZero query ≡ t → shortAnswerLength S query ≤ S
     go true e = omega (arith, length-none S query e)
     go false e = omega (arith, length-some S query e)
 
@@ -53,9 +53,9 @@ answer-short S query = go (allBelow 1 query) refl
 pub answer-total : (sum : Sum) (N S : ℕ) (store query : List ℕ) → 0 < S → length (total sum S (named N S store 0 query)) ≡ S
     → orZeros S (shortAnswer sum N S store query) ≡ total sum S (named N S store 0 query)
 unfolding orZeros total totalFrom
-answer-total sum N S store query some long = go (allBelow 1 query) refl
+answer-total sum N S store query some long = go (allZero query) refl
   where
-    go : (t : Bool) → allBelow 1 query ≡ t → orZeros S (shortAnswer sum N S store query) ≡ total sum S (named N S store 0 query)
+    go : (t : Bool) → allZero query ≡ t → orZeros S (shortAnswer sum N S store query) ≡ total sum S (named N S store 0 query)
     go true e =
         ap (orZeros S) (answer-none sum N S store query e)
         ∙ ap (total sum S) (sym (named-zeros N S store 0 query e))

@@ -1,5 +1,6 @@
 -- Digits modulo N: their sums from place to place, and the balancing digit, which is the one digit with which they sum up to the
 -- server's number.
+use mathlib.Core.Bool.{true}
 use mathlib.Core.Path.{_≡_, refl, sym, ap, _∙_}
 use mathlib.Core.List.{List, [], _∷_}
 use Prim.Native.Nat.{ℕ, zero, suc, _+_, _-_, _%_, _≤_, _<_}
@@ -8,14 +9,16 @@ use native.Mathlib.Numerals.{add-one}
 use native.Mathlib.Omega.{arith}
 use lib.ListN.{length, getD, drop}
 use lib.Seq.{drop-cons}
+use Rattle.lists.specs.Below.{allBelow}
 use Rattle.lists.specs.Inserts.{insertAt}
-use Rattle.short_code.specs.Short.{digitSum, keySum, balancing}
+use Rattle.lists.proofs.Below.{allBelow-below}
+use Rattle.short_code.specs.Short.{allZero, digitSum, keySum, balancing}
 
 -- less than N too much is taken away at once
 pub once-around : (N a : ℕ) → N ≤ a → a - N < N → a % N ≡ a - N
 once-around N a h l = mod-eq-sub-mod h ∙ mod-eq-of-lt l
 
-pub sum-next : (l : List ℕ) (i : ℕ) → i < length l → digitSum (drop i l) ≡ getD l i 0 + digitSum (drop (i + 1) l)
+sum-next : (l : List ℕ) (i : ℕ) → i < length l → digitSum (drop i l) ≡ getD l i 0 + digitSum (drop (i + 1) l)
 unfolding digitSum
 sum-next l i h = rw (add-one, drop-cons l i 0)
 
@@ -33,6 +36,12 @@ unfolding digitSum
 sum-insert zero x l = refl
 sum-insert (suc at) x [] = refl
 sum-insert (suc at) x (y ∷ l) = let e = sum-insert at x l in omega arith
+
+pub sum-zeros : (l : List ℕ) → allZero l ≡ true → digitSum l ≡ 0
+unfolding allBelow digitSum
+sum-zeros [] e = refl
+sum-zeros (zero ∷ l) e = zero-add (digitSum l) ∙ sum-zeros l e
+sum-zeros (suc d ∷ l) e = let h = allBelow-below 1 (suc d ∷ l) e 0 (omega arith) in absurd (let w : ⊥ = omega arith in w)
 
 module _ (N n : ℕ) (key : List ℕ) (known : n < N) where
   -- with the balancing digit the sum is n

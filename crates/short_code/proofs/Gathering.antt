@@ -12,7 +12,7 @@ use Rattle.lists.specs.Below.{allBelow, Below}
 use Rattle.symbol.specs.Sum.{zeros, totalFrom, total}
 use Rattle.symbol.specs.Xor.{xor}
 use Rattle.symbol.proofs.XorBytes.{xor-zeros}
-use Rattle.short_code.specs.Short.{symbolAt, named}
+use Rattle.short_code.specs.Short.{allZero, symbolAt, named}
 use Rattle.short_code.specs.Steps.{gathered, begunBy}
 use Rattle.short_code.proofs.Offsets.{symbol-length}
 
@@ -55,7 +55,7 @@ module _ (N S : ℕ) (store : List ℕ) where
 
   -- what is gathered of a row that is not all zeros is the total
   pub gathered-total : (K p : ℕ) (row out : List ℕ) → length store ≡ K * ((N - 1) * S) → 0 < S → p + length row ≤ K → Below N row
-      → allBelow 1 row ≡ false → gathered false out (named N S store p row) ≡ total xor S (named N S store p row)
+      → allZero row ≡ false → gathered false out (named N S store p row) ≡ total xor S (named N S store p row)
   unfolding gathered named total totalFrom allBelow
   gathered-total K p [] out whole s h b e = let z : _≡_ {A = ℕ} 0 1 = cc in absurd (let w : ⊥ = omega arith in w)
   gathered-total K p (zero ∷ row) out whole s h b e = gathered-total K (suc p) row out whole s (omega arith) (λ i l. b (suc i) (omega arith)) e

@@ -14,7 +14,7 @@ use Rattle.short_code.specs.Short.{symbolAt, named}
 use Rattle.short_code.proofs.Offsets.{symbol-length}
 
 -- joined rows
-pub named-append : (N S : ℕ) (store : List ℕ) (p : ℕ) (row next : List ℕ)
+named-append : (N S : ℕ) (store : List ℕ) (p : ℕ) (row next : List ℕ)
     → named N S store p (row ++ next) ≡ named N S store p row ++ named N S store (p + length row) next
 unfolding named
 named-append N S store p [] next = ap (λ (n : ℕ). named N S store n next) (let e : p ≡ p + 0 = omega arith in e)

@@ -3,6 +3,7 @@ use mathlib.Core.Path.{_≡_, sym, ap, _∙_}
 use mathlib.Core.Bool.{true, _&&_, and-eq-true-iff}
 use mathlib.Core.List.{List}
 use Prim.Native.Nat.{ℕ, suc, _+_, _-_, _%_, _<_}
+use native.Mathlib.Nat.{zero-mod}
 use native.Mathlib.Omega.{arith}
 use borrow.Author.Tests.{eqb-true, eq-eqb}
 use lib.Dec.{eqb}
@@ -11,9 +12,9 @@ use Rattle.lists.specs.Below.{allBelow}
 use Rattle.lists.specs.Inserts.{insertAt, removeAt}
 use Rattle.lists.proofs.Below.{allBelow-below, below-allBelow}
 use Rattle.lists.proofs.Inserts.{insert-length, insert-below, remove-length, remove-below, remove-insert, insert-remove}
-use Rattle.short_code.specs.Short.{digitSum, balancing, shortQuery, shortAdmits}
+use Rattle.short_code.specs.Short.{allZero, digitSum, balancing, shortQuery, shortAdmits}
 use Rattle.short_code.specs.Steps.{Row}
-use Rattle.short_code.proofs.Digits.{sum-insert, balanced, balance-only, balance-below}
+use Rattle.short_code.proofs.Digits.{sum-insert, sum-zeros, balanced, balance-only, balance-below}
 
 -- the three tests of admission, as facts and back
 pub admits-row : (N K n : ℕ) (query : List ℕ) → shortAdmits N K n query ≡ true → Row N K query
@@ -22,7 +23,7 @@ admits-row N K n query e =
     let p = and-eq-true-iff (eqb (length query) K) (allBelow N query && eqb (digitSum query % N) n) .0 e in
     record { long = eqb-true (length query) K (p .0); digits = and-eq-true-iff (allBelow N query) (eqb (digitSum query % N) n) .0 (p .1) .0 }
 
-pub admits-sum : (N K n : ℕ) (query : List ℕ) → shortAdmits N K n query ≡ true → digitSum query % N ≡ n
+admits-sum : (N K n : ℕ) (query : List ℕ) → shortAdmits N K n query ≡ true → digitSum query % N ≡ n
 unfolding shortAdmits
 admits-sum N K n query e =
     let p = and-eq-true-iff (eqb (length query) K) (allBelow N query && eqb (digitSum query % N) n) .0 e in
@@ -32,13 +33,17 @@ admitted : (N K n : ℕ) (query : List ℕ) → Row N K query → digitSum query
 unfolding shortAdmits
 admitted N K n query row e = rw (eq-eqb (length query) K (row .long), row .digits, eq-eqb (digitSum query % N) n e)
 
+-- only server 0 admits the row of zeros
+pub zeros-server : (N K n : ℕ) (query : List ℕ) → shortAdmits N K n query ≡ true → allZero query ≡ true → n ≡ 0
+zeros-server N K n query e z = sym (admits-sum N K n query e) ∙ ap (λ (x : ℕ). x % N) (sum-zeros query z) ∙ zero-mod N
+
 -- a key of K - 1 digits below N, the message that it is used for, and a server
 module _ (N K wanted n : ℕ) (key : List ℕ) (message : wanted < K) (server : n < N) (long : length key ≡ K - 1) (good : allBelow N key ≡ true) where
   pub query-long : length (shortQuery N wanted n key) ≡ K
   unfolding shortQuery
   query-long = insert-length wanted (balancing N n key) key ∙ (let e : suc (length key) ≡ K = omega arith in e)
 
-  pub query-good : allBelow N (shortQuery N wanted n key) ≡ true
+  query-good : allBelow N (shortQuery N wanted n key) ≡ true
   unfolding shortQuery
   query-good =
       below-allBelow N (insertAt wanted (balancing N n key) key)

@@ -36,28 +36,28 @@ module _ (sum : Sum) (N K S : ℕ) (group : AbelianGroup sum S) (store : List �
       (below-drop N wanted key (allBelow-below N key good))
 
   -- the answer to the row with digit d at the wanted message, as recovery counts it
-  abbrev counted : ℕ → List ℕ
-  counted d = orZeros S (shortAnswer sum N S store (insertAt wanted d key))
+  abbrev asked : ℕ → List ℕ
+  asked d = orZeros S (shortAnswer sum N S store (insertAt wanted d key))
 
-  counted-none : counted 0 ≡ total sum S (namedBefore N S store wanted key ++ namedBehind N S store wanted key)
-  counted-none =
+  asked-none : asked 0 ≡ total sum S (namedBefore N S store wanted key ++ namedBehind N S store wanted key)
+  asked-none =
       let e = named-none N S store wanted key (omega arith) in
       answer-total sum N S store (insertAt wanted 0 key) some
       (ap (λ (xs : List (List ℕ)). length (total sum S xs)) e ∙ total-symbol sum S group (symbols-append sum S group before behind) .long)
       ∙ ap (total sum S) e
 
-  counted-one : (d : ℕ) → suc d < N → counted (suc d)
+  asked-one : (d : ℕ) → suc d < N → asked (suc d)
       ≡ total sum S (namedBefore N S store wanted key ++ (symbolAt N S store wanted d ∷ namedBehind N S store wanted key))
-  counted-one d h =
+  asked-one d h =
       let e = named-one N S store wanted key (omega arith) d in
       let x = symbol-whole N K S store whole some bytes wanted d message h in
       answer-total sum N S store (insertAt wanted (suc d) key) some
       (ap (λ (xs : List (List ℕ)). length (total sum S xs)) e ∙ total-symbol sum S group (symbols-append sum S group before (more x behind)) .long)
       ∙ ap (total sum S) e
 
-  found : (d : ℕ) → suc d < N → sum .minus (counted (suc d)) (counted 0) ≡ symbolAt N S store wanted d
+  found : (d : ℕ) → suc d < N → sum .minus (asked (suc d)) (asked 0) ≡ symbolAt N S store wanted d
   found d h =
-      ap₂ (sum .minus) (counted-one d h) counted-none
+      ap₂ (sum .minus) (asked-one d h) asked-none
       ∙ total-found sum S group (symbol-whole N K S store whole some bytes wanted d message h) before behind
 
   -- the honest answer of a server, by the digit that it was asked for

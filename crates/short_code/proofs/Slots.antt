@@ -21,7 +21,7 @@ use Rattle.symbol.specs.Sum.{zeros}
 use Rattle.symbol.specs.Xor.{xor}
 use Rattle.symbol.proofs.XorBytes.{xor-zeros, xor-bytes-comm, xor-length}
 use Rattle.scheme.specs.Scheme.{answersIn}
-use Rattle.short_code.specs.Short.{digitSum, keySum, balancing, shortQuery, shortAnswerLength, orZeros, recovered, shortRecover, shortScheme}
+use Rattle.short_code.specs.Short.{allZero, digitSum, keySum, balancing, shortQuery, shortAnswerLength, orZeros, recovered, shortRecover, shortScheme}
 use Rattle.short_code.specs.Steps.{fromSlots}
 use Rattle.short_code.proofs.Digits.{balance-turn, balance-none}
 use Rattle.short_code.proofs.ZeroRow.{zeros-more, zeros-broken, length-some}
@@ -54,8 +54,8 @@ module _ (N S T d : ℕ) (answers : List ℕ) (known : T < N) (some : 0 < S) (ro
   from-length empty = xor-length (cut ((d + T) % N * S) S answers) _ ∙ slot-length N S ((d + T) % N) answers (mod-lt (d + T) (omega arith)) room
 
 -- the symbol of digit d by the rule, from the answers in the slots
-pub recovered-slots : (N K S wanted d : ℕ) (key answers : List ℕ) → 0 < d → d < N → 0 < S → N * S ≤ length answers
-    → recovered xor N S key (answersIn (shortScheme xor N K S) N wanted key answers) d ≡ fromSlots N S (keySum N key) (allBelow 1 key) answers d
+recovered-slots : (N K S wanted d : ℕ) (key answers : List ℕ) → 0 < d → d < N → 0 < S → N * S ≤ length answers
+    → recovered xor N S key (answersIn (shortScheme xor N K S) N wanted key answers) d ≡ fromSlots N S (keySum N key) (allZero key) answers d
 unfolding recovered answersIn shortSizes shortQuery shortAnswerLength fromSlots
 recovered-slots N K S wanted zero key answers low h s room = absurd (not-suc-le-zero low)
 recovered-slots N K S wanted (suc d) key answers low h s room =
@@ -68,17 +68,17 @@ recovered-slots N K S wanted (suc d) key answers low h s room =
     ap (orZeros S) (mapped-at asked [] N i known ∙ ap (slot i) (balance-turn N (suc d) key h)
     ∙ ap (λ (n : ℕ). cut (i * S) n answers) (length-some S (insertAt wanted (suc d) key) (zeros-broken wanted d key)))
     ∙ or-zeros-some S (cut (i * S) S answers) (let long = slot-length N S i answers known room in omega arith) in
-    let other : getD (map asked (range 0 N)) T [] ≡ cut (T * S) (cond (allBelow 1 key) 0 S) answers =
+    let other : getD (map asked (range 0 N)) T [] ≡ cut (T * S) (cond (allZero key) 0 S) answers =
     mapped-at asked [] N T (mod-lt (digitSum key) (omega arith)) ∙ ap (slot T) (balance-none N key (omega arith))
     ∙ ap (λ (t : Bool). cut (T * S) (cond t 0 S) answers) (zeros-more wanted key) in
     ap₂ (xor .minus) one (ap (orZeros S) other)
 
 -- and all of them
 pub recover-slots : (N K S wanted : ℕ) (key answers : List ℕ) → 0 < S → N * S ≤ length answers
-    → shortRecover xor N S key (answersIn (shortScheme xor N K S) N wanted key answers) ≡ flatMap (fromSlots N S (keySum N key) (allBelow 1 key) answers) (range 1 (N - 1))
+    → shortRecover xor N S key (answersIn (shortScheme xor N K S) N wanted key answers) ≡ flatMap (fromSlots N S (keySum N key) (allZero key) answers) (range 1 (N - 1))
 unfolding shortRecover
 recover-slots N K S wanted key answers s room =
-    joined-equal (recovered xor N S key (answersIn (shortScheme xor N K S) N wanted key answers)) (fromSlots N S (keySum N key) (allBelow 1 key) answers) 1 1 (N - 1)
+    joined-equal (recovered xor N S key (answersIn (shortScheme xor N K S) N wanted key answers)) (fromSlots N S (keySum N key) (allZero key) answers) 1 1 (N - 1)
     (λ i h. recovered-slots N K S wanted (i + 1) key answers (omega arith) (omega arith) s room)
 
 -- nothing is left to write

@@ -68,7 +68,7 @@ fn balancing_digit(n: usize, server: usize, key: &[u8]) -> usize
     server + (n - sum)
 }
 
-// Whether a key of the right length has only digits that it may have.
+// Whether a key of the right length is valid: all its digits are below n.
 pub fn key_good(n: usize, key: &[u8]) -> bool
     ensures { λ r. ⌜ r ≡ allBelow n (now (key .entry)) ⌝ }
 {
@@ -221,7 +221,7 @@ fn recover_symbol(
     symbol::combine(&mut message[at..end], &answers[other..other_end]);
 }
 
-// Writes the wanted message, from the slots of the answer buffer. The key is enough: k and `wanted` say what it was used for.
+// Writes the wanted message, from the slots of the answer buffer. The key is enough: k and `wanted` say which fetch it is.
 pub fn recover(
     n: usize,
     k: usize,
@@ -232,7 +232,6 @@ pub fn recover(
     message: &mut [u8],
 )
     requires { ⌜ shortFits n k s ≡ true ⌝ }
-    requires { ⌜ wanted < k ⌝ }
     requires { ⌜ Valid (shortScheme xor n k s) (now key) ⌝ }
     requires { ⌜ n * shortSizes n k s .slot ≤ length (now answers) ⌝ }
     requires { ⌜ shortSizes n k s .message ≤ length (now message) ⌝ }

@@ -12,7 +12,7 @@ use Rattle.lists.proofs.Below.{allBelow-below}
 use Rattle.parameters.specs.Measures.{shortSizes}
 use Rattle.parameters.proofs.Bounds.{short-bounds}
 use Rattle.symbol.specs.Xor.{xor}
-use Rattle.short_code.specs.Short.{shortAnswer}
+use Rattle.short_code.specs.Short.{allZero, shortAnswer}
 use Rattle.short_code.proofs.ZeroRow.{room-some, answer-none, answer-some}
 use Rattle.short_code.proofs.Gathering.{gathered-total}
 use borrow.Author.Needs.{needs}
@@ -60,7 +60,7 @@ returns-2 c =
     let a = start .args in
     let row = start .pre .1 .1 .0 in
     let b = short-bounds (a .n) (a .k) (a .s) (start .pre .0) in
-    let some : allBelow 1 (a .query .now) ≡ false = sym (g .before .before .before .all-below .ensures) ∙ g .before .before .if1 .left in
+    let some : allZero (a .query .now) ≡ false = sym (g .before .before .before .all-below .ensures) ∙ g .before .before .if1 .left in
     let last = g .gather .last .1 .1 .1 .1 .1 .0 in
     let made : last ≡ shortAnswer xor (a .n) (a .s) (a .store .now) (a .query .now) =
     g .gather .ensures

@@ -27,7 +27,7 @@ abbrev μ-loop : tie.MeasureT-loop
 μ-loop n k s wanted key answers message₀ t empty d₀ message d = n - d
 
 digit-sum-requires : tie.Need-digit-sum-requires Inv-loop μ-loop
-digit-sum-requires c κs = c .before .before .before .pre .1 .1 .0 .good
+digit-sum-requires c κs = c .before .before .before .pre .1 .0 .good
 
 -- the key's sum is a server's number
 below : (c : tie.After-digit-sum Inv-loop μ-loop) → c .digit-sum .result < c .before .before .before .before .args .n
@@ -57,8 +57,8 @@ recover-symbol-requires c κs =
     let a = start .args in
     let b = short-bounds (a .n) (a .k) (a .s) (start .pre .0) in
     let t : at .before .before .digit-sum .result < a .n = below (at .before .before) in
-    let room : (a .n - 1) * a .s ≤ length (a .message .now) = start .pre .1 .1 .1 .1 in
-    let slots : a .n * a .s ≤ length (a .answers .now) = start .pre .1 .1 .1 .0 in
+    let room : (a .n - 1) * a .s ≤ length (a .message .now) = start .pre .1 .1 .1 in
+    let slots : a .n * a .s ≤ length (a .answers .now) = start .pre .1 .1 .0 in
     let w : at .loop .d * a .s ≤ (a .n - 1) * a .s = mul-le-mul-right (a .s) (omega arith) in
     ((t, omega arith, omega arith, omega arith), (slots, omega arith))
 
@@ -79,8 +79,8 @@ loop-again c =
     let d = at .loop .d in
     let t = at .before .before .digit-sum .result in
     let f = fromSlots (a .n) (a .s) t (at .before .all-below .result) (a .answers .now) in
-    let room : (a .n - 1) * a .s ≤ length (a .message .now) = start .pre .1 .1 .1 .1 in
-    let slots : a .n * a .s ≤ length (a .answers .now) = start .pre .1 .1 .1 .0 in
+    let room : (a .n - 1) * a .s ≤ length (a .message .now) = start .pre .1 .1 .1 in
+    let slots : a .n * a .s ≤ length (a .answers .now) = start .pre .1 .1 .0 in
     let w : d * a .s ≤ (a .n - 1) * a .s = mul-le-mul-right (a .s) (omega arith) in
     let long : length (f d) ≡ a .s = from-length (a .n) (a .s) t d (a .answers .now) (below (at .before .before)) (omega arith) slots (at .before .all-below .result) in (
       omega arith,
@@ -105,7 +105,7 @@ returns c =
     ∙ at .loop .inv .3
     ∙ ap₂ (λ (t : ℕ) (empty : Bool). put 0 (flatMap (f t empty) (range 1 (a .n - 1))) (a .message .now)) (at .before .before .digit-sum .ensures) (at .before .all-below .ensures)
     ∙ ap (λ (l : List ℕ). put 0 l (a .message .now))
-    (sym (recover-slots (a .n) (a .k) (a .s) (a .wanted) (a .key .now) (a .answers .now) (b .symbol-low) (start .pre .1 .1 .1 .0)))
+    (sym (recover-slots (a .n) (a .k) (a .s) (a .wanted) (a .key .now) (a .answers .now) (b .symbol-low) (start .pre .1 .1 .0)))
 
 pub recover-spec : {M : Type 1} → statement M
 recover-spec =
