@@ -5,7 +5,7 @@ use mathlib.Core.List.{List, [], _∷_}
 use Prim.Native.Nat.{ℕ, zero, suc, _+_, _-_, _*_, _≤_, _<_}
 use native.Mathlib.Omega.{arith}
 use lib.ListN.{length, length-replicate}
-use Rattle.lists.specs.Below.{allBelow, Below}
+use Rattle.lists.specs.Below.{Below}
 use Rattle.lists.proofs.Below.{allBelow-below}
 use Rattle.symbol.specs.Sum.{Sum, zeros, totalFrom, total}
 use Rattle.short_code.specs.Short.{allZero, symbolAt, named, orZeros, shortAnswerLength, shortAnswer}

@@ -9,7 +9,6 @@ use native.Mathlib.Omega.{arith}
 use lib.ListN.{length, getD, length-replicate}
 use Rattle.lists.specs.Parts.{cut, put}
 use Rattle.lists.specs.Ranges.{range}
-use Rattle.lists.specs.Below.{allBelow}
 use Rattle.lists.specs.Inserts.{insertAt}
 use Rattle.lists.proofs.Parts.{cut-length}
 use Rattle.lists.proofs.Slots.{slot-end}
@@ -87,17 +86,19 @@ unfolding range flatMap
 write-done f N S d message h =
     ap (λ (n : ℕ). put ((d - 1) * S) (flatMap f (range d n)) message) (let e : N - d ≡ 0 = omega arith in e) ∙ put-nil ((d - 1) * S) message
 
--- one symbol more: what is left to write
-pub write-more : (f : ℕ → List ℕ) (N S d : ℕ) (message : List ℕ) → 0 < d → d < N → length (f d) ≡ S → d * S ≤ length message
-    → put ((d + 1 - 1) * S) (flatMap f (range (d + 1) (N - (d + 1)))) (put ((d - 1) * S) (f d) message)
-    ≡ put ((d - 1) * S) (flatMap f (range d (N - d))) message
+-- a turn of the loop: one symbol more is written, and the symbols left give the whole as before
+pub write-more : (f : ℕ → List ℕ) (N S d : ℕ) (message : List ℕ) {message′ whole : List ℕ} → 0 < d → d < N → length (f d) ≡ S → d * S ≤ length message
+    → message′ ≡ put ((d - 1) * S) (f d) message → put ((d - 1) * S) (flatMap f (range d (N - d))) message ≡ whole
+    → put ((d + 1 - 1) * S) (flatMap f (range (d + 1) (N - (d + 1)))) message′ ≡ whole
 unfolding range flatMap
-write-more f N S d message low h long room =
+write-more f N S d message {message′} low h long room written e =
     let rest = flatMap f (range (suc d) (N - suc d)) in
     let within = slot-end (d - 1) d S (omega arith) in
     let count : suc (N - suc d) ≡ N - d = omega arith in
     let place : (d + 1 - 1) * S ≡ (d - 1) * S + length (f d) =
     ap (λ (n : ℕ). n * S) (let e : d + 1 - 1 ≡ suc (d - 1) = omega arith in e) ∙ suc-mul (d - 1) S ∙ ap (λ (n : ℕ). (d - 1) * S + n) (sym long) in
-    ap₂ (λ (n m : ℕ). put n (flatMap f (range m (N - m))) (put ((d - 1) * S) (f d) message)) place (add-one d)
+    ap₂ (λ (n m : ℕ). put n (flatMap f (range m (N - m))) message′) place (add-one d)
+    ∙ ap (put ((d - 1) * S + length (f d)) rest) written
     ∙ put-put ((d - 1) * S) (f d) rest message (omega arith)
     ∙ ap (λ (n : ℕ). put ((d - 1) * S) (flatMap f (range d n)) message) count
+    ∙ e

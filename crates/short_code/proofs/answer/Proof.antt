@@ -1,20 +1,17 @@
 -- `short_code::answer` meets its contract: the row of zeros is left alone, and of any other row the total is gathered.
 use mathlib.Core.Path.{_≡_, sym, ap, _∙_}
 use mathlib.Core.Bool.{false}
-use mathlib.Core.List.{List, _++_}
+use mathlib.Core.List.{List}
 use Prim.Native.Nat.{ℕ, _≤_}
-use native.Mathlib.Omega.{arith}
-use lib.ListN.{length, take, drop}
+use lib.ListN.{length, take}
 use lib.Seq.{length-take-le}
 use Rattle.lists.specs.Parts.{put}
-use Rattle.lists.specs.Below.{allBelow}
-use Rattle.lists.proofs.Below.{allBelow-below}
 use Rattle.parameters.specs.Measures.{shortSizes}
 use Rattle.parameters.proofs.Bounds.{short-bounds}
 use Rattle.symbol.specs.Xor.{xor}
-use Rattle.short_code.specs.Short.{allZero, shortAnswer}
-use Rattle.short_code.proofs.ZeroRow.{room-some, answer-none, answer-some}
-use Rattle.short_code.proofs.Gathering.{gathered-total}
+use Rattle.short_code.specs.Short.{allZero}
+use Rattle.short_code.proofs.ZeroRow.{room-some, answer-none}
+use Rattle.short_code.proofs.Gathering.{gathered-answer}
 use borrow.Author.Needs.{needs}
 use Rattle.short_code.proofs.answer.Statement.{statement}
 use Rattle.short_code.proofs.answer.Tie as tie
@@ -58,18 +55,11 @@ returns-2 c =
     let g = c .before .before in
     let start = g .before .before .before .before .before .before .before in
     let a = start .args in
-    let row = start .pre .1 .1 .0 in
     let b = short-bounds (a .n) (a .k) (a .s) (start .pre .0) in
     let some : allZero (a .query .now) ≡ false = sym (g .before .before .before .all-below .ensures) ∙ g .before .before .if1 .left in
-    let last = g .gather .last .1 .1 .1 .1 .1 .0 in
-    let made : last ≡ shortAnswer xor (a .n) (a .s) (a .store .now) (a .query .now) =
-    g .gather .ensures
-    ∙ gathered-total (a .n) (a .s) (a .store .now) (a .k) 0 (a .query .now) (take (a .s) (a .out .now)) (start .pre .1 .0) (b .symbol-low)
-    (omega (arith, row .long)) (allBelow-below (a .n) (a .query .now) (row .digits)) some
-    ∙ sym (answer-some xor (a .n) (a .s) (a .store .now) (a .query .now) some) in
-    let long : a .s ≡ length last =
-    sym (g .gather .kept .1 .1 .1 .1 .1 .0 ∙ length-take-le (a .s) (a .out .now) (roomy (g .before .before))) in
-    ap (λ (n : ℕ). last ++ drop n (a .out .now)) long ∙ ap (λ (l : List ℕ). put 0 l (a .out .now)) made
+    gathered-answer (a .n) (a .s) (a .store .now) (a .k) (a .query .now) (take (a .s) (a .out .now)) (a .out .now) (start .pre .1 .0) (b .symbol-low) (start .pre .1 .1 .0) some
+    (g .gather .ensures)
+    (g .gather .kept .1 .1 .1 .1 .1 .0 ∙ length-take-le (a .s) (a .out .now) (roomy (g .before .before)))
 
 pub answer-spec : {M : Type 1} → statement M
 answer-spec =

@@ -1,8 +1,8 @@
 -- `short_code::gather` meets its contract: what is gathered so far, with what the digits left will name, gives the whole.
-use mathlib.Core.Path.{_≡_, refl, sym, ap, ap₂, _∙_}
-use mathlib.Core.Bool.{Bool, false}
+use mathlib.Core.Path.{_≡_, refl, sym, ap, _∙_}
+use mathlib.Core.Bool.{false}
 use mathlib.Core.List.{List}
-use Prim.Native.Nat.{ℕ, _+_, _-_, _≤_, _<_}
+use Prim.Native.Nat.{ℕ, _-_, _≤_, _<_}
 use native.Mathlib.Omega.{arith}
 use lib.ListN.{length, getD, drop, drop-of-length-le}
 use Rattle.lists.proofs.Below.{allBelow-below}
@@ -62,9 +62,7 @@ loop-again c =
     let h : p < length (a .query .now) = omega (arith, row .long) in (
       omega arith,
       g .gather-digit .kept .1 .1 .1 .1 .1 .1 .0 ∙ at .loop .inv .1,
-      ap₂ (λ (t : Bool) (l : List ℕ). gathered t l (named (a .n) (a .s) (a .store .now) (p + 1) (drop (p + 1) (a .query .now)))) (g .gather-digit .ensures .0) (g .gather-digit .ensures .1)
-          ∙ gather-more (a .n) (a .s) (a .store .now) p (a .query .now) (at .loop .begun) (at .loop .out) h
-          ∙ at .loop .inv .2,
+      gather-more (a .n) (a .s) (a .store .now) p (a .query .now) (at .loop .begun) (at .loop .out) h (g .gather-digit .ensures .0) (g .gather-digit .ensures .1) (at .loop .inv .2),
     )
 
 same-length : tie.Need-same-length Inv-loop μ-loop

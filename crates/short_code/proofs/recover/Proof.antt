@@ -2,7 +2,7 @@
 use mathlib.Core.Path.{_≡_, refl, sym, ap, ap₂, _∙_}
 use mathlib.Core.Bool.{Bool}
 use mathlib.Core.List.{List, flatMap}
-use Prim.Native.Nat.{ℕ, _+_, _-_, _*_, _%_, _≤_, _<_}
+use Prim.Native.Nat.{ℕ, _-_, _*_, _%_, _≤_, _<_}
 use native.Mathlib.Nat.{mod-lt, mul-le-mul-right, zero-mul}
 use native.Mathlib.Omega.{arith}
 use borrow.Author.Needs.{needs}
@@ -86,8 +86,7 @@ loop-again c =
       omega arith,
       omega arith,
       g .recover-symbol .kept .1 .1 .1 .1 .1 .1 .0 ∙ at .loop .inv .2,
-      ap (put ((d + 1 - 1) * a .s) (flatMap f (range (d + 1) (a .n - (d + 1))))) (g .recover-symbol .ensures)
-          ∙ write-more f (a .n) (a .s) d (at .loop .message) (omega arith) (omega arith) long (omega arith) ∙ at .loop .inv .3,
+      write-more f (a .n) (a .s) d (at .loop .message) (omega arith) (omega arith) long (omega arith) (g .recover-symbol .ensures) (at .loop .inv .3),
     )
 
 same-length : tie.Need-same-length Inv-loop μ-loop
