@@ -94,9 +94,11 @@ fn insert(wanted: usize, digit: u8, key: &[u8], out: &mut [u8])
     requires { ⌜ (wanted ≤ length (now key)) × (length (now key) < length (now out)) ⌝ }
     ensures { λ _. ⌜ now (out .exit) ≡ put 0 (insertAt wanted digit (now (key .entry))) (now (out .entry)) ⌝ }
 {
+    let last = key.len();
     let mut p = 0;
-    while p <= key.len() {
-        out[p] = query_digit(wanted, digit, key, p);
+    while p <= last {
+        let d = query_digit(wanted, digit, key, p);
+        out[p] = d;
         p += 1;
     }
 }

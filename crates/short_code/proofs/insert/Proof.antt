@@ -12,11 +12,11 @@ use Rattle.short_code.proofs.insert.Statement.{statement}
 use Rattle.short_code.proofs.insert.Tie as tie
 
 abbrev Inv-loop : tie.InvT-loop
-Inv-loop wanted digit key out₀ p₀ out p =
+Inv-loop wanted digit key out₀ last p₀ out p =
     (p ≤ suc (length key)) × (length out ≡ length out₀) × (out ≡ take p (insertAt wanted digit key) ++ drop p out₀)
 
 abbrev μ-loop : tie.MeasureT-loop
-μ-loop wanted digit key out₀ p₀ out p = suc (length key) - p
+μ-loop wanted digit key out₀ last p₀ out p = suc (length key) - p
 
 loop-holds : tie.Need-loop-holds Inv-loop μ-loop
 loop-holds c = (omega arith, refl, refl)
