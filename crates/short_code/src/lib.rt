@@ -189,7 +189,8 @@ pub fn answer(n: usize, k: usize, s: usize, store: &[u8], query: &[u8], out: &mu
     requires { ⌜ shortAnswerLength s (now query) ≤ length (now out) ⌝ }
     ensures { λ _. ⌜ now (out .exit) ≡ put 0 (shortAnswer xor n s (now (store .entry)) (now (query .entry))) (now (out .entry)) ⌝ }
 {
-    if all_below(1, query) {
+    let empty = all_below(1, query);
+    if empty {
         return;
     }
     gather(n, k, s, store, query, &mut out[..s]);
