@@ -3,3 +3,8 @@ pub mod Cuts
 pub mod Every
 pub mod Parts
 pub mod Puts
+pub mod Slots
+pub mod Writes
+pub mod Inserts
+pub mod Mapped
+pub mod Scans

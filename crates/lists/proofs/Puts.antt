@@ -8,7 +8,7 @@ use lib.Seq.{length-take-le, take-at, drop-at, drop-drop, drop-cons, take-suc, a
 use Rattle.lists.specs.Parts.{put}
 
 -- two parts side by side are one
-put-put : (at : ℕ) (a b buffer : List ℕ) → at ≤ length buffer → put (at + length a) b (put at a buffer) ≡ put at (a ++ b) buffer
+pub put-put : (at : ℕ) (a b buffer : List ℕ) → at ≤ length buffer → put (at + length a) b (put at a buffer) ≡ put at (a ++ b) buffer
 put-put at a b buffer h =
     let front = take at buffer ++ a in
     let rest = drop (length a) (drop at buffer) in

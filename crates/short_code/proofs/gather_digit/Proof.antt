@@ -1,0 +1,133 @@
+-- `short_code::gather_digit` meets its contract: the part that it lends is the symbol that the digit names.
+use mathlib.Core.Path.{sym, ap, _∙_}
+use mathlib.Core.Bool.{Bool, cond}
+use Prim.Native.Nat.{ℕ, _+_, _-_, _*_}
+use native.Mathlib.Nat.{add-sub-cancel-left}
+use native.Mathlib.Omega.{arith}
+use lib.ListN.{length, take, drop}
+use Rattle.lists.specs.Parts.{cut}
+use Rattle.symbol.specs.Xor.{xor}
+use Rattle.short_code.proofs.Offsets.{part-within}
+use Rattle.short_code.proofs.Gathering.{gather-none, gather-one}
+use borrow.Author.Needs.{needs}
+use Rattle.short_code.proofs.gather_digit.Statement.{statement}
+use Rattle.short_code.proofs.gather_digit.Tie as tie
+
+returns : tie.Need-returns
+returns c = let a = c .before .before .before .args in gather-none (a .n) (a .s) (a .store .now) (a .p) (a .d) (a .begun) (a .out .now) (c .if1 .taken)
+
+sub-at : tie.Need-sub-at
+sub-at c = search needs
+
+mul-at : tie.Need-mul-at
+mul-at c =
+    let a = c .before .before .before .args in
+    let w = part-within (a .p * (a .n - 1)) (a .d) (a .s) (length (a .store .now)) (omega arith) (omega arith) (omega arith) in
+    omega arith
+
+sub-at-2 : tie.Need-sub-at-2
+sub-at-2 c = search needs
+
+add-at : tie.Need-add-at
+add-at c =
+    let a = c .before .before .before .args in
+    let w = part-within (a .p * (a .n - 1)) (a .d) (a .s) (length (a .store .now)) (omega arith) (omega arith) (omega arith) in
+    omega arith
+
+mul-at-2 : tie.Need-mul-at-2
+mul-at-2 c =
+    let a = c .before .before .before .args in
+    let w = part-within (a .p * (a .n - 1)) (a .d) (a .s) (length (a .store .now)) (omega arith) (omega arith) (omega arith) in
+    omega arith
+
+add-end : tie.Need-add-end
+add-end c =
+    let a = c .before .before .before .args in
+    let w = part-within (a .p * (a .n - 1)) (a .d) (a .s) (length (a .store .now)) (omega arith) (omega arith) (omega arith) in
+    omega arith
+
+sub-combine : tie.Need-sub-combine
+sub-combine c = search needs
+
+part-combine-start : tie.Need-part-combine-start
+part-combine-start c = search needs
+
+part-combine-end : tie.Need-part-combine-end
+part-combine-end c =
+    let a = c .before .before .before .before .before .args in
+    let w = part-within (a .p * (a .n - 1)) (a .d) (a .s) (length (a .store .now)) (omega arith) (omega arith) (omega arith) in
+    omega arith
+
+combine-requires : tie.Need-combine-requires
+combine-requires c κs = search needs
+
+same-length : tie.Need-same-length
+same-length c = search needs
+
+returns-2 : tie.Need-returns-2
+returns-2 c =
+    let g = c .before .before in
+    let a = g .before .before .before .before .before .before .before .args in
+    let at = (a .p * (a .n - 1) + (a .d - 1)) * a .s in
+    let x = cut at (a .s) (a .store .now) in
+    let one = gather-one (a .n) (a .s) (a .store .now) (a .p) (a .d) (a .begun) (a .out .now) (omega arith) in (
+      one .0,
+      g .combine .ensures
+          ∙ ap (λ (m : ℕ). xor .plus (a .out .now) (take m (drop at (a .store .now)))) (add-sub-cancel-left at (a .s))
+          ∙ ap (λ (t : Bool). cond t (xor .plus (a .out .now) x) x) (sym (g .before .before .before .if2 .taken)) ∙ one .1,
+    )
+
+sub-copy : tie.Need-sub-copy
+sub-copy c = search needs
+
+part-copy-start : tie.Need-part-copy-start
+part-copy-start c = search needs
+
+part-copy-end : tie.Need-part-copy-end
+part-copy-end c =
+    let a = c .before .before .before .before .before .args in
+    let w = part-within (a .p * (a .n - 1)) (a .d) (a .s) (length (a .store .now)) (omega arith) (omega arith) (omega arith) in
+    omega arith
+
+copy-requires : tie.Need-copy-requires
+copy-requires c κs = search needs
+
+same-length-2 : tie.Need-same-length-2
+same-length-2 c = search needs
+
+returns-3 : tie.Need-returns-3
+returns-3 c =
+    let g = c .before .before in
+    let a = g .before .before .before .before .before .before .before .args in
+    let at = (a .p * (a .n - 1) + (a .d - 1)) * a .s in
+    let x = cut at (a .s) (a .store .now) in
+    let one = gather-one (a .n) (a .s) (a .store .now) (a .p) (a .d) (a .begun) (a .out .now) (omega arith) in (
+      one .0,
+      g .copy .ensures
+          ∙ ap (λ (m : ℕ). take m (drop at (a .store .now))) (add-sub-cancel-left at (a .s))
+          ∙ ap (λ (t : Bool). cond t (xor .plus (a .out .now) x) x) (sym (g .before .before .before .if2 .left)) ∙ one .1,
+    )
+
+pub gather-digit-spec : {M : Type 1} → statement M
+gather-digit-spec =
+    tie.close
+    (tie.spec
+    returns
+    sub-at
+    mul-at
+    sub-at-2
+    add-at
+    mul-at-2
+    add-end
+    sub-combine
+    part-combine-start
+    part-combine-end
+    combine-requires
+    same-length
+    returns-2
+    sub-copy
+    part-copy-start
+    part-copy-end
+    copy-requires
+    same-length-2
+    returns-3)

@@ -1,0 +1,186 @@
+-- `short_code::recover_symbol` meets its contract: the symbol's own part of the message holds one slot, and then the difference of two.
+use mathlib.Core.Path.{_≡_, sym, ap, ap₂, _∙_}
+use mathlib.Core.Bool.{Bool}
+use mathlib.Core.List.{List, _++_}
+use Prim.Native.Nat.{ℕ, _+_, _-_, _*_, _%_, _<_}
+use native.Mathlib.Nat.{add-sub-cancel-left, mod-lt}
+use native.Mathlib.Omega.{arith}
+use lib.ListN.{length, take, drop}
+use Rattle.lists.specs.Parts.{cut, put}
+use Rattle.lists.proofs.Parts.{put-part}
+use Rattle.lists.proofs.Slots.{slot-end, cut-put}
+use Rattle.lists.proofs.Writes.{put-over}
+use Rattle.symbol.specs.Xor.{xor}
+use Rattle.symbol.proofs.XorBytes.{xor-length}
+use Rattle.short_code.specs.Steps.{fromSlots}
+use Rattle.short_code.proofs.Slots.{slot-length, from-one, from-two}
+use borrow.Author.Needs.{needs}
+use Rattle.short_code.proofs.recover_symbol.Statement.{statement}
+use Rattle.short_code.proofs.recover_symbol.Tie as tie
+
+add-modulo-requires : tie.Need-add-modulo-requires
+add-modulo-requires c κs = search needs
+
+mul-from : tie.Need-mul-from
+mul-from c =
+    let a = c .before .before .before .args in
+    let m : (a .d + a .t) % a .n < a .n = mod-lt (a .d + a .t) (omega arith) in
+    let w = slot-end (c .add-modulo .result) (a .n) (a .s) (omega arith) in
+    omega arith
+
+add-from-end : tie.Need-add-from-end
+add-from-end c =
+    let a = c .before .before .before .args in
+    let m : (a .d + a .t) % a .n < a .n = mod-lt (a .d + a .t) (omega arith) in
+    let w = slot-end (c .add-modulo .result) (a .n) (a .s) (omega arith) in
+    omega arith
+
+sub-at : tie.Need-sub-at
+sub-at c = search needs
+
+mul-at : tie.Need-mul-at
+mul-at c = let a = c .before .before .before .args in let w = slot-end (a .d - 1) (a .d) (a .s) (omega arith) in omega arith
+
+add-end : tie.Need-add-end
+add-end c = let a = c .before .before .before .args in let w = slot-end (a .d - 1) (a .d) (a .s) (omega arith) in omega arith
+
+sub-copy : tie.Need-sub-copy
+sub-copy c = search needs
+
+part-copy-start : tie.Need-part-copy-start
+part-copy-start c = search needs
+
+part-copy-end : tie.Need-part-copy-end
+part-copy-end c = let a = c .before .before .before .args in let w = slot-end (a .d - 1) (a .d) (a .s) (omega arith) in omega arith
+
+sub-copy-2 : tie.Need-sub-copy-2
+sub-copy-2 c = search needs
+
+part-copy-start-2 : tie.Need-part-copy-start-2
+part-copy-start-2 c = search needs
+
+part-copy-end-2 : tie.Need-part-copy-end-2
+part-copy-end-2 c =
+    let a = c .before .before .before .before .args in
+    let m : (a .d + a .t) % a .n < a .n = mod-lt (a .d + a .t) (omega arith) in
+    let w = slot-end (c .before .add-modulo .result) (a .n) (a .s) (omega arith) in
+    omega arith
+
+copy-requires : tie.Need-copy-requires
+copy-requires c κs = search needs
+
+same-length : tie.Need-same-length
+same-length c = search needs
+
+-- the first slot
+copied : (g : tie.After-copy) → g .copy .last .0 ≡ cut ((g .before .before .before .before .before .before .args .d + g .before .before .before .before .before .before .args .t) % g .before .before .before .before .before .before .args .n * g .before .before .before .before .before .before .args .s) (g .before .before .before .before .before .before .args .s) (g .before .before .before .before .before .before .args .answers .now)
+copied g =
+    let m = g .before .before .before in
+    let a = m .before .before .before .args in
+    g .copy .ensures
+    ∙ ap (λ (n : ℕ). take n (drop (m .add-modulo .result * a .s) (a .answers .now))) (add-sub-cancel-left (m .add-modulo .result * a .s) (a .s))
+    ∙ ap (λ (i : ℕ). cut (i * a .s) (a .s) (a .answers .now)) (m .add-modulo .ensures)
+
+returns : tie.Need-returns
+returns c =
+    let g = c .before .before .before in
+    let a = g .before .before .before .before .before .before .args in
+    let at = (a .d - 1) * a .s in
+    let x = cut ((a .d + a .t) % a .n * a .s) (a .s) (a .answers .now) in
+    let made = copied g in
+    let long = slot-length (a .n) (a .s) ((a .d + a .t) % a .n) (a .answers .now) (mod-lt (a .d + a .t) (omega arith)) (omega arith) in
+    put-part at (a .s) (g .copy .last .0) (a .message .now) (ap length made ∙ long)
+    ∙ ap (λ (l : List ℕ). put at l (a .message .now))
+    (made ∙ from-one (a .n) (a .s) (a .t) (a .d) (a .answers .now) (omega arith) (omega arith) (omega arith)
+    ∙ ap (λ (t : Bool). fromSlots (a .n) (a .s) (a .t) t (a .answers .now) (a .d)) (sym (c .if1 .taken)))
+
+mul-other : tie.Need-mul-other
+mul-other c = let a = c .before .before .before .before .before .before .before .before .before .args in let w = slot-end (a .t) (a .n) (a .s) (omega arith) in omega arith
+
+add-other-end : tie.Need-add-other-end
+add-other-end c = let a = c .before .before .before .before .before .before .before .before .before .args in let w = slot-end (a .t) (a .n) (a .s) (omega arith) in omega arith
+
+sub-combine : tie.Need-sub-combine
+sub-combine c = search needs
+
+part-combine-start : tie.Need-part-combine-start
+part-combine-start c = search needs
+
+part-combine-end : tie.Need-part-combine-end
+part-combine-end c =
+    let a = c .before .before .before .before .before .before .before .before .before .args in
+    let w = slot-end (a .d - 1) (a .d) (a .s) (omega arith) in
+    omega arith
+
+sub-combine-2 : tie.Need-sub-combine-2
+sub-combine-2 c = search needs
+
+part-combine-start-2 : tie.Need-part-combine-start-2
+part-combine-start-2 c = search needs
+
+part-combine-end-2 : tie.Need-part-combine-end-2
+part-combine-end-2 c = let a = c .before .before .before .before .before .before .before .before .before .before .args in let w = slot-end (a .t) (a .n) (a .s) (omega arith) in omega arith
+
+combine-requires : tie.Need-combine-requires
+combine-requires c κs = search needs
+
+same-length-2 : tie.Need-same-length-2
+same-length-2 c = search needs
+
+returns-2 : tie.Need-returns-2
+returns-2 c =
+    let h = c .before .before in
+    let g = h .before .before .before .before .before .before in
+    let a = g .before .before .before .before .before .before .args in
+    let at = (a .d - 1) * a .s in
+    let x = cut ((a .d + a .t) % a .n * a .s) (a .s) (a .answers .now) in
+    let y = cut (a .t * a .s) (a .s) (a .answers .now) in
+    let last = h .combine .last .0 in
+    let made : g .copy .last .0 ≡ x = copied g in
+    let long : length x ≡ a .s = slot-length (a .n) (a .s) ((a .d + a .t) % a .n) (a .answers .now) (mod-lt (a .d + a .t) (omega arith)) (omega arith) in
+    let w = slot-end (a .d - 1) (a .d) (a .s) (omega arith) in
+    let first = put at x (a .message .now) in
+    let held : take at (a .message .now) ++ (g .copy .last .0 ++ drop (at + a .s - at) (drop at (a .message .now))) ≡ first =
+    put-part at (a .s) (g .copy .last .0) (a .message .now) (ap length made ∙ long) ∙ ap (λ (l : List ℕ). put at l (a .message .now)) made in
+    let both : last ≡ xor .plus x y =
+    h .combine .ensures
+    ∙ ap₂ (λ (l : List ℕ) (n : ℕ). xor .plus (take n (drop at l)) (take (a .t * a .s + a .s - a .t * a .s) (drop (a .t * a .s) (a .answers .now)))) held (add-sub-cancel-left at (a .s) ∙ sym long)
+    ∙ ap₂ (λ (l : List ℕ) (n : ℕ). xor .plus l (take n (drop (a .t * a .s) (a .answers .now)))) (cut-put at x (a .message .now) (omega arith)) (add-sub-cancel-left (a .t * a .s) (a .s)) in
+    let whole : length last ≡ a .s = ap length both ∙ xor-length x y ∙ long in
+    ap (λ (l : List ℕ). take at l ++ (last ++ drop (at + a .s - at) (drop at l))) held
+    ∙ put-part at (a .s) last first whole
+    ∙ put-over at x last (a .message .now) (omega arith) (long ∙ sym whole)
+    ∙ ap (λ (l : List ℕ). put at l (a .message .now))
+    (both ∙ from-two (a .n) (a .s) (a .t) (a .d) (a .answers .now) (omega arith) (omega arith) (omega arith)
+    ∙ ap (λ (t : Bool). fromSlots (a .n) (a .s) (a .t) t (a .answers .now) (a .d)) (sym (h .before .before .before .if1 .left)))
+
+pub recover-symbol-spec : {M : Type 1} → statement M
+recover-symbol-spec =
+    tie.close
+    (tie.spec
+    add-modulo-requires
+    mul-from
+    add-from-end
+    sub-at
+    mul-at
+    add-end
+    sub-copy
+    part-copy-start
+    part-copy-end
+    sub-copy-2
+    part-copy-start-2
+    part-copy-end-2
+    copy-requires
+    same-length
+    returns
+    mul-other
+    add-other-end
+    sub-combine
+    part-combine-start
+    part-combine-end
+    sub-combine-2
+    part-combine-start-2
+    part-combine-end-2
+    combine-requires
+    same-length-2
+    returns-2)

@@ -1,0 +1,250 @@
+// The short code of Tian, Sun and Chen: keys, queries, admission, answers and recovery, for n servers and k messages of n - 1
+// symbols of s bytes. The rule is specs/Short.antt.
+ghost use mathlib.Core.Path.{_≡_};
+ghost use mathlib.Core.Bool.{true, false};
+ghost use mathlib.Core.List.{[], _∷_};
+ghost use Prim.Native.Nat.{_+_, _-_, _*_, _%_, _≤_, _<_};
+ghost use lib.ListN.{length, getD};
+ghost use Rattle.lists.specs.Parts.{put};
+ghost use Rattle.lists.specs.Below.{allBelow};
+ghost use Rattle.lists.specs.Inserts.{insertAt};
+ghost use Rattle.parameters.specs.Bounds.{shortFits};
+ghost use Rattle.parameters.specs.Measures.{shortSizes};
+ghost use Rattle.symbol.specs.Xor.{xor};
+ghost use Rattle.scheme.specs.Scheme.{Valid, answersIn};
+ghost use Rattle.short_code.specs.Short.{digitSum, balancing, named, shortQuery, shortAdmits, shortAnswerLength, shortAnswer, shortScheme};
+ghost use Rattle.short_code.specs.Steps.{Row, gathered, begunBy, fromSlots};
+
+// Whether every digit is below n.
+fn all_below(n: usize, digits: &[u8]) -> bool
+    ensures { λ r. ⌜ r ≡ allBelow n (now (digits .entry)) ⌝ }
+{
+    let mut i = 0;
+    while i < digits.len() {
+        if n <= digits[i] as usize {
+            return false;
+        }
+        i += 1;
+    }
+    true
+}
+
+// (a + b) modulo n, without a division.
+fn add_modulo(n: usize, a: usize, b: usize) -> usize
+    requires { ⌜ (a < n) × (b < n) ⌝ }
+    ensures { λ r. ⌜ r ≡ (a + b) % n ⌝ }
+{
+    let left = n - a;
+    if b < left {
+        return a + b;
+    }
+    b - left
+}
+
+// The digits summed up, modulo n.
+fn digit_sum(n: usize, digits: &[u8]) -> usize
+    requires { ⌜ allBelow n (now digits) ≡ true ⌝ }
+    ensures { λ r. ⌜ r ≡ digitSum (now (digits .entry)) % n ⌝ }
+{
+    let mut sum = 0;
+    let mut i = 0;
+    while i < digits.len() {
+        sum = add_modulo(n, sum, digits[i] as usize);
+        i += 1;
+    }
+    sum
+}
+
+// The digit that makes the key's digits sum up to the server's number, modulo n.
+fn balancing_digit(n: usize, server: usize, key: &[u8]) -> usize
+    requires { ⌜ server < n ⌝ }
+    requires { ⌜ allBelow n (now key) ≡ true ⌝ }
+    ensures { λ r. ⌜ r ≡ balancing n server (now (key .entry)) ⌝ }
+{
+    let sum = digit_sum(n, key);
+    if sum <= server {
+        return server - sum;
+    }
+    server + (n - sum)
+}
+
+// Whether a key of the right length is valid: all its digits are below n.
+pub fn key_good(n: usize, key: &[u8]) -> bool
+    ensures { λ r. ⌜ r ≡ allBelow n (now (key .entry)) ⌝ }
+{
+    all_below(n, key)
+}
+
+// Digit p of the key with `digit` inserted at position `wanted`.
+fn query_digit(wanted: usize, digit: u8, key: &[u8], p: usize) -> u8
+    requires { ⌜ (wanted ≤ length (now key)) × (p ≤ length (now key)) ⌝ }
+    ensures { λ r. ⌜ r ≡ getD (insertAt wanted digit (now (key .entry))) p 0 ⌝ }
+{
+    if p < wanted {
+        return key[p];
+    }
+    if p == wanted {
+        return digit;
+    }
+    key[p - 1]
+}
+
+// Writes the key with `digit` inserted at position `wanted`.
+fn insert(wanted: usize, digit: u8, key: &[u8], out: &mut [u8])
+    requires { ⌜ (wanted ≤ length (now key)) × (length (now key) < length (now out)) ⌝ }
+    ensures { λ _. ⌜ now (out .exit) ≡ put 0 (insertAt wanted digit (now (key .entry))) (now (out .entry)) ⌝ }
+{
+    let last = key.len();
+    let mut p = 0;
+    while p <= last {
+        let d = query_digit(wanted, digit, key, p);
+        out[p] = d;
+        p += 1;
+    }
+}
+
+// Writes the server's query for the wanted message.
+pub fn query(n: usize, wanted: usize, server: usize, key: &[u8], out: &mut [u8])
+    requires { ⌜ (server < n) × (n ≤ 16) ⌝ }
+    requires { ⌜ allBelow n (now key) ≡ true ⌝ }
+    requires { ⌜ (wanted ≤ length (now key)) × (length (now key) < length (now out)) ⌝ }
+    ensures { λ _. ⌜ now (out .exit) ≡ put 0 (shortQuery n wanted server (now (key .entry))) (now (out .entry)) ⌝ }
+{
+    let digit = balancing_digit(n, server, key) as u8;
+    insert(wanted, digit, key, out);
+}
+
+// Whether the server admits the query.
+pub fn admits(n: usize, k: usize, server: usize, query: &[u8]) -> bool
+    ensures { λ r. ⌜ r ≡ shortAdmits n k server (now (query .entry)) ⌝ }
+{
+    if query.len() != k {
+        return false;
+    }
+    if !all_below(n, query) {
+        return false;
+    }
+    digit_sum(n, query) == server
+}
+
+// The bytes that the query calls for.
+pub fn answer_length(s: usize, query: &[u8]) -> usize
+    ensures { λ r. ⌜ r ≡ shortAnswerLength s (now (query .entry)) ⌝ }
+{
+    if all_below(1, query) {
+        return 0;
+    }
+    s
+}
+
+// Gathers the symbol that digit d of message p names in `out`, and says whether one has begun it now. Digit 0 names none.
+fn gather_digit(
+    n: usize,
+    s: usize,
+    store: &[u8],
+    p: usize,
+    d: usize,
+    begun: bool,
+    out: &mut [u8],
+) -> bool
+    requires { ⌜ (0 < n) × (0 < s) × ((p * (n - 1) + d) * s ≤ length (now store)) ⌝ }
+    requires { ⌜ length (now out) ≡ s ⌝ }
+    ensures { λ r. ⌜ r ≡ begunBy begun d ⌝ }
+    ensures { λ _. ⌜ now (out .exit) ≡ gathered begun (now (out .entry)) (named n s (now (store .entry)) p (d ∷ [])) ⌝ }
+{
+    if d == 0 {
+        return begun;
+    }
+    let at = (p * (n - 1) + (d - 1)) * s;
+    let end = at + s;
+    if begun {
+        symbol::combine(out, &store[at..end]);
+        return true;
+    }
+    symbol::copy(out, &store[at..end]);
+    true
+}
+
+// Gathers the symbols that the query names in `out`: one pass over its digits.
+fn gather(n: usize, k: usize, s: usize, store: &[u8], query: &[u8], out: &mut [u8])
+    requires { ⌜ shortFits n k s ≡ true ⌝ }
+    requires { ⌜ length (now store) ≡ shortSizes n k s .store ⌝ }
+    requires { ⌜ Row n k (now query) ⌝ }
+    requires { ⌜ length (now out) ≡ s ⌝ }
+    ensures { λ _. ⌜ now (out .exit) ≡ gathered false (now (out .entry)) (named n s (now (store .entry)) 0 (now (query .entry))) ⌝ }
+{
+    let mut begun = false;
+    let mut p = 0;
+    while p < k {
+        begun = gather_digit(n, s, store, p, query[p] as usize, begun, out);
+        p += 1;
+    }
+}
+
+// Writes the answer to a row that a server admits: nothing for the row of zeros.
+pub fn answer(n: usize, k: usize, s: usize, store: &[u8], query: &[u8], out: &mut [u8])
+    requires { ⌜ shortFits n k s ≡ true ⌝ }
+    requires { ⌜ length (now store) ≡ shortSizes n k s .store ⌝ }
+    requires { ⌜ Row n k (now query) ⌝ }
+    requires { ⌜ shortAnswerLength s (now query) ≤ length (now out) ⌝ }
+    ensures { λ _. ⌜ now (out .exit) ≡ put 0 (shortAnswer xor n s (now (store .entry)) (now (query .entry))) (now (out .entry)) ⌝ }
+{
+    let empty = all_below(1, query);
+    if empty {
+        return;
+    }
+    gather(n, k, s, store, query, &mut out[..s]);
+}
+
+// Writes the symbol that digit d names into its own part of the message. `empty`: server t's answer is, and its slot is not read.
+fn recover_symbol(
+    n: usize,
+    s: usize,
+    t: usize,
+    empty: bool,
+    answers: &[u8],
+    d: usize,
+    message: &mut [u8],
+)
+    requires { ⌜ (t < n) × (0 < d) × (d < n) × (0 < s) ⌝ }
+    requires { ⌜ n * s ≤ length (now answers) ⌝ }
+    requires { ⌜ d * s ≤ length (now message) ⌝ }
+    ensures { λ _. ⌜ now (message .exit) ≡ put ((d - 1) * s) (fromSlots n s t empty (now (answers .entry)) d) (now (message .entry)) ⌝ }
+{
+    let from = add_modulo(n, d, t) * s;
+    let from_end = from + s;
+    let at = (d - 1) * s;
+    let end = at + s;
+    symbol::copy(&mut message[at..end], &answers[from..from_end]);
+    if empty {
+        return;
+    }
+    let other = t * s;
+    let other_end = other + s;
+    symbol::combine(&mut message[at..end], &answers[other..other_end]);
+}
+
+// Writes the wanted message, from the slots of the answer buffer. The key is enough: k and `wanted` say which fetch it is.
+pub fn recover(
+    n: usize,
+    k: usize,
+    s: usize,
+    wanted: usize,
+    key: &[u8],
+    answers: &[u8],
+    message: &mut [u8],
+)
+    requires { ⌜ shortFits n k s ≡ true ⌝ }
+    requires { ⌜ Valid (shortScheme xor n k s) (now key) ⌝ }
+    requires { ⌜ n * shortSizes n k s .slot ≤ length (now answers) ⌝ }
+    requires { ⌜ shortSizes n k s .message ≤ length (now message) ⌝ }
+    ensures { λ _. ⌜ now (message .exit) ≡ put 0 (shortScheme xor n k s .recover wanted (now (key .entry)) (answersIn (shortScheme xor n k s) n wanted (now (key .entry)) (now (answers .entry)))) (now (message .entry)) ⌝ }
+{
+    let t = digit_sum(n, key);
+    let empty = all_below(1, key);
+    let mut d = 1;
+    while d < n {
+        recover_symbol(n, s, t, empty, answers, d, message);
+        d += 1;
+    }
+}
