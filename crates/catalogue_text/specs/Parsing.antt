@@ -21,11 +21,12 @@ use Rattle.catalogue_text.specs.declared.Lines.{Lines}
 use Rattle.catalogue_text.specs.declared.Reading.{Reading}
 use Rattle.catalogue_text.specs.Text.{codeText, serversName, messagesName, symbolName}
 
--- the first line: the code, by its number
+-- the code of a first line's value: 0 is short, 1 is even
 abbrev pub codeOf : ℕ → Code
 codeOf zero = Short
 codeOf (suc n) = Even
 
+-- the first line
 unfoldable pub codeLine : List ℕ → Line
 codeLine text =
     cond (begins (codeText Short) text) (Value 0 (length (codeText Short)))
@@ -53,10 +54,11 @@ abbrev pub linesBy : Verdict → Lines → Lines
 linesBy Accepted found = found
 linesBy (Refused refusal) found = refusedLines refusal
 
--- the four lines at the start of a text
+-- the four lines at the start of a text, in the catalogue's bounds
 unfoldable pub linesOf : List ℕ → Lines
 linesOf text = let found = fourLines text in linesBy (andThen (found .verdict) (catalogueVerdict (found .catalogue))) found
 
+-- the same of a whole text
 abbrev pub unread : Refusal → Reading
 unread refusal = record { verdict = Refused refusal; catalogue = zeroCatalogue }
 

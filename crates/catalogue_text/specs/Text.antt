@@ -12,7 +12,7 @@ abbrev pub codeText : Code → List ℕ
 codeText Short = ascii "code=short\n"
 codeText Even = ascii "code=even\n"
 
--- the names of N, K and S
+-- the names of N, K and S (01: mirrors, packs, piece)
 abbrev pub serversName : List ℕ
 serversName = ascii "mirrors="
 
@@ -22,6 +22,7 @@ messagesName = ascii "packs="
 abbrev pub symbolName : List ℕ
 symbolName = ascii "piece="
 
+-- the four lines
 unfoldable pub textOf : Catalogue → List ℕ
 textOf c =
     codeText (c .code)

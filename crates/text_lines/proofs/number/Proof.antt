@@ -30,7 +30,7 @@ unfolding numberAt
 returns-2 c =
     let from = c .before .before in
     let text = from .before .before .before .args .text .now in
-    simp (sym (from .before .digits .ensures .0), sym (from .is-numeral .ensures) ∙ not-false _ (c .before .if1 .left), List·getD-eq-default text 0 (c .if2 .taken))
+    simp (sym (from .before .digits .ensures .0), sym (from .is-numeral .ensures) ∙ not-false _ (c .before .if1 .left), List·getD-eq-default text 0 {n = from .before .digits .result} (omega arith))
 
 shared-slice-read-if3 : tie.Need-shared-slice-read-if3
 shared-slice-read-if3 c = search needs
