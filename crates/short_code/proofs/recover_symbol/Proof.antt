@@ -1,19 +1,19 @@
 -- `short_code::recover_symbol` meets its contract: the symbol's own part of the message holds one slot, and then the difference of two.
 use mathlib.Core.Path.{_≡_, sym, ap, ap₂, _∙_}
-use mathlib.Core.Bool.{Bool}
+use mathlib.Core.Bool.{Bool, false}
 use mathlib.Core.List.{List, _++_}
 use Prim.Native.Nat.{ℕ, _+_, _-_, _*_, _%_, _<_}
 use native.Mathlib.Nat.{add-sub-cancel-left, mod-lt}
 use native.Mathlib.Omega.{arith}
 use lib.ListN.{length, take, drop}
 use Rattle.lists.specs.Parts.{cut, put}
+use Rattle.lists.specs.Below.{Below}
 use Rattle.lists.proofs.Parts.{put-part}
 use Rattle.lists.proofs.Slots.{slot-end, cut-put}
 use Rattle.lists.proofs.Writes.{put-over}
 use Rattle.symbol.specs.Xor.{xor}
-use Rattle.symbol.proofs.XorBytes.{xor-length}
 use Rattle.short_code.specs.Steps.{fromSlots}
-use Rattle.short_code.proofs.Slots.{slot-length, from-one, from-two}
+use Rattle.short_code.proofs.Slots.{slot-length, from-one, from-two, from-length}
 use borrow.Author.Needs.{needs}
 use Rattle.short_code.proofs.recover_symbol.Statement.{statement}
 use Rattle.short_code.proofs.recover_symbol.Tie as tie
@@ -72,6 +72,9 @@ copy-requires c κs = search needs
 same-length : tie.Need-same-length
 same-length c = search needs
 
+bytes : (c : tie.After-shared-slice-known) → Below 256 (c .before .args .answers .now)
+bytes c i h = omega (arith, c .shared-slice-known .given i)
+
 -- the first slot
 copied : (g : tie.After-copy) → g .copy .last .0 ≡ cut ((g .before .before .before .before .before .before .args .d + g .before .before .before .before .before .before .args .t) % g .before .before .before .before .before .before .args .n * g .before .before .before .before .before .before .args .s) (g .before .before .before .before .before .before .args .s) (g .before .before .before .before .before .before .args .answers .now)
 copied g =
@@ -91,7 +94,7 @@ returns c =
     let long = slot-length (a .n) (a .s) ((a .d + a .t) % a .n) (a .answers .now) (mod-lt (a .d + a .t) (omega arith)) (omega arith) in
     put-part at (a .s) (g .copy .last .0) (a .message .now) (ap length made ∙ long)
     ∙ ap (λ (l : List ℕ). put at l (a .message .now))
-    (made ∙ from-one (a .n) (a .s) (a .t) (a .d) (a .answers .now) (omega arith) (omega arith) (omega arith)
+    (made ∙ from-one (a .n) (a .s) (a .t) (a .d) (a .answers .now) (omega arith) (omega arith) (omega arith) (bytes (g .before .before .before .before .before))
     ∙ ap (λ (t : Bool). fromSlots (a .n) (a .s) (a .t) t (a .answers .now) (a .d)) (sym (c .if1 .taken)))
 
 mul-other : tie.Need-mul-other
@@ -146,13 +149,15 @@ returns-2 c =
     h .combine .ensures
     ∙ ap₂ (λ (l : List ℕ) (n : ℕ). xor .plus (take n (drop at l)) (take (a .t * a .s + a .s - a .t * a .s) (drop (a .t * a .s) (a .answers .now)))) held (add-sub-cancel-left at (a .s) ∙ sym long)
     ∙ ap₂ (λ (l : List ℕ) (n : ℕ). xor .plus l (take n (drop (a .t * a .s) (a .answers .now)))) (cut-put at x (a .message .now) (omega arith)) (add-sub-cancel-left (a .t * a .s) (a .s)) in
-    let whole : length last ≡ a .s = ap length both ∙ xor-length x y ∙ long in
+    let sum : last ≡ fromSlots (a .n) (a .s) (a .t) false (a .answers .now) (a .d) =
+    both ∙ from-two (a .n) (a .s) (a .t) (a .d) (a .answers .now) (omega arith) (omega arith) (omega arith) (bytes (g .before .before .before .before .before)) in
+    let whole : length last ≡ a .s =
+    ap length sum ∙ from-length (a .n) (a .s) (a .t) (a .d) (a .answers .now) (omega arith) (omega arith) (omega arith) (bytes (g .before .before .before .before .before)) false in
     ap (λ (l : List ℕ). take at l ++ (last ++ drop (at + a .s - at) (drop at l))) held
     ∙ put-part at (a .s) last first whole
     ∙ put-over at x last (a .message .now) (omega arith) (long ∙ sym whole)
     ∙ ap (λ (l : List ℕ). put at l (a .message .now))
-    (both ∙ from-two (a .n) (a .s) (a .t) (a .d) (a .answers .now) (omega arith) (omega arith) (omega arith)
-    ∙ ap (λ (t : Bool). fromSlots (a .n) (a .s) (a .t) t (a .answers .now) (a .d)) (sym (h .before .before .before .if1 .left)))
+    (sum ∙ ap (λ (t : Bool). fromSlots (a .n) (a .s) (a .t) t (a .answers .now) (a .d)) (sym (h .before .before .before .if1 .left)))
 
 pub recover-symbol-spec : {M : Type 1} → statement M
 recover-symbol-spec =
