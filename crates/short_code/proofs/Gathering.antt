@@ -69,8 +69,8 @@ module _ (N S : ℕ) (store : List ℕ) where
       (sym (xor-group S .zero-plus (symbol-whole N K S store whole s bytes p d (omega arith) (b 0 (omega arith)))))
 
   -- and so it is the answer, which is written from the start of the buffer on
-  pub gathered-answer : (K : ℕ) (query start out : List ℕ) {last : List ℕ} → length store ≡ K * ((N - 1) * S) → 0 < S → Below 256 store → Row N K query → allZero query ≡ false
-      → last ≡ gathered false start (named N S store 0 query) → length last ≡ S → last ++ drop S out ≡ put 0 (shortAnswer xor N S store query) out
+  pub gathered-answer : (K : ℕ) (query start out : List ℕ) {last : List ℕ} → length store ≡ K * ((N - 1) * S) → 0 < S → Below 256 store
+      → Row N K query → allZero query ≡ false → last ≡ gathered false start (named N S store 0 query) → length last ≡ S → last ++ drop S out ≡ put 0 (shortAnswer xor N S store query) out
   gathered-answer K query start out {last} whole s bytes row z e long =
       let made : last ≡ shortAnswer xor N S store query =
       e ∙ gathered-total K 0 query start whole s bytes (omega (arith, row .long)) (allBelow-below N query (row .digits)) z

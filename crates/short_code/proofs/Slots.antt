@@ -3,10 +3,10 @@ use mathlib.Core.Path.{_≡_, refl, sym, ap, ap₂, _∙_}
 use mathlib.Core.Bool.{Bool, true, false, cond}
 use mathlib.Core.List.{List, [], _∷_, map, flatMap}
 use Prim.Native.Nat.{ℕ, zero, suc, _+_, _-_, _*_, _%_, _≤_, _<_}
-use native.Mathlib.Nat.{not-suc-le-zero, mod-lt, suc-mul}
+use native.Mathlib.Nat.{not-suc-le-zero, mod-lt, suc-mul, add-sub-cancel-left}
 use native.Mathlib.Numerals.{add-one}
 use native.Mathlib.Omega.{arith}
-use lib.ListN.{length, getD, drop}
+use lib.ListN.{length, getD, take, drop}
 use Rattle.lists.specs.Parts.{cut, put}
 use Rattle.lists.specs.Ranges.{range}
 use Rattle.lists.specs.Below.{Below}
@@ -36,6 +36,12 @@ or-zeros-some S (x ∷ answer) h = refl
 
 pub slot-length : (N S i : ℕ) (answers : List ℕ) → i < N → N * S ≤ length answers → length (cut (i * S) S answers) ≡ S
 slot-length N S i answers h room = cut-length (i * S) S answers (omega (arith, slot-end i N S h))
+
+-- a slot that was copied from its part of the buffer
+pub slot-copied : (i j S : ℕ) (answers : List ℕ) {last : List ℕ} → i ≡ j → last ≡ take (i * S + S - i * S) (drop (i * S) answers)
+    → last ≡ cut (j * S) S answers
+slot-copied i j S answers e made =
+    made ∙ ap (λ (n : ℕ). take n (drop (i * S) answers)) (add-sub-cancel-left (i * S) S) ∙ ap (λ (n : ℕ). cut (n * S) S answers) e
 
 module _ (N S T d : ℕ) (answers : List ℕ) (known : T < N) (some : 0 < S) (room : N * S ≤ length answers) (bytes : Below 256 answers) where
   slot-symbol : (i : ℕ) → i < N → Symbol S (cut (i * S) S answers)

@@ -62,8 +62,8 @@ returns-2 c =
     let a = start .args in
     let b = short-bounds (a .n) (a .k) (a .s) (start .pre .0) in
     let some : allZero (a .query .now) ≡ false = sym (g .before .before .before .all-below .ensures) ∙ g .before .before .if1 .left in
-    gathered-answer (a .n) (a .s) (a .store .now) (a .k) (a .query .now) (take (a .s) (a .out .now)) (a .out .now) (start .pre .1 .0) (b .symbol-low) (bytes (g .before .before .before .before .before .before)) (start .pre .1 .1 .0) some
-    (g .gather .ensures)
+    gathered-answer (a .n) (a .s) (a .store .now) (a .k) (a .query .now) (take (a .s) (a .out .now)) (a .out .now)
+    (start .pre .1 .0) (b .symbol-low) (bytes (g .before .before .before .before .before .before)) (start .pre .1 .1 .0) some (g .gather .ensures)
     (g .gather .kept .1 .1 .1 .1 .1 .0 ∙ length-take-le (a .s) (a .out .now) (roomy (g .before .before)))
 
 pub answer-spec : {M : Type 1} → statement M

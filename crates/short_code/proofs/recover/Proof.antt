@@ -86,7 +86,9 @@ loop-again c =
     let room : (a .n - 1) * a .s ≤ length (a .message .now) = start .pre .1 .1 .1 in
     let slots : a .n * a .s ≤ length (a .answers .now) = start .pre .1 .1 .0 in
     let w : d * a .s ≤ (a .n - 1) * a .s = mul-le-mul-right (a .s) (omega arith) in
-    let long : length (f d) ≡ a .s = from-length (a .n) (a .s) t d (a .answers .now) (below (at .before .before)) (omega arith) slots (bytes (at .before .before .before .before)) (at .before .all-below .result) in (
+    let long : length (f d) ≡ a .s =
+    from-length (a .n) (a .s) t d (a .answers .now) (below (at .before .before)) (omega arith) slots (bytes (at .before .before .before .before))
+    (at .before .all-below .result) in (
       omega arith,
       omega arith,
       g .recover-symbol .kept .1 .1 .1 .1 .1 .1 .0 ∙ at .loop .inv .2,
