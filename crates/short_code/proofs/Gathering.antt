@@ -11,12 +11,12 @@ use lib.Seq.{drop-cons}
 use Rattle.lists.specs.Parts.{put}
 use Rattle.lists.specs.Below.{allBelow, Below}
 use Rattle.lists.proofs.Below.{allBelow-below}
-use Rattle.symbol.specs.Sum.{zeros, totalFrom, total}
+use Rattle.symbol.specs.Sum.{totalFrom, total}
 use Rattle.symbol.specs.Xor.{xor}
-use Rattle.symbol.proofs.XorBytes.{xor-zeros}
+use Rattle.symbol.proofs.XorGroup.{xor-group}
 use Rattle.short_code.specs.Short.{allZero, symbolAt, named, shortAnswer}
 use Rattle.short_code.specs.Steps.{Row, gathered, begunBy}
-use Rattle.short_code.proofs.Offsets.{symbol-length}
+use Rattle.short_code.proofs.Named.{symbol-whole}
 use Rattle.short_code.proofs.ZeroRow.{answer-some}
 
 module _ (N S : ℕ) (store : List ℕ) where
@@ -59,21 +59,20 @@ module _ (N S : ℕ) (store : List ℕ) where
       ∙ e
 
   -- what is gathered of a row that is not all zeros is the total
-  gathered-total : (K p : ℕ) (row out : List ℕ) → length store ≡ K * ((N - 1) * S) → 0 < S → p + length row ≤ K → Below N row
+  gathered-total : (K p : ℕ) (row out : List ℕ) → length store ≡ K * ((N - 1) * S) → 0 < S → Below 256 store → p + length row ≤ K → Below N row
       → allZero row ≡ false → gathered false out (named N S store p row) ≡ total xor S (named N S store p row)
   unfolding gathered named total totalFrom allBelow
-  gathered-total K p [] out whole s h b e = let z : _≡_ {A = ℕ} 0 1 = cc in absurd (let w : ⊥ = omega arith in w)
-  gathered-total K p (zero ∷ row) out whole s h b e = gathered-total K (suc p) row out whole s (omega arith) (λ i l. b (suc i) (omega arith)) e
-  gathered-total K p (suc d ∷ row) out whole s h b e =
-      let x = symbolAt N S store p d in
-      let long : length x ≡ S = symbol-length N K S store p d whole s (omega arith) (b 0 (omega arith)) in
-      ap (λ (start : List ℕ). totalFrom xor start (named N S store (suc p) row)) (sym (ap (λ (n : ℕ). xor .plus (zeros n) x) (sym long) ∙ xor-zeros x))
+  gathered-total K p [] out whole s bytes h b e = let z : _≡_ {A = ℕ} 0 1 = cc in absurd (let w : ⊥ = omega arith in w)
+  gathered-total K p (zero ∷ row) out whole s bytes h b e = gathered-total K (suc p) row out whole s bytes (omega arith) (λ i l. b (suc i) (omega arith)) e
+  gathered-total K p (suc d ∷ row) out whole s bytes h b e =
+      ap (λ (start : List ℕ). totalFrom xor start (named N S store (suc p) row))
+      (sym (xor-group S .zero-plus (symbol-whole N K S store whole s bytes p d (omega arith) (b 0 (omega arith)))))
 
   -- and so it is the answer, which is written from the start of the buffer on
-  pub gathered-answer : (K : ℕ) (query start out : List ℕ) {last : List ℕ} → length store ≡ K * ((N - 1) * S) → 0 < S → Row N K query → allZero query ≡ false
-      → last ≡ gathered false start (named N S store 0 query) → length last ≡ S → last ++ drop S out ≡ put 0 (shortAnswer xor N S store query) out
-  gathered-answer K query start out {last} whole s row z e long =
+  pub gathered-answer : (K : ℕ) (query start out : List ℕ) {last : List ℕ} → length store ≡ K * ((N - 1) * S) → 0 < S → Below 256 store
+      → Row N K query → allZero query ≡ false → last ≡ gathered false start (named N S store 0 query) → length last ≡ S → last ++ drop S out ≡ put 0 (shortAnswer xor N S store query) out
+  gathered-answer K query start out {last} whole s bytes row z e long =
       let made : last ≡ shortAnswer xor N S store query =
-      e ∙ gathered-total K 0 query start whole s (omega (arith, row .long)) (allBelow-below N query (row .digits)) z
+      e ∙ gathered-total K 0 query start whole s bytes (omega (arith, row .long)) (allBelow-below N query (row .digits)) z
       ∙ sym (answer-some xor N S store query z) in
       ap (λ (n : ℕ). last ++ drop n out) (sym long) ∙ ap (λ (l : List ℕ). put 0 l out) made

@@ -3,22 +3,25 @@ use mathlib.Core.Path.{_≡_, refl, sym, ap, ap₂, _∙_}
 use mathlib.Core.Bool.{Bool, true, false, cond}
 use mathlib.Core.List.{List, [], _∷_, map, flatMap}
 use Prim.Native.Nat.{ℕ, zero, suc, _+_, _-_, _*_, _%_, _≤_, _<_}
-use native.Mathlib.Nat.{not-suc-le-zero, mod-lt, suc-mul}
+use native.Mathlib.Nat.{not-suc-le-zero, mod-lt, suc-mul, add-sub-cancel-left}
 use native.Mathlib.Numerals.{add-one}
 use native.Mathlib.Omega.{arith}
-use lib.ListN.{length, getD, length-replicate}
+use lib.ListN.{length, getD, take, drop}
 use Rattle.lists.specs.Parts.{cut, put}
 use Rattle.lists.specs.Ranges.{range}
+use Rattle.lists.specs.Below.{Below}
 use Rattle.lists.specs.Inserts.{insertAt}
+use Rattle.lists.proofs.Below.{below-take, below-drop}
 use Rattle.lists.proofs.Parts.{cut-length}
 use Rattle.lists.proofs.Slots.{slot-end}
 use Rattle.lists.proofs.Puts.{put-put}
 use Rattle.lists.proofs.Writes.{put-nil}
 use Rattle.lists.proofs.Mapped.{mapped-at, joined-equal}
 use Rattle.parameters.specs.Measures.{shortSizes}
-use Rattle.symbol.specs.Sum.{zeros}
+use Rattle.symbol.specs.Sum.{Symbol}
 use Rattle.symbol.specs.Xor.{xor}
-use Rattle.symbol.proofs.XorBytes.{xor-zeros, xor-bytes-comm, xor-length}
+use Rattle.symbol.proofs.Totals.{zeros-symbol}
+use Rattle.symbol.proofs.XorGroup.{xor-group}
 use Rattle.scheme.specs.Scheme.{answersIn}
 use Rattle.short_code.specs.Short.{allZero, digitSum, keySum, balancing, shortQuery, shortAnswerLength, orZeros, recovered, shortRecover, shortScheme}
 use Rattle.short_code.specs.Steps.{fromSlots}
@@ -34,13 +37,23 @@ or-zeros-some S (x ∷ answer) h = refl
 pub slot-length : (N S i : ℕ) (answers : List ℕ) → i < N → N * S ≤ length answers → length (cut (i * S) S answers) ≡ S
 slot-length N S i answers h room = cut-length (i * S) S answers (omega (arith, slot-end i N S h))
 
-module _ (N S T d : ℕ) (answers : List ℕ) (known : T < N) (some : 0 < S) (room : N * S ≤ length answers) where
+-- a slot that was copied from its part of the buffer
+pub slot-copied : (i j S : ℕ) (answers : List ℕ) {last : List ℕ} → i ≡ j → last ≡ take (i * S + S - i * S) (drop (i * S) answers)
+    → last ≡ cut (j * S) S answers
+slot-copied i j S answers e made =
+    made ∙ ap (λ (n : ℕ). take n (drop (i * S) answers)) (add-sub-cancel-left (i * S) S) ∙ ap (λ (n : ℕ). cut (n * S) S answers) e
+
+module _ (N S T d : ℕ) (answers : List ℕ) (known : T < N) (some : 0 < S) (room : N * S ≤ length answers) (bytes : Below 256 answers) where
+  slot-symbol : (i : ℕ) → i < N → Symbol S (cut (i * S) S answers)
+  slot-symbol i h =
+      record { long = slot-length N S i answers h room; bytes = below-take 256 S (drop (i * S) answers) (below-drop 256 (i * S) answers bytes) }
+
+  first-symbol : Symbol S (cut ((d + T) % N * S) S answers)
+  first-symbol = slot-symbol ((d + T) % N) (mod-lt (d + T) (omega arith))
+
   pub from-one : cut ((d + T) % N * S) S answers ≡ fromSlots N S T true answers d
   unfolding fromSlots orZeros
-  from-one =
-      let x = cut ((d + T) % N * S) S answers in
-      let long : length x ≡ S = slot-length N S ((d + T) % N) answers (mod-lt (d + T) (omega arith)) room in
-      sym (xor-bytes-comm x (zeros S) (long ∙ sym (length-replicate S 0)) ∙ ap (λ (n : ℕ). xor .plus (zeros n) x) (sym long) ∙ xor-zeros x)
+  from-one = sym (xor-group S .plus-comm first-symbol (zeros-symbol S) ∙ xor-group S .zero-plus first-symbol)
 
   pub from-two : xor .plus (cut ((d + T) % N * S) S answers) (cut (T * S) S answers) ≡ fromSlots N S T false answers d
   unfolding fromSlots
@@ -49,8 +62,8 @@ module _ (N S T d : ℕ) (answers : List ℕ) (known : T < N) (some : 0 < S) (ro
       ap (xor .minus (cut ((d + T) % N * S) S answers)) (sym (or-zeros-some S (cut (T * S) S answers) (omega arith)))
 
   pub from-length : (empty : Bool) → length (fromSlots N S T empty answers d) ≡ S
-  unfolding fromSlots
-  from-length empty = xor-length (cut ((d + T) % N * S) S answers) _ ∙ slot-length N S ((d + T) % N) answers (mod-lt (d + T) (omega arith)) room
+  from-length true = ap length (sym from-one) ∙ first-symbol .long
+  from-length false = ap length (sym from-two) ∙ xor-group S .plus-symbol first-symbol (slot-symbol T known) .long
 
 -- the symbol of digit d by the rule, from the answers in the slots
 recovered-slots : (N K S wanted d : ℕ) (key answers : List ℕ) → 0 < d → d < N → 0 < S → N * S ≤ length answers

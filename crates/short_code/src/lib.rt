@@ -11,9 +11,9 @@ ghost use Rattle.lists.specs.Inserts.{insertAt};
 ghost use Rattle.parameters.specs.Bounds.{shortFits};
 ghost use Rattle.parameters.specs.Measures.{shortSizes};
 ghost use Rattle.symbol.specs.Xor.{xor};
-ghost use Rattle.scheme.specs.Scheme.{Valid, answersIn};
+ghost use Rattle.scheme.specs.Scheme.{Valid};
 ghost use Rattle.short_code.specs.Short.{digitSum, balancing, named, shortQuery, shortAdmits, shortAnswerLength, shortAnswer, shortScheme};
-ghost use Rattle.short_code.specs.Steps.{Row, gathered, begunBy, fromSlots};
+ghost use Rattle.short_code.specs.Steps.{Row, gathered, begunBy, fromSlots, recoverIn};
 
 // Whether every digit is below n.
 fn all_below(n: usize, digits: &[u8]) -> bool
@@ -238,7 +238,7 @@ pub fn recover(
     requires { ⌜ Valid (shortScheme xor n k s) (now key) ⌝ }
     requires { ⌜ n * shortSizes n k s .slot ≤ length (now answers) ⌝ }
     requires { ⌜ shortSizes n k s .message ≤ length (now message) ⌝ }
-    ensures { λ _. ⌜ now (message .exit) ≡ put 0 (shortScheme xor n k s .recover wanted (now (key .entry)) (answersIn (shortScheme xor n k s) n wanted (now (key .entry)) (now (answers .entry)))) (now (message .entry)) ⌝ }
+    ensures { λ _. ⌜ now (message .exit) ≡ put 0 (recoverIn (shortScheme xor n k s) n wanted (now (key .entry)) (now (answers .entry))) (now (message .entry)) ⌝ }
 {
     let t = digit_sum(n, key);
     let empty = all_below(1, key);

@@ -3,9 +3,11 @@ use mathlib.Core.Path.{_≡_, sym, ap, _∙_}
 use mathlib.Core.Bool.{false}
 use mathlib.Core.List.{List}
 use Prim.Native.Nat.{ℕ, _≤_}
+use native.Mathlib.Omega.{arith}
 use lib.ListN.{length, take}
 use lib.Seq.{length-take-le}
 use Rattle.lists.specs.Parts.{put}
+use Rattle.lists.specs.Below.{Below}
 use Rattle.parameters.specs.Measures.{shortSizes}
 use Rattle.parameters.proofs.Bounds.{short-bounds}
 use Rattle.symbol.specs.Xor.{xor}
@@ -24,6 +26,9 @@ returns c =
     let a = c .before .before .before .before .before .args in
     ap (λ (l : List ℕ). put 0 l (a .out .now))
     (sym (answer-none xor (a .n) (a .s) (a .store .now) (a .query .now) (sym (c .before .all-below .ensures) ∙ c .if1 .taken)))
+
+bytes : (c : tie.After-shared-slice-known) → Below 256 (c .before .args .store .now)
+bytes c i h = omega (arith, c .shared-slice-known .given i)
 
 -- a row that is not all zeros has room for a symbol
 roomy : (c : tie.Else1) → c .before .before .before .before .before .args .s ≤ length (c .before .before .before .before .before .args .out .now)
@@ -57,8 +62,8 @@ returns-2 c =
     let a = start .args in
     let b = short-bounds (a .n) (a .k) (a .s) (start .pre .0) in
     let some : allZero (a .query .now) ≡ false = sym (g .before .before .before .all-below .ensures) ∙ g .before .before .if1 .left in
-    gathered-answer (a .n) (a .s) (a .store .now) (a .k) (a .query .now) (take (a .s) (a .out .now)) (a .out .now) (start .pre .1 .0) (b .symbol-low) (start .pre .1 .1 .0) some
-    (g .gather .ensures)
+    gathered-answer (a .n) (a .s) (a .store .now) (a .k) (a .query .now) (take (a .s) (a .out .now)) (a .out .now)
+    (start .pre .1 .0) (b .symbol-low) (bytes (g .before .before .before .before .before .before)) (start .pre .1 .1 .0) some (g .gather .ensures)
     (g .gather .kept .1 .1 .1 .1 .1 .0 ∙ length-take-le (a .s) (a .out .now) (roomy (g .before .before)))
 
 pub answer-spec : {M : Type 1} → statement M

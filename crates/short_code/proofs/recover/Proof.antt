@@ -8,6 +8,7 @@ use native.Mathlib.Omega.{arith}
 use borrow.Author.Needs.{needs}
 use lib.ListN.{length}
 use Rattle.lists.specs.Parts.{put}
+use Rattle.lists.specs.Below.{Below}
 use Rattle.lists.specs.Ranges.{range}
 use Rattle.parameters.specs.Measures.{shortSizes}
 use Rattle.parameters.proofs.Bounds.{short-bounds}
@@ -28,6 +29,9 @@ abbrev μ-loop : tie.MeasureT-loop
 
 digit-sum-requires : tie.Need-digit-sum-requires Inv-loop μ-loop
 digit-sum-requires c κs = c .before .before .before .pre .1 .0 .good
+
+bytes : (c : tie.After-shared-slice-known2 Inv-loop μ-loop) → Below 256 (c .before .before .args .answers .now)
+bytes c i h = omega (arith, c .shared-slice-known2 .given i)
 
 -- the key's sum is a server's number
 below : (c : tie.After-digit-sum Inv-loop μ-loop) → c .digit-sum .result < c .before .before .before .before .args .n
@@ -82,7 +86,9 @@ loop-again c =
     let room : (a .n - 1) * a .s ≤ length (a .message .now) = start .pre .1 .1 .1 in
     let slots : a .n * a .s ≤ length (a .answers .now) = start .pre .1 .1 .0 in
     let w : d * a .s ≤ (a .n - 1) * a .s = mul-le-mul-right (a .s) (omega arith) in
-    let long : length (f d) ≡ a .s = from-length (a .n) (a .s) t d (a .answers .now) (below (at .before .before)) (omega arith) slots (at .before .all-below .result) in (
+    let long : length (f d) ≡ a .s =
+    from-length (a .n) (a .s) t d (a .answers .now) (below (at .before .before)) (omega arith) slots (bytes (at .before .before .before .before))
+    (at .before .all-below .result) in (
       omega arith,
       omega arith,
       g .recover-symbol .kept .1 .1 .1 .1 .1 .1 .0 ∙ at .loop .inv .2,

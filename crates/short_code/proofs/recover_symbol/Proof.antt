@@ -1,19 +1,19 @@
 -- `short_code::recover_symbol` meets its contract: the symbol's own part of the message holds one slot, and then the difference of two.
-use mathlib.Core.Path.{_≡_, sym, ap, ap₂, _∙_}
-use mathlib.Core.Bool.{Bool}
-use mathlib.Core.List.{List, _++_}
+use mathlib.Core.Path.{_≡_, sym, ap, _∙_}
+use mathlib.Core.Bool.{Bool, false}
+use mathlib.Core.List.{List}
 use Prim.Native.Nat.{ℕ, _+_, _-_, _*_, _%_, _<_}
 use native.Mathlib.Nat.{add-sub-cancel-left, mod-lt}
 use native.Mathlib.Omega.{arith}
 use lib.ListN.{length, take, drop}
 use Rattle.lists.specs.Parts.{cut, put}
+use Rattle.lists.specs.Below.{Below}
 use Rattle.lists.proofs.Parts.{put-part}
-use Rattle.lists.proofs.Slots.{slot-end, cut-put}
-use Rattle.lists.proofs.Writes.{put-over}
+use Rattle.lists.proofs.Slots.{slot-end}
+use Rattle.lists.proofs.Writes.{put-twice}
 use Rattle.symbol.specs.Xor.{xor}
-use Rattle.symbol.proofs.XorBytes.{xor-length}
 use Rattle.short_code.specs.Steps.{fromSlots}
-use Rattle.short_code.proofs.Slots.{slot-length, from-one, from-two}
+use Rattle.short_code.proofs.Slots.{slot-length, slot-copied, from-one, from-two, from-length}
 use borrow.Author.Needs.{needs}
 use Rattle.short_code.proofs.recover_symbol.Statement.{statement}
 use Rattle.short_code.proofs.recover_symbol.Tie as tie
@@ -39,10 +39,16 @@ sub-at : tie.Need-sub-at
 sub-at c = search needs
 
 mul-at : tie.Need-mul-at
-mul-at c = let a = c .before .before .before .args in let w = slot-end (a .d - 1) (a .d) (a .s) (omega arith) in omega arith
+mul-at c =
+    let a = c .before .before .before .args in
+    let w = slot-end (a .d - 1) (a .d) (a .s) (omega arith) in
+    omega arith
 
 add-end : tie.Need-add-end
-add-end c = let a = c .before .before .before .args in let w = slot-end (a .d - 1) (a .d) (a .s) (omega arith) in omega arith
+add-end c =
+    let a = c .before .before .before .args in
+    let w = slot-end (a .d - 1) (a .d) (a .s) (omega arith) in
+    omega arith
 
 sub-copy : tie.Need-sub-copy
 sub-copy c = search needs
@@ -51,7 +57,10 @@ part-copy-start : tie.Need-part-copy-start
 part-copy-start c = search needs
 
 part-copy-end : tie.Need-part-copy-end
-part-copy-end c = let a = c .before .before .before .args in let w = slot-end (a .d - 1) (a .d) (a .s) (omega arith) in omega arith
+part-copy-end c =
+    let a = c .before .before .before .args in
+    let w = slot-end (a .d - 1) (a .d) (a .s) (omega arith) in
+    omega arith
 
 sub-copy-2 : tie.Need-sub-copy-2
 sub-copy-2 c = search needs
@@ -72,33 +81,35 @@ copy-requires c κs = search needs
 same-length : tie.Need-same-length
 same-length c = search needs
 
--- the first slot
-copied : (g : tie.After-copy) → g .copy .last .0 ≡ cut ((g .before .before .before .before .before .before .args .d + g .before .before .before .before .before .before .args .t) % g .before .before .before .before .before .before .args .n * g .before .before .before .before .before .before .args .s) (g .before .before .before .before .before .before .args .s) (g .before .before .before .before .before .before .args .answers .now)
-copied g =
-    let m = g .before .before .before in
-    let a = m .before .before .before .args in
-    g .copy .ensures
-    ∙ ap (λ (n : ℕ). take n (drop (m .add-modulo .result * a .s) (a .answers .now))) (add-sub-cancel-left (m .add-modulo .result * a .s) (a .s))
-    ∙ ap (λ (i : ℕ). cut (i * a .s) (a .s) (a .answers .now)) (m .add-modulo .ensures)
+bytes : (c : tie.After-shared-slice-known) → Below 256 (c .before .args .answers .now)
+bytes c i h = omega (arith, c .shared-slice-known .given i)
 
 returns : tie.Need-returns
 returns c =
     let g = c .before .before .before in
-    let a = g .before .before .before .before .before .before .args in
+    let m = g .before .before .before in
+    let a = m .before .before .before .args in
     let at = (a .d - 1) * a .s in
     let x = cut ((a .d + a .t) % a .n * a .s) (a .s) (a .answers .now) in
-    let made = copied g in
+    let made : g .copy .last .0 ≡ x =
+    slot-copied (m .add-modulo .result) ((a .d + a .t) % a .n) (a .s) (a .answers .now) (m .add-modulo .ensures) (g .copy .ensures) in
     let long = slot-length (a .n) (a .s) ((a .d + a .t) % a .n) (a .answers .now) (mod-lt (a .d + a .t) (omega arith)) (omega arith) in
     put-part at (a .s) (g .copy .last .0) (a .message .now) (ap length made ∙ long)
     ∙ ap (λ (l : List ℕ). put at l (a .message .now))
-    (made ∙ from-one (a .n) (a .s) (a .t) (a .d) (a .answers .now) (omega arith) (omega arith) (omega arith)
+    (made ∙ from-one (a .n) (a .s) (a .t) (a .d) (a .answers .now) (omega arith) (omega arith) (omega arith) (bytes (m .before .before))
     ∙ ap (λ (t : Bool). fromSlots (a .n) (a .s) (a .t) t (a .answers .now) (a .d)) (sym (c .if1 .taken)))
 
 mul-other : tie.Need-mul-other
-mul-other c = let a = c .before .before .before .before .before .before .before .before .before .args in let w = slot-end (a .t) (a .n) (a .s) (omega arith) in omega arith
+mul-other c =
+    let a = c .before .before .before .before .before .before .before .before .before .args in
+    let w = slot-end (a .t) (a .n) (a .s) (omega arith) in
+    omega arith
 
 add-other-end : tie.Need-add-other-end
-add-other-end c = let a = c .before .before .before .before .before .before .before .before .before .args in let w = slot-end (a .t) (a .n) (a .s) (omega arith) in omega arith
+add-other-end c =
+    let a = c .before .before .before .before .before .before .before .before .before .args in
+    let w = slot-end (a .t) (a .n) (a .s) (omega arith) in
+    omega arith
 
 sub-combine : tie.Need-sub-combine
 sub-combine c = search needs
@@ -119,7 +130,10 @@ part-combine-start-2 : tie.Need-part-combine-start-2
 part-combine-start-2 c = search needs
 
 part-combine-end-2 : tie.Need-part-combine-end-2
-part-combine-end-2 c = let a = c .before .before .before .before .before .before .before .before .before .before .args in let w = slot-end (a .t) (a .n) (a .s) (omega arith) in omega arith
+part-combine-end-2 c =
+    let a = c .before .before .before .before .before .before .before .before .before .before .args in
+    let w = slot-end (a .t) (a .n) (a .s) (omega arith) in
+    omega arith
 
 combine-requires : tie.Need-combine-requires
 combine-requires c κs = search needs
@@ -131,28 +145,23 @@ returns-2 : tie.Need-returns-2
 returns-2 c =
     let h = c .before .before in
     let g = h .before .before .before .before .before .before in
-    let a = g .before .before .before .before .before .before .args in
+    let m = g .before .before .before in
+    let a = m .before .before .before .args in
     let at = (a .d - 1) * a .s in
     let x = cut ((a .d + a .t) % a .n * a .s) (a .s) (a .answers .now) in
-    let y = cut (a .t * a .s) (a .s) (a .answers .now) in
-    let last = h .combine .last .0 in
-    let made : g .copy .last .0 ≡ x = copied g in
-    let long : length x ≡ a .s = slot-length (a .n) (a .s) ((a .d + a .t) % a .n) (a .answers .now) (mod-lt (a .d + a .t) (omega arith)) (omega arith) in
+    let other = a .t * a .s in
+    let f : ℕ → List ℕ → List ℕ = λ size l. xor .plus l (take size (drop other (a .answers .now))) in
     let w = slot-end (a .d - 1) (a .d) (a .s) (omega arith) in
-    let first = put at x (a .message .now) in
-    let held : take at (a .message .now) ++ (g .copy .last .0 ++ drop (at + a .s - at) (drop at (a .message .now))) ≡ first =
-    put-part at (a .s) (g .copy .last .0) (a .message .now) (ap length made ∙ long) ∙ ap (λ (l : List ℕ). put at l (a .message .now)) made in
-    let both : last ≡ xor .plus x y =
-    h .combine .ensures
-    ∙ ap₂ (λ (l : List ℕ) (n : ℕ). xor .plus (take n (drop at l)) (take (a .t * a .s + a .s - a .t * a .s) (drop (a .t * a .s) (a .answers .now)))) held (add-sub-cancel-left at (a .s) ∙ sym long)
-    ∙ ap₂ (λ (l : List ℕ) (n : ℕ). xor .plus l (take n (drop (a .t * a .s) (a .answers .now)))) (cut-put at x (a .message .now) (omega arith)) (add-sub-cancel-left (a .t * a .s) (a .s)) in
-    let whole : length last ≡ a .s = ap length both ∙ xor-length x y ∙ long in
-    ap (λ (l : List ℕ). take at l ++ (last ++ drop (at + a .s - at) (drop at l))) held
-    ∙ put-part at (a .s) last first whole
-    ∙ put-over at x last (a .message .now) (omega arith) (long ∙ sym whole)
+    let long = slot-length (a .n) (a .s) ((a .d + a .t) % a .n) (a .answers .now) (mod-lt (a .d + a .t) (omega arith)) (omega arith) in
+    let sum : f (other + a .s - other) x ≡ fromSlots (a .n) (a .s) (a .t) false (a .answers .now) (a .d) =
+    ap (λ (n : ℕ). f n x) (add-sub-cancel-left other (a .s))
+    ∙ from-two (a .n) (a .s) (a .t) (a .d) (a .answers .now) (omega arith) (omega arith) (omega arith) (bytes (m .before .before)) in
+    let whole = from-length (a .n) (a .s) (a .t) (a .d) (a .answers .now) (omega arith) (omega arith) (omega arith) (bytes (m .before .before)) false in
+    put-twice at (a .s) x (a .message .now) (f (other + a .s - other)) (omega arith) long (ap length sum ∙ whole)
+    (slot-copied (m .add-modulo .result) ((a .d + a .t) % a .n) (a .s) (a .answers .now) (m .add-modulo .ensures) (g .copy .ensures))
+    (h .combine .ensures)
     ∙ ap (λ (l : List ℕ). put at l (a .message .now))
-    (both ∙ from-two (a .n) (a .s) (a .t) (a .d) (a .answers .now) (omega arith) (omega arith) (omega arith)
-    ∙ ap (λ (t : Bool). fromSlots (a .n) (a .s) (a .t) t (a .answers .now) (a .d)) (sym (h .before .before .before .if1 .left)))
+    (sum ∙ ap (λ (t : Bool). fromSlots (a .n) (a .s) (a .t) t (a .answers .now) (a .d)) (sym (h .before .before .before .if1 .left)))
 
 pub recover-symbol-spec : {M : Type 1} → statement M
 recover-symbol-spec =
