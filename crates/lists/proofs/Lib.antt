@@ -1,2 +1,4 @@
 pub mod Below
 pub mod Parts
+pub mod Every
+pub mod Replicate
