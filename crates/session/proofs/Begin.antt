@@ -1,5 +1,5 @@
 -- Laws of begin: refused it hands back zeros, done the new session, whose used places are the key; and what an accepted verdict says.
-use mathlib.Core.Path.{_≡_, sym, ap}
+use mathlib.Core.Path.{_≡_, refl, sym, ap, _∙_}
 use mathlib.Core.Bool.{not}
 use mathlib.Core.List.{List}
 use Prim.Native.Nat.{ℕ, _-_, _<_}
@@ -50,6 +50,17 @@ module _ (schemeOf : Catalogue → Scheme) (c : Catalogue) (wanted : ℕ) (key :
   pub begin-by : (v : Verdict) → v ≡ beginVerdict schemeOf c wanted key → begin schemeOf c wanted key ≡ beginBy schemeOf c wanted key v
   unfolding begin
   begin-by v e = ap (beginBy schemeOf c wanted key) (sym e)
+
+  -- its result says the verdict, and a result that says a refusal holds zeros
+  pub begin-says : begin schemeOf c wanted key .verdict ≡ beginVerdict schemeOf c wanted key
+  begin-says = go (beginVerdict schemeOf c wanted key) refl
+    where
+      go : (v : Verdict) → v ≡ beginVerdict schemeOf c wanted key → begin schemeOf c wanted key .verdict ≡ beginVerdict schemeOf c wanted key
+      go Accepted e = rw (begin-by Accepted e) e
+      go (Refused refusal) e = rw (begin-by (Refused refusal) e) e
+
+  pub begin-zeros : (refusal : Refusal) → begin schemeOf c wanted key .verdict ≡ Refused refusal → begin schemeOf c wanted key .session ≡ zeroSession
+  begin-zeros refusal e = rw (begin-by (Refused refusal) (sym e ∙ begin-says))
 
   pub begin-refused : (v : Verdict) (refusal : Refusal) → v ≡ beginVerdict schemeOf c wanted key → v ≡ Refused refusal
       → _≡_ {A = Handed} (record { verdict = v; session = zeroSession }) (begin schemeOf c wanted key)

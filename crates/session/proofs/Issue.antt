@@ -1,6 +1,6 @@
 -- Laws of issue: refused it changes nothing, done it writes the query and marks the server; what an accepted verdict says, and the verdict on a
 -- sound session.
-use mathlib.Core.Path.{_≡_, refl, sym, ap}
+use mathlib.Core.Path.{_≡_, refl, sym, ap, _∙_}
 use mathlib.Core.Bool.{not}
 use mathlib.Core.List.{List}
 use Prim.Native.Nat.{ℕ, _≤_, _<_}
@@ -21,7 +21,7 @@ use Rattle.session.specs.declared.Session.{Session}
 use Rattle.session.specs.declared.Handed.{Handed}
 use Rattle.session.specs.Marks.{marksGood}
 use Rattle.session.specs.Fields.{markIssued}
-use Rattle.session.specs.Calls.{Did, codeOf, keyOf, queryOf, issueVerdict, issueBy, issue}
+use Rattle.session.specs.Calls.{Did, out, codeOf, keyOf, queryOf, issueVerdict, issueBy, issue}
 use Rattle.session.proofs.Sound.{Sound}
 
 module _ (schemeOf : Catalogue → Scheme) (s : Session) (server : ℕ) where
@@ -63,6 +63,17 @@ module _ (schemeOf : Catalogue → Scheme) (s : Session) (server : ℕ) where
     pub issue-by : (v : Verdict) → v ≡ issueVerdict schemeOf s server (length buffer) → issue schemeOf s server buffer ≡ issueBy schemeOf s server buffer v
     unfolding issue
     issue-by v e = ap (issueBy schemeOf s server buffer) (sym e)
+
+    -- its result says the verdict, and a result that says a refusal says that nothing changed
+    pub issue-says : issue schemeOf s server buffer .handed .verdict ≡ issueVerdict schemeOf s server (length buffer)
+    issue-says = go (issueVerdict schemeOf s server (length buffer)) refl
+      where
+        go : (v : Verdict) → v ≡ issueVerdict schemeOf s server (length buffer) → issue schemeOf s server buffer .handed .verdict ≡ issueVerdict schemeOf s server (length buffer)
+        go Accepted e = rw (issue-by Accepted e) e
+        go (Refused refusal) e = rw (issue-by (Refused refusal) e) e
+
+    pub issue-unchanged : (refusal : Refusal) → issue schemeOf s server buffer .handed .verdict ≡ Refused refusal → issue schemeOf s server buffer ≡ out (Refused refusal) s buffer
+    issue-unchanged refusal e = issue-by (Refused refusal) (sym e ∙ issue-says)
 
     pub issue-refused : (v : Verdict) (refusal : Refusal) → v ≡ issueVerdict schemeOf s server (length buffer) → v ≡ Refused refusal
         → Did (issue schemeOf s server buffer) (record { verdict = v; session = s }) buffer

@@ -1,6 +1,6 @@
 -- Laws of recover: refused it changes nothing, done it writes the message; the session is always as it was; what an accepted verdict says, and the
 -- verdict on a sound session.
-use mathlib.Core.Path.{_≡_, refl, sym, ap}
+use mathlib.Core.Path.{_≡_, refl, sym, ap, _∙_}
 use mathlib.Core.Bool.{true, not}
 use mathlib.Core.List.{List}
 use Prim.Native.Nat.{ℕ, _≤_}
@@ -20,7 +20,7 @@ use Rattle.catalogue.specs.Catalogue.{catalogueVerdict}
 use Rattle.session.specs.declared.Session.{Session}
 use Rattle.session.specs.declared.Handed.{Handed}
 use Rattle.session.specs.Marks.{marksGood, allTaken}
-use Rattle.session.specs.Calls.{Did, codeOf, keyOf, slotsOf, recovered, recoverVerdict, recoverBy, recover}
+use Rattle.session.specs.Calls.{Did, out, codeOf, keyOf, slotsOf, recovered, recoverVerdict, recoverBy, recover}
 use Rattle.session.proofs.Sound.{Sound}
 
 module _ (schemeOf : Catalogue → Scheme) (s : Session) where
@@ -67,6 +67,17 @@ module _ (schemeOf : Catalogue → Scheme) (s : Session) where
         → recover schemeOf s answers buffer ≡ recoverBy schemeOf s answers buffer v
     unfolding recover
     recover-by v e = ap (recoverBy schemeOf s answers buffer) (sym e)
+
+    -- its result says the verdict, and a result that says a refusal says that nothing changed
+    pub recover-says : recover schemeOf s answers buffer .handed .verdict ≡ recoverVerdict schemeOf s (length answers) (length buffer)
+    recover-says = go (recoverVerdict schemeOf s (length answers) (length buffer)) refl
+      where
+        go : (v : Verdict) → v ≡ recoverVerdict schemeOf s (length answers) (length buffer) → recover schemeOf s answers buffer .handed .verdict ≡ recoverVerdict schemeOf s (length answers) (length buffer)
+        go Accepted e = rw (recover-by Accepted e) e
+        go (Refused refusal) e = rw (recover-by (Refused refusal) e) e
+
+    pub recover-unchanged : (refusal : Refusal) → recover schemeOf s answers buffer .handed .verdict ≡ Refused refusal → recover schemeOf s answers buffer ≡ out (Refused refusal) s buffer
+    recover-unchanged refusal e = recover-by (Refused refusal) (sym e ∙ recover-says)
 
     pub recover-refused : (v : Verdict) (refusal : Refusal) → v ≡ recoverVerdict schemeOf s (length answers) (length buffer) → v ≡ Refused refusal
         → Did (recover schemeOf s answers buffer) (record { verdict = v; session = s }) buffer

@@ -1,6 +1,6 @@
 -- Laws of take: refused it changes nothing, done it writes the answer into the server's slot and marks the server; what an accepted verdict says,
 -- and when a sound session accepts.
-use mathlib.Core.Path.{_≡_, refl, sym, ap}
+use mathlib.Core.Path.{_≡_, refl, sym, ap, _∙_}
 use mathlib.Core.Bool.{true, false, not}
 use mathlib.Core.List.{List}
 use Prim.Native.Nat.{ℕ, _*_, _≤_, _<_}
@@ -19,7 +19,7 @@ use Rattle.session.specs.declared.Session.{Session}
 use Rattle.session.specs.declared.Handed.{Handed}
 use Rattle.session.specs.Marks.{marked, marksGood}
 use Rattle.session.specs.Fields.{markTaken}
-use Rattle.session.specs.Calls.{Did, codeOf, keyOf, queryOf, slotsOf, takeVerdict, takeBy, takeAnswer}
+use Rattle.session.specs.Calls.{Did, out, codeOf, keyOf, queryOf, slotsOf, takeVerdict, takeBy, takeAnswer}
 use Rattle.session.proofs.Sound.{Sound}
 
 module _ (schemeOf : Catalogue → Scheme) (s : Session) (server : ℕ) where
@@ -61,9 +61,17 @@ module _ (schemeOf : Catalogue → Scheme) (s : Session) (server : ℕ) where
   pub take-accepted : (size room : ℕ) → Takes size room → takeVerdict schemeOf s server size room ≡ Accepted
   unfolding takeVerdict
   take-accepted size room t =
-      rw (t .sound .admitted, lt-leb (s .catalogue .servers) server (t .below), lt-leb (s .catalogue .messages) (s .wanted) (t .sound .inside), t .sound .good,
-      le-ltb room (slotsOf schemeOf (s .catalogue)) (t .roomy), eq-eqb size (codeOf schemeOf s .answerLength (queryOf schemeOf s server)) (t .sized),
-      t .sound .marks, t .was-issued, t .not-taken)
+      rw (
+        t .sound .admitted,
+        lt-leb (s .catalogue .servers) server (t .below),
+        lt-leb (s .catalogue .messages) (s .wanted) (t .sound .inside),
+        t .sound .good,
+        le-ltb room (slotsOf schemeOf (s .catalogue)) (t .roomy),
+        eq-eqb size (codeOf schemeOf s .answerLength (queryOf schemeOf s server)) (t .sized),
+        t .sound .marks,
+        t .was-issued,
+        t .not-taken,
+      )
 
   module _ (answer buffer : List ℕ) where
     -- take goes by its verdict
@@ -71,6 +79,17 @@ module _ (schemeOf : Catalogue → Scheme) (s : Session) (server : ℕ) where
         → takeAnswer schemeOf s server answer buffer ≡ takeBy schemeOf s server answer buffer v
     unfolding takeAnswer
     take-by v e = ap (takeBy schemeOf s server answer buffer) (sym e)
+
+    -- its result says the verdict, and a result that says a refusal says that nothing changed
+    pub take-says : takeAnswer schemeOf s server answer buffer .handed .verdict ≡ takeVerdict schemeOf s server (length answer) (length buffer)
+    take-says = go (takeVerdict schemeOf s server (length answer) (length buffer)) refl
+      where
+        go : (v : Verdict) → v ≡ takeVerdict schemeOf s server (length answer) (length buffer) → takeAnswer schemeOf s server answer buffer .handed .verdict ≡ takeVerdict schemeOf s server (length answer) (length buffer)
+        go Accepted e = rw (take-by Accepted e) e
+        go (Refused refusal) e = rw (take-by (Refused refusal) e) e
+
+    pub take-unchanged : (refusal : Refusal) → takeAnswer schemeOf s server answer buffer .handed .verdict ≡ Refused refusal → takeAnswer schemeOf s server answer buffer ≡ out (Refused refusal) s buffer
+    take-unchanged refusal e = take-by (Refused refusal) (sym e ∙ take-says)
 
     pub take-refused : (v : Verdict) (refusal : Refusal) → v ≡ takeVerdict schemeOf s server (length answer) (length buffer) → v ≡ Refused refusal
         → Did (takeAnswer schemeOf s server answer buffer) (record { verdict = v; session = s }) buffer
