@@ -1,0 +1,146 @@
+-- What recover does in a fetch: its verdict goes by the calls made, and after honest takes from all servers it gives the wanted message.
+use mathlib.Core.Path.{_≡_, refl, sym, ap, _∙_}
+use mathlib.Core.Bool.{Bool, true, false, not}
+use mathlib.Core.List.{List, [], _∷_, map}
+use Prim.Native.Nat.{ℕ, _*_, _≤_, _<_}
+use native.Mathlib.Omega.{arith}
+use borrow.Author.Tests.{le-ltb}
+use lib.Dec.{ltb}
+use lib.ListN.{length}
+use Rattle.lists.specs.Parts.{cut, put}
+use Rattle.lists.specs.Below.{Below}
+use Rattle.lists.specs.Ranges.{range}
+use Rattle.lists.proofs.Every.{every-true, every-false}
+use Rattle.lists.proofs.Ranges.{map-range}
+use Rattle.refusal.specs.declared.Refusal.{Refusal}
+use Rattle.refusal.specs.declared.Refusal.the-variants.{Room, Missing}
+use Rattle.refusal.specs.declared.Verdict.{Verdict}
+use Rattle.refusal.specs.declared.Verdict.the-variants.{Accepted, Refused}
+use Rattle.refusal.specs.Chain.{refuseIf}
+use Rattle.scheme.specs.Scheme.{Scheme, Valid, messageOf, honestAnswers, answersIn}
+use Rattle.scheme.specs.Laws.{Laws}
+use Rattle.catalogue.specs.declared.Catalogue.{Catalogue}
+use Rattle.catalogue.specs.Catalogue.{Admitted}
+use Rattle.session.specs.Marks.{marked, allTaken}
+use Rattle.session.specs.Calls.{Out, keyOf, slotsOf, recovered, recoverVerdict, recover}
+use Rattle.session.proofs.Begin.{key-kept}
+use Rattle.session.proofs.Issue.{issue-unchanged}
+use Rattle.session.proofs.Take.{take-unchanged}
+use Rattle.session.proofs.Recover.{recover-verdict, recover-by, recover-says, recover-unchanged}
+use Rattle.fetches.specs.Fetches.{Call, issuing, taking, recovering, State, Made, lent, make, run}
+use Rattle.fetches.specs.Claim.{tally, has, Throughout, end, step, Unchanged, AllTaken, RecoverSays, RecoverVerdict, HonestTake, MessageLeft}
+use Rattle.fetches.proofs.Steps.{sessionOf, stateOf, Kept, HeldAt, Held, Next, sound, next}
+
+-- a call, and the rest
+pub now-holds : {P : List ℕ → Made → Type 0} {got : List ℕ} {made : Made} {rest : List Made} → Throughout P got (made ∷ rest) → P got made
+now-holds (step p ps) = p
+
+pub then-holds : {P : List ℕ → Made → Type 0} {got : List ℕ} {made : Made} {rest : List Made} → Throughout P got (made ∷ rest)
+    → Throughout P (tally got made) rest
+then-holds (step p ps) = ps
+
+-- the message of a recover is known by the call
+same-message : {a b : List ℕ} → recovering a ≡ recovering b → a ≡ b
+same-message {a} {b} e = cc
+
+-- a refused call changes nothing, in any state
+module _ (schemeOf : Catalogue → Scheme) where
+  unchanged : (got : List ℕ) (at : State) (call : Call) → Unchanged got (make schemeOf at call)
+  unchanged got at (issuing server query answer) refusal e = let q = issue-unchanged schemeOf (at .session) server query refusal e in rw q (refl, refl)
+  unchanged got at (taking server answer) refusal e = let q = take-unchanged schemeOf (at .session) server answer (at .answers) refusal e in rw q (refl, refl)
+  unchanged got at (recovering message) refusal e = let q = recover-unchanged schemeOf (at .session) (at .answers) message refusal e in rw q (refl, refl)
+
+  pub refusals : (calls : List Call) (got : List ℕ) (at : State) → Throughout Unchanged got (run schemeOf at calls)
+  refusals [] got at = end
+  refusals (call ∷ calls) got at = step (unchanged got at call) (refusals calls (tally got (make schemeOf at call)) (make schemeOf at call .after))
+
+  -- from one state as from an equal one
+  from-state : {P : List ℕ → Made → Type 0} {got : List ℕ} {at other : State} (calls : List Call) → at ≡ other
+      → Throughout P got (run schemeOf other calls) → Throughout P got (run schemeOf at calls)
+  from-state {P} {got} {at} {other} calls e t = rw e t
+
+module _ (schemeOf : Catalogue → Scheme) (c : Catalogue) (admitted : Admitted c) (laws : Laws (c .servers) (c .messages) (schemeOf c))
+    (wanted : ℕ) (inside : wanted < c .messages) (key : List ℕ) (valid : Valid (schemeOf c) key) where
+  module _ (room : ℕ) (got : List ℕ) (issued taken : List Bool) (answers : List ℕ) (k : Kept schemeOf c room got issued taken answers) (message : List ℕ) where
+    verdict : recoverVerdict schemeOf (sessionOf c wanted key issued taken) (length answers) (length message)
+        ≡ refuseIf (ltb room (slotsOf schemeOf c)) Room
+        (refuseIf (ltb (length message) (schemeOf c .sizes .message)) Room (refuseIf (not (allTaken (c .servers) taken)) Missing Accepted))
+    verdict = rw (← k .room-kept)
+        (recover-verdict schemeOf (sessionOf c wanted key issued taken) (sound schemeOf c admitted laws wanted inside key valid issued taken (k .marks))
+        (length answers) (length message))
+
+    -- all are taken, by the calls and so by the marks
+    all-verdict : AllTaken schemeOf c got → recoverVerdict schemeOf (sessionOf c wanted key issued taken) (length answers) (length message)
+        ≡ refuseIf (ltb (length message) (schemeOf c .sizes .message)) Room Accepted
+    unfolding allTaken
+    all-verdict all =
+        verdict
+        ∙ rw (
+          le-ltb room (slotsOf schemeOf c) (k .roomy 0 (all 0 (laws .servers-some))),
+          every-true (c .servers) (marked taken) (λ i h. k .agree i h ∙ all i h),
+        )
+
+    missing-verdict : (server : ℕ) → server < c .servers → has server got ≡ false
+        → recoverVerdict schemeOf (sessionOf c wanted key issued taken) (length answers) (length message)
+        ≡ refuseIf (ltb room (slotsOf schemeOf c)) Room (refuseIf (ltb (length message) (schemeOf c .sizes .message)) Room (Refused Missing))
+    unfolding allTaken
+    missing-verdict server h lacks = verdict ∙ rw (every-false (c .servers) (marked taken) server h (k .agree server h ∙ lacks))
+
+    pub recover-right : RecoverSays schemeOf c room got message (recover schemeOf (sessionOf c wanted key issued taken) answers message .handed .verdict)
+    recover-right = record {
+      all-taken = λ all. recover-says schemeOf (sessionOf c wanted key issued taken) answers message ∙ all-verdict all;
+      missing = λ server h lacks. recover-says schemeOf (sessionOf c wanted key issued taken) answers message ∙ missing-verdict server h lacks;
+    }
+
+    -- the slots hold the honest answers
+    module _ (store : List ℕ) (bytes : Below 256 store) (held : Held schemeOf c store wanted key got answers) (all : AllTaken schemeOf c got) where
+      answers-honest : answersIn (schemeOf c) (c .servers) wanted key answers ≡ honestAnswers (schemeOf c) (c .servers) store wanted key
+      unfolding answersIn honestAnswers
+      answers-honest = map-range 0 (c .servers) _ _ (λ i l u. let h : i < c .servers = omega arith in held i h (all i h) .holds)
+
+      gives : recovered schemeOf (sessionOf c wanted key issued taken) answers ≡ messageOf (schemeOf c) store wanted
+      gives =
+          ap (λ (l : List ℕ). schemeOf c .recover wanted l (answersIn (schemeOf c) (c .servers) wanted l answers)) (key-kept schemeOf c wanted key (valid .long))
+          ∙ ap (schemeOf c .recover wanted key) answers-honest
+          ∙ laws .recovers store wanted key bytes (held 0 (laws .servers-some) (all 0 (laws .servers-some)) .store-long) inside valid
+
+      pub recover-message : schemeOf c .sizes .message ≤ length message
+          → recover schemeOf (sessionOf c wanted key issued taken) answers message .buffer ≡ put 0 (messageOf (schemeOf c) store wanted) message
+      recover-message fits =
+          let e : recoverVerdict schemeOf (sessionOf c wanted key issued taken) (length answers) (length message) ≡ Accepted
+          = rw (le-ltb (length message) (schemeOf c .sizes .message) fits) at (all-verdict all) in
+          rw (recover-by schemeOf (sessionOf c wanted key issued taken) answers message Accepted (sym e), gives)
+
+  -- over the calls of a fetch
+  says : (room : ℕ) (got : List ℕ) (issued taken : List Bool) (answers : List ℕ) → Kept schemeOf c room got issued taken answers → (call : Call)
+      → RecoverVerdict schemeOf c room got (make schemeOf (stateOf c wanted key issued taken answers) call)
+  says room got issued taken answers k (issuing server query answer) message e = absurd (let z : _≡_ {A = ℕ} 0 1 = cc in let w : ⊥ = omega arith in w)
+  says room got issued taken answers k (taking server answer) message e = absurd (let z : _≡_ {A = ℕ} 0 1 = cc in let w : ⊥ = omega arith in w)
+  says room got issued taken answers k (recovering own) message e = rw (← same-message e) (recover-right room got issued taken answers k own)
+
+  pub verdicts : (calls : List Call) (room : ℕ) (got : List ℕ) (issued taken : List Bool) (answers : List ℕ) → Kept schemeOf c room got issued taken answers
+      → Throughout (RecoverVerdict schemeOf c room) got (run schemeOf (stateOf c wanted key issued taken answers) calls)
+  verdicts [] room got issued taken answers k = end
+  verdicts (call ∷ calls) room got issued taken answers k =
+      let x = next schemeOf c admitted laws wanted inside key valid room got issued taken answers k call in
+      step (says room got issued taken answers k call) (from-state schemeOf calls (x .is) (verdicts calls room _ (x .issued) (x .taken) (x .answers) (x .kept)))
+
+  module _ (store : List ℕ) (bytes : Below 256 store) where
+    leaves : (room : ℕ) (got : List ℕ) (issued taken : List Bool) (answers : List ℕ) → Kept schemeOf c room got issued taken answers
+        → Held schemeOf c store wanted key got answers → (call : Call)
+        → MessageLeft schemeOf c store wanted got (make schemeOf (stateOf c wanted key issued taken answers) call)
+    leaves room got issued taken answers k held (issuing server query answer) message e = absurd (let z : _≡_ {A = ℕ} 0 1 = cc in let w : ⊥ = omega arith in w)
+    leaves room got issued taken answers k held (taking server answer) message e = absurd (let z : _≡_ {A = ℕ} 0 1 = cc in let w : ⊥ = omega arith in w)
+    leaves room got issued taken answers k held (recovering own) message e =
+        rw (← same-message e) (λ all fits. recover-message room got issued taken answers k own store bytes held all fits)
+
+    pub messages : (calls : List Call) (room : ℕ) (got : List ℕ) (issued taken : List Bool) (answers : List ℕ) → Kept schemeOf c room got issued taken answers
+        → Held schemeOf c store wanted key got answers
+        → Throughout (HonestTake schemeOf c store wanted key) got (run schemeOf (stateOf c wanted key issued taken answers) calls)
+        → Throughout (MessageLeft schemeOf c store wanted) got (run schemeOf (stateOf c wanted key issued taken answers) calls)
+    messages [] room got issued taken answers k held honest = end
+    messages (call ∷ calls) room got issued taken answers k held honest =
+        let x = next schemeOf c admitted laws wanted inside key valid room got issued taken answers k call in
+        step (leaves room got issued taken answers k held call)
+        (from-state schemeOf calls (x .is)
+        (messages calls room _ (x .issued) (x .taken) (x .answers) (x .kept) (x .held store held (now-holds honest)) (from-state schemeOf calls (sym (x .is)) (then-holds honest))))

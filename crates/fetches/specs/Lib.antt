@@ -1,0 +1,3 @@
+pub mod Fetches
+pub mod Shown
+pub mod Claim
