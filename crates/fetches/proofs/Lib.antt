@@ -1,3 +1,5 @@
 pub mod Steps
 pub mod View
 pub mod Recovery
+pub mod Exchange
+pub mod Theorem
