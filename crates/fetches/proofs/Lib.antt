@@ -3,3 +3,5 @@ pub mod View
 pub mod Recovery
 pub mod Exchange
 pub mod Theorem
+pub mod Plain
+pub mod Served

@@ -50,7 +50,7 @@ module _ (schemeOf : Catalogue → Scheme) (c : Catalogue) (admitted : Admitted 
       begin-by schemeOf c wanted key Accepted
       (sym (begin-accepted schemeOf c wanted key (record { admitted = admitted; inside = inside; valid = valid })))
 
-  fetch-shown : (store : List ℕ) (n : ℕ) → n < c .servers → (f : Fetch) → f .wanted < c .messages → Valid (schemeOf c) (f .key)
+  pub fetch-shown : (store : List ℕ) (n : ℕ) → n < c .servers → (f : Fetch) → f .wanted < c .messages → Valid (schemeOf c) (f .key)
       → shownTo schemeOf c store n (history schemeOf c f) ≡ seenOf schemeOf c store n (schemeOf c .query (f .wanted) n (f .key)) (issues (f .calls))
   fetch-shown store n below f inside valid =
       rw (begun (f .wanted) inside (f .key) valid)

@@ -1,3 +1,4 @@
 pub mod Fetches
 pub mod Shown
 pub mod Claim
+pub mod Plain

@@ -6,7 +6,7 @@ use Prim.Native.Nat.{ℕ, _≤_, _<_}
 use lib.Dec.{leb, ltb, eqb}
 use lib.ListN.{length, take, drop}
 use lib.Seq.{take-at}
-use borrow.Author.Tests.{leb-false, ltb-false, eqb-true, not-false}
+use borrow.Author.Tests.{leb-false, lt-leb, ltb-false, le-ltb, eqb-true, eq-eqb, not-false}
 use Rattle.lists.specs.Parts.{put}
 use Rattle.refusal.specs.declared.Refusal.{Refusal}
 use Rattle.refusal.specs.declared.Verdict.{Verdict}
@@ -45,6 +45,18 @@ module _ (schemeOf : Catalogue → Scheme) where
         store-long = eqb-true stored (schemeOf c .sizes .store) (not-false _ (s .0));
         roomy = ltb-false room (schemeOf c .answerLength query) (t .0);
       }
+
+  pub answer-accepted : (c : Catalogue) (server stored : ℕ) (query : List ℕ) (room : ℕ)
+      → Answers c server stored query room → answerVerdict schemeOf c server stored query room ≡ Accepted
+  unfolding answerVerdict
+  answer-accepted c server stored query room a =
+      rw (
+        a .admitted,
+        lt-leb (c .servers) server (a .below),
+        a .admits,
+        eq-eqb stored (schemeOf c .sizes .store) (a .store-long),
+        le-ltb room (schemeOf c .answerLength query) (a .roomy),
+      )
 
   module _ (c : Catalogue) (server : ℕ) (store query buffer : List ℕ) where
     -- answering goes by its verdict
