@@ -5,3 +5,4 @@ pub mod Exchange
 pub mod Theorem
 pub mod Plain
 pub mod Served
+pub mod Received

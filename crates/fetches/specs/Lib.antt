@@ -2,3 +2,4 @@ pub mod Fetches
 pub mod Shown
 pub mod Claim
 pub mod Plain
+pub mod Received
