@@ -6,3 +6,4 @@ pub mod Theorem
 pub mod Plain
 pub mod Served
 pub mod Received
+pub mod Toy
