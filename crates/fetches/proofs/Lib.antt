@@ -1,3 +1,4 @@
+pub mod Throughout
 pub mod Steps
 pub mod View
 pub mod Recovery

@@ -12,7 +12,6 @@ use Rattle.lists.specs.Below.{Below}
 use Rattle.lists.specs.Ranges.{range}
 use Rattle.lists.proofs.Every.{every-true, every-false}
 use Rattle.lists.proofs.Ranges.{map-range}
-use Rattle.refusal.specs.declared.Refusal.{Refusal}
 use Rattle.refusal.specs.declared.Refusal.the-variants.{Room, Missing}
 use Rattle.refusal.specs.declared.Verdict.{Verdict}
 use Rattle.refusal.specs.declared.Verdict.the-variants.{Accepted, Refused}
@@ -24,40 +23,15 @@ use Rattle.catalogue.specs.Catalogue.{Admitted}
 use Rattle.session.specs.Marks.{marked, allTaken}
 use Rattle.session.specs.Calls.{Out, keyOf, slotsOf, recovered, recoverVerdict, recover}
 use Rattle.session.proofs.Begin.{key-kept}
-use Rattle.session.proofs.Issue.{issue-unchanged}
-use Rattle.session.proofs.Take.{take-unchanged}
-use Rattle.session.proofs.Recover.{recover-verdict, recover-by, recover-says, recover-unchanged}
-use Rattle.fetches.specs.Fetches.{Call, issuing, taking, recovering, State, Made, lent, make, run}
-use Rattle.fetches.specs.Claim.{tally, has, Throughout, end, step, Unchanged, AllTaken, RecoverSays, RecoverVerdict, HonestTake, MessageLeft}
+use Rattle.session.proofs.Recover.{recover-verdict, recover-by, recover-says}
+use Rattle.fetches.specs.Fetches.{Call, issuing, taking, recovering, Made, make, run}
+use Rattle.fetches.specs.Claim.{has, Throughout, end, step, AllTaken, RecoverSays, RecoverVerdict, HonestTake, MessageLeft}
+use Rattle.fetches.proofs.Throughout.{now-holds, then-holds, from-state}
 use Rattle.fetches.proofs.Steps.{sessionOf, stateOf, Kept, HeldAt, Held, Next, sound, next}
-
--- a call, and the rest
-pub now-holds : {P : List ℕ → Made → Type 0} {got : List ℕ} {made : Made} {rest : List Made} → Throughout P got (made ∷ rest) → P got made
-now-holds (step p ps) = p
-
-pub then-holds : {P : List ℕ → Made → Type 0} {got : List ℕ} {made : Made} {rest : List Made} → Throughout P got (made ∷ rest)
-    → Throughout P (tally got made) rest
-then-holds (step p ps) = ps
 
 -- the message of a recover is known by the call
 same-message : {a b : List ℕ} → recovering a ≡ recovering b → a ≡ b
 same-message {a} {b} e = cc
-
--- a refused call changes nothing, in any state
-module _ (schemeOf : Catalogue → Scheme) where
-  unchanged : (got : List ℕ) (at : State) (call : Call) → Unchanged got (make schemeOf at call)
-  unchanged got at (issuing server query answer) refusal e = let q = issue-unchanged schemeOf (at .session) server query refusal e in rw q (refl, refl)
-  unchanged got at (taking server answer) refusal e = let q = take-unchanged schemeOf (at .session) server answer (at .answers) refusal e in rw q (refl, refl)
-  unchanged got at (recovering message) refusal e = let q = recover-unchanged schemeOf (at .session) (at .answers) message refusal e in rw q (refl, refl)
-
-  pub refusals : (calls : List Call) (got : List ℕ) (at : State) → Throughout Unchanged got (run schemeOf at calls)
-  refusals [] got at = end
-  refusals (call ∷ calls) got at = step (unchanged got at call) (refusals calls (tally got (make schemeOf at call)) (make schemeOf at call .after))
-
-  -- from one state as from an equal one
-  from-state : {P : List ℕ → Made → Type 0} {got : List ℕ} {at other : State} (calls : List Call) → at ≡ other
-      → Throughout P got (run schemeOf other calls) → Throughout P got (run schemeOf at calls)
-  from-state {P} {got} {at} {other} calls e t = rw e t
 
 module _ (schemeOf : Catalogue → Scheme) (c : Catalogue) (admitted : Admitted c) (laws : Laws (c .servers) (c .messages) (schemeOf c))
     (wanted : ℕ) (inside : wanted < c .messages) (key : List ℕ) (valid : Valid (schemeOf c) key) where

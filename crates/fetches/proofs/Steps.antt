@@ -5,12 +5,10 @@ use mathlib.Core.Bool.{Bool, true, false, _||_}
 use mathlib.Core.List.{List, [], _∷_}
 use Prim.Native.Nat.{ℕ, _*_, _+_, _≤_, _<_}
 use native.Mathlib.Omega.{arith}
-use borrow.Author.Tests.{ltb-true, ltb-false, eqb-true, eqb-false}
-use lib.Dec.{ltb, eqb}
+use borrow.Author.Tests.{eqb-true, eqb-false}
+use lib.Dec.{eqb}
 use lib.ListN.{length, set}
 use Rattle.lists.specs.Parts.{cut, put}
-use Rattle.lists.proofs.Parts.{put-length}
-use Rattle.lists.proofs.Slots.{slot-end, cut-put, cut-put-before, cut-put-after}
 use Rattle.refusal.specs.declared.Verdict.{Verdict}
 use Rattle.refusal.specs.declared.Verdict.the-variants.{Accepted, Refused}
 use Rattle.scheme.specs.Scheme.{Scheme, Valid}
@@ -28,6 +26,7 @@ use Rattle.session.proofs.Begin.{key-kept}
 use Rattle.session.proofs.Issue.{Issues, issue-passed, issue-by}
 use Rattle.session.proofs.Take.{Takes, take-passed, take-by}
 use Rattle.session.proofs.Recover.{recover-same}
+use Rattle.session.proofs.Slots.{take-length, take-reads, take-others}
 use Rattle.fetches.specs.Fetches.{Call, issuing, taking, recovering, State, Made, make}
 use Rattle.fetches.specs.Claim.{tally, has, Honest, HonestTake}
 
@@ -78,18 +77,15 @@ module _ (schemeOf : Catalogue → Scheme) (c : Catalogue) (admitted : Admitted 
     marks = m .good;
   }
 
-  -- what is asked of a server, the length of the answer that it calls for, and the length of a slot
+  -- what is asked of a server, and the length of a slot
   abbrev query : ℕ → List ℕ
   query i = schemeOf c .query wanted i key
-
-  abbrev size : ℕ → ℕ
-  size i = schemeOf c .answerLength (query i)
 
   abbrev slot : ℕ
   slot = schemeOf c .sizes .slot
 
   -- an honest answer fits its slot
-  pub fits-slot : (i : ℕ) → i < c .servers → size i ≤ slot
+  pub fits-slot : (i : ℕ) → i < c .servers → schemeOf c .answerLength (query i) ≤ slot
   fits-slot i h = laws .answer-fits i (query i) (laws .query-admitted wanted i key inside h valid)
 
   module _ (room : ℕ) (got : List ℕ) (issued taken : List Bool) (answers : List ℕ) (k : Kept schemeOf c room got issued taken answers) where
@@ -140,16 +136,13 @@ module _ (schemeOf : Catalogue → Scheme) (c : Catalogue) (admitted : Admitted 
       abbrev after : List ℕ
       after = put (server * slot) answer answers
 
-      sized : length answer ≡ size server
-      sized = t .sized ∙ ap (schemeOf c .answerLength) (kept-query issued taken server)
-
-      ends : server * slot + length answer ≤ length answers
-      ends = omega (arith, slot-end server (c .servers) (slot) (t .below), fits-slot server (t .below), sized, t .roomy)
+      fits : schemeOf c .answerLength (queryOf schemeOf s server) ≤ slot
+      fits = rw (kept-query issued taken server) (fits-slot server (t .below))
 
       pub take-kept : Kept schemeOf c room (server ∷ got) issued (set taken server true) after
       take-kept = record {
         marks = marks-take (c .servers) issued taken (k .marks) server (t .below) (laws .servers-fit) (t .was-issued);
-        room-kept = put-length (server * slot) answer answers ends ∙ k .room-kept;
+        room-kept = take-length schemeOf s server answer answers t fits ∙ k .room-kept;
         agree = λ i h. agrees i h (eqb server i) refl;
         roomy = λ i h. let e = k .room-kept in omega (arith, t .roomy);
       }
@@ -162,25 +155,18 @@ module _ (schemeOf : Catalogue → Scheme) (c : Catalogue) (admitted : Admitted 
           → Held schemeOf c store wanted key (server ∷ got) after
       take-held store held honest i h = go (eqb server i) refl
         where
-          here : cut (server * slot) (size server) after
-              ≡ schemeOf c .answer store (query server)
-          here = rw (← sized) (cut-put (server * slot) answer answers ends ∙ honest .as-coded)
-
-          apart : (eqb server i ≡ false) → (b : Bool) → ltb i server ≡ b
-              → cut (i * slot) (size i) after
-              ≡ cut (i * slot) (size i) answers
-          apart e true q =
-              cut-put-before (server * slot) answer answers ends (i * slot) (size i)
-              (omega (arith, slot-end i server (slot) (ltb-true i server q), fits-slot i h))
-          apart e false q =
-              let ne : (server ≡ i → ⊥) = eqb-false server i e in
-              let lt : server < i = omega (arith, ltb-false i server q, ne) in
-              cut-put-after (server * slot) answer answers ends (i * slot) (size i)
-              (omega (arith, slot-end server i (slot) lt, fits-slot server (t .below), sized))
+          here : cut (server * slot) (schemeOf c .answerLength (query server)) after ≡ schemeOf c .answer store (query server)
+          here =
+              ap (λ (q : List ℕ). cut (server * slot) (schemeOf c .answerLength q) after) (sym (kept-query issued taken server))
+              ∙ take-reads schemeOf s server answer answers t fits
+              ∙ honest .as-coded
 
           go : (b : Bool) → eqb server i ≡ b → (b || has i got) ≡ true → HeldAt schemeOf c store wanted key after i
           go true e p = record { store-long = honest .store-long; holds = rw (← eqb-true server i e) here }
-          go false e p = let w = held i h p in record { store-long = w .store-long; holds = apart e (ltb i server) refl ∙ w .holds }
+          go false e p =
+              let w = held i h p in
+              let apart = take-others schemeOf s server answer answers t fits i (schemeOf c .answerLength (query i)) (λ q. eqb-false server i e (sym q)) (fits-slot i h) in
+              record { store-long = w .store-long; holds = apart ∙ w .holds }
 
     next-take : (server : ℕ) (answer : List ℕ) → Next schemeOf c wanted key room got at (taking server answer)
     next-take server answer = go (takeVerdict schemeOf s server (length answer) (length answers)) refl

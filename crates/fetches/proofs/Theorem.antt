@@ -23,7 +23,8 @@ use Rattle.fetches.specs.Shown.{issues, issuesOf, shownTo, shown}
 use Rattle.fetches.specs.Claim.{has, Each, nil, cons, FetchRight, Claim, KeyList, Exchange, Demand3, Promises}
 use Rattle.fetches.proofs.Steps.{Kept, Held}
 use Rattle.fetches.proofs.View.{seenOf, view}
-use Rattle.fetches.proofs.Recovery.{refusals, verdicts, messages}
+use Rattle.fetches.proofs.Recovery.{verdicts, messages}
+use Rattle.fetches.proofs.Throughout.{all-unchanged, all-answers-left}
 use Rattle.fetches.proofs.Exchange.{exchanges, first-key, other-keys, below-rest, exchanges-valid, exchanges-back}
 
 -- no server is taken at first
@@ -60,7 +61,8 @@ module _ (schemeOf : Catalogue → Scheme) (c : Catalogue) (admitted : Admitted 
   fetch-right : (store : List ℕ) → Below 256 store → (f : Fetch) → f .wanted < c .messages → Valid (schemeOf c) (f .key) → FetchRight schemeOf c store f
   fetch-right store bytes f inside valid = record {
     begun = rw (begun (f .wanted) inside (f .key) valid);
-    refusals = refusals schemeOf (f .calls) [] _;
+    refusals = all-unchanged schemeOf (f .calls) [] _;
+    answers-left = all-answers-left schemeOf c laws store (f .calls) [] _;
     verdicts = rw (begun (f .wanted) inside (f .key) valid)
         (verdicts schemeOf c admitted laws (f .wanted) inside (f .key) valid (f .calls) (length (f .answers)) [] noMarks noMarks (f .answers)
         (kept-first schemeOf c (f .answers)));

@@ -5,7 +5,7 @@ use mathlib.Core.Bool.{Bool, true, false, _||_}
 use mathlib.Core.List.{List, [], _∷_, map}
 use Prim.Native.Nat.{ℕ, _≤_, _<_}
 use lib.Dec.{ltb, eqb}
-use lib.ListN.{length, getD}
+use lib.ListN.{length, take, getD}
 use Rattle.lists.specs.Parts.{put}
 use Rattle.lists.specs.Below.{Below}
 use Rattle.refusal.specs.declared.Refusal.{Refusal}
@@ -17,6 +17,7 @@ use Rattle.scheme.specs.Scheme.{Scheme, Valid, messageOf}
 use Rattle.scheme.specs.Laws.{Laws}
 use Rattle.catalogue.specs.declared.Catalogue.{Catalogue}
 use Rattle.catalogue.specs.Catalogue.{Admitted}
+use Rattle.server.specs.Answering.{Answered, writtenBy, answering}
 use Rattle.session.specs.Calls.{slotsOf, begin}
 use Rattle.fetches.specs.Fetches.{Call, issuing, taking, recovering, Fetch, Made, lent, history}
 use Rattle.fetches.specs.Shown.{issuesOf, shown}
@@ -49,6 +50,9 @@ pub data Each (P : Fetch → Type 0) : List Fetch → Type 0 where
 abbrev pub Unchanged : List ℕ → Made → Type 0
 Unchanged got made = (refusal : Refusal) → made .verdict ≡ Refused refusal → (made .after ≡ made .before) × (made .left ≡ lent (made .call))
 
+abbrev pub OnlyWritten : Answered → List ℕ → Type 0
+OnlyWritten a before = a .buffer ≡ put 0 (writtenBy (a .outcome) (a .buffer)) before
+
 module _ (schemeOf : Catalogue → Scheme) (c : Catalogue) where
   abbrev pub AllTaken : List ℕ → Type 0
   AllTaken got = (server : ℕ) → server < c .servers → has server got ≡ true
@@ -80,10 +84,17 @@ module _ (schemeOf : Catalogue → Scheme) (c : Catalogue) where
         (message : List ℕ) → made .call ≡ recovering message → AllTaken got → schemeOf c .sizes .message ≤ length message
         → made .left ≡ put 0 (messageOf (schemeOf c) store wanted) message
 
+    -- of the buffer that a query is answered into, nothing is left changed but what the server is shown to write
+    abbrev pub AnswerLeft : List ℕ → Made → Type 0
+    AnswerLeft got made =
+        (server : ℕ) (query answer : List ℕ) → made .call ≡ issuing server query answer → made .verdict ≡ Accepted
+        → OnlyWritten (answering schemeOf c server store (take (schemeOf c .sizes .query) (made .left)) answer) answer
+
     -- What holds in each fetch
     pub record FetchRight (f : Fetch) : Type 0 where
       pub begun : begin schemeOf c (f .wanted) (f .key) .verdict ≡ Accepted
       pub refusals : Throughout Unchanged [] (history schemeOf c f)
+      pub answers-left : Throughout AnswerLeft [] (history schemeOf c f)
       pub verdicts : Throughout (RecoverVerdict (length (f .answers))) [] (history schemeOf c f)
       pub messages : Throughout (HonestTake (f .wanted) (f .key)) [] (history schemeOf c f)
           → Throughout (MessageLeft (f .wanted)) [] (history schemeOf c f)

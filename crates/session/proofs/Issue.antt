@@ -6,7 +6,7 @@ use mathlib.Core.List.{List}
 use Prim.Native.Nat.{ℕ, _≤_, _<_}
 use lib.Dec.{leb, ltb}
 use lib.ListN.{length}
-use borrow.Author.Tests.{leb-false, lt-leb, ltb-false, not-false}
+use borrow.Author.Tests.{leb-false, lt-leb, ltb-false, le-ltb, not-false}
 use Rattle.lists.specs.Parts.{put}
 use Rattle.refusal.specs.declared.Refusal.{Refusal}
 use Rattle.refusal.specs.declared.Refusal.the-variants.{Room}
@@ -57,6 +57,9 @@ module _ (schemeOf : Catalogue → Scheme) (s : Session) (server : ℕ) where
   unfolding issueVerdict
   issue-verdict sound below room =
       rw (sound .admitted, lt-leb (s .catalogue .servers) server below, lt-leb (s .catalogue .messages) (s .wanted) (sound .inside), sound .good, sound .marks)
+
+  pub issue-accepted : (room : ℕ) → Issues room → issueVerdict schemeOf s server room ≡ Accepted
+  issue-accepted room i = rw (issue-verdict (i .sound) (i .below) room, le-ltb room (codeOf schemeOf s .sizes .query) (i .roomy))
 
   module _ (buffer : List ℕ) where
     -- issue goes by its verdict

@@ -5,3 +5,4 @@ pub mod Begin
 pub mod Issue
 pub mod Take
 pub mod Recover
+pub mod Slots
