@@ -1,5 +1,5 @@
 -- The exchange of lists of keys: key by key, for one server and two lists of messages. It keeps valid keys valid, and the opposite one undoes it.
-use mathlib.Core.Path.{_≡_, refl, sym}
+use mathlib.Core.Path.{_≡_, refl}
 use mathlib.Core.List.{List, [], _∷_}
 use Prim.Native.Nat.{ℕ, zero, suc, _<_}
 use native.Mathlib.Nat.{not-suc-le-zero, le-of-suc-le-suc}

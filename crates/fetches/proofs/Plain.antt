@@ -1,13 +1,13 @@
 -- The plain fetch is right: its session is sound throughout, so that no call is refused, and its takes are honest.
 use mathlib.Core.Path.{_≡_, refl, sym, ap, _∙_}
-use mathlib.Core.Bool.{Bool, true, false, _||_, cond}
+use mathlib.Core.Bool.{Bool, true, false, _||_}
 use mathlib.Core.List.{List, [], _∷_, _++_, map}
 use Prim.Native.Nat.{ℕ, zero, suc, _+_, _*_, _≤_, _<_}
 use native.Mathlib.Nat.{not-suc-le-zero, zero-add}
 use native.Mathlib.Omega.{arith}
-use borrow.Author.Tests.{eqb-true, eqb-false, eq-eqb, ne-eqb, le-ltb}
-use lib.Dec.{eqb, ltb}
-use lib.ListN.{length, set, replicate, length-replicate}
+use borrow.Author.Tests.{eqb-true, eqb-false, ne-eqb, le-ltb}
+use lib.Dec.{eqb}
+use lib.ListN.{length, set}
 use Rattle.lists.specs.Parts.{put}
 use Rattle.lists.specs.Below.{Below}
 use Rattle.lists.specs.Ranges.{range}
@@ -18,12 +18,12 @@ use Rattle.catalogue.specs.declared.Catalogue.{Catalogue}
 use Rattle.catalogue.specs.Catalogue.{Admitted}
 use Rattle.session.specs.declared.Session.{Session}
 use Rattle.session.specs.Marks.{noMarks, marked}
-use Rattle.session.specs.Calls.{Out, slotsOf, issueVerdict, takeVerdict}
+use Rattle.session.specs.Calls.{slotsOf, issueVerdict}
 use Rattle.session.proofs.Marks.{mark-set, mark-other, marks-issue}
-use Rattle.session.proofs.Issue.{issue-verdict, issue-by}
+use Rattle.session.proofs.Issue.{issue-accepted, issue-by}
 use Rattle.session.proofs.Take.{Takes, take-accepted, take-by}
 use Rattle.fetches.specs.Fetches.{issuing, taking, recovering, Made, run, history}
-use Rattle.fetches.specs.Claim.{has, Honest, Promises}
+use Rattle.fetches.specs.Claim.{has}
 use Rattle.fetches.specs.Plain.{Ends, last, later, queryTo, answerOf, plain}
 use Rattle.fetches.proofs.Steps.{sessionOf, stateOf, Kept, Held, kept-query, sound, take-kept, take-held}
 use Rattle.fetches.proofs.Recovery.{recover-right, recover-message}
@@ -94,8 +94,8 @@ module _ (schemeOf : Catalogue → Scheme) (c : Catalogue) (admitted : Admitted 
   issues-end query answer room-for (suc count) from e issued answers k had =
       let h : from < c .servers = omega arith in
       let s : Session = sessionOf c wanted key issued noMarks in
-      let accepted : issueVerdict schemeOf s from (length query) ≡ Accepted = rw (le-ltb (length query) (schemeOf c .sizes .query) room-for) at
-      (issue-verdict schemeOf s from (sound schemeOf c admitted laws wanted inside key valid issued noMarks (k .marks)) h (length query)) in
+      let accepted : issueVerdict schemeOf s from (length query) ≡ Accepted = issue-accepted schemeOf s from (length query)
+      (record { sound = sound schemeOf c admitted laws wanted inside key valid issued noMarks (k .marks); below = h; roomy = room-for }) in
       rw (issue-by schemeOf s from query Accepted (sym accepted))
       (later refl
       (issues-end query answer room-for count (suc from) (omega arith) (set issued from true) answers

@@ -5,24 +5,23 @@ use mathlib.Core.List.{List, [], _∷_, map}
 use Prim.Native.Nat.{ℕ, zero, suc, _+_, _*_, _≤_, _<_}
 use native.Mathlib.Nat.{not-suc-le-zero, suc-mul, mul-le-mul-right, zero-add, zero-mul}
 use native.Mathlib.Omega.{arith}
-use borrow.Author.Tests.{eqb-true, eqb-false, eq-eqb, ne-eqb}
+use borrow.Author.Tests.{eqb-true, eqb-false, ne-eqb}
 use lib.Dec.{eqb}
 use lib.ListN.{length}
 use Rattle.lists.specs.Ranges.{range}
 use Rattle.refusal.specs.declared.Verdict.{Verdict}
 use Rattle.refusal.specs.declared.Verdict.the-variants.{Accepted, Refused}
-use Rattle.refusal.specs.declared.Outcome.the-variants.{Value}
 use Rattle.scheme.specs.Scheme.{Scheme, Valid, honestAnswers}
 use Rattle.scheme.specs.Laws.{Laws}
 use Rattle.catalogue.specs.declared.Catalogue.{Catalogue}
-use Rattle.catalogue.specs.Catalogue.{Admitted, catalogueVerdict}
+use Rattle.catalogue.specs.Catalogue.{Admitted}
 use Rattle.session.specs.Marks.{noMarks}
-use Rattle.session.specs.Calls.{Out, slotsOf, takeVerdict, boundBy, bound}
-use Rattle.session.proofs.Take.{Takes, take-passed, take-by}
-use Rattle.fetches.specs.Fetches.{Call, issuing, taking, recovering, Fetch, Made, make, run, history}
+use Rattle.session.specs.Calls.{slotsOf, takeVerdict, boundBy, bound}
+use Rattle.session.proofs.Take.{take-passed, take-by}
+use Rattle.fetches.specs.Fetches.{Call, issuing, taking, recovering, make, run}
 use Rattle.fetches.specs.Claim.{tally, has, Promises}
 use Rattle.fetches.specs.Received.{receivedBy, received, bytesOf, Bounded}
-use Rattle.fetches.proofs.Steps.{sessionOf, stateOf, Kept, Next, kept-query, fits-slot, next}
+use Rattle.fetches.proofs.Steps.{sessionOf, stateOf, Kept, kept-query, fits-slot, next}
 use Rattle.fetches.proofs.Theorem.{kept-first, begun}
 
 -- how many of the servers below n were taken

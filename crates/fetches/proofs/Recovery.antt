@@ -1,19 +1,17 @@
 -- What recover does in a fetch: its verdict goes by the calls made, and after honest takes from all servers it gives the wanted message.
-use mathlib.Core.Path.{_≡_, refl, sym, ap, _∙_}
-use mathlib.Core.Bool.{Bool, true, false, not}
-use mathlib.Core.List.{List, [], _∷_, map}
-use Prim.Native.Nat.{ℕ, _*_, _≤_, _<_}
+use mathlib.Core.Path.{_≡_, sym, ap, _∙_}
+use mathlib.Core.Bool.{Bool, false, not}
+use mathlib.Core.List.{List, [], _∷_}
+use Prim.Native.Nat.{ℕ, _≤_, _<_}
 use native.Mathlib.Omega.{arith}
 use borrow.Author.Tests.{le-ltb}
 use lib.Dec.{ltb}
 use lib.ListN.{length}
-use Rattle.lists.specs.Parts.{cut, put}
+use Rattle.lists.specs.Parts.{put}
 use Rattle.lists.specs.Below.{Below}
-use Rattle.lists.specs.Ranges.{range}
 use Rattle.lists.proofs.Every.{every-true, every-false}
 use Rattle.lists.proofs.Ranges.{map-range}
 use Rattle.refusal.specs.declared.Refusal.the-variants.{Room, Missing}
-use Rattle.refusal.specs.declared.Verdict.{Verdict}
 use Rattle.refusal.specs.declared.Verdict.the-variants.{Accepted, Refused}
 use Rattle.refusal.specs.Chain.{refuseIf}
 use Rattle.scheme.specs.Scheme.{Scheme, Valid, messageOf, honestAnswers, answersIn}
@@ -21,13 +19,13 @@ use Rattle.scheme.specs.Laws.{Laws}
 use Rattle.catalogue.specs.declared.Catalogue.{Catalogue}
 use Rattle.catalogue.specs.Catalogue.{Admitted}
 use Rattle.session.specs.Marks.{marked, allTaken}
-use Rattle.session.specs.Calls.{Out, keyOf, slotsOf, recovered, recoverVerdict, recover}
+use Rattle.session.specs.Calls.{slotsOf, recovered, recoverVerdict, recover}
 use Rattle.session.proofs.Begin.{key-kept}
 use Rattle.session.proofs.Recover.{recover-verdict, recover-by, recover-says}
-use Rattle.fetches.specs.Fetches.{Call, issuing, taking, recovering, Made, make, run}
+use Rattle.fetches.specs.Fetches.{Call, issuing, taking, recovering, make, run}
 use Rattle.fetches.specs.Claim.{has, Throughout, end, step, AllTaken, RecoverSays, RecoverVerdict, HonestTake, MessageLeft}
 use Rattle.fetches.proofs.Throughout.{now-holds, then-holds, from-state}
-use Rattle.fetches.proofs.Steps.{sessionOf, stateOf, Kept, HeldAt, Held, Next, sound, next}
+use Rattle.fetches.proofs.Steps.{sessionOf, stateOf, Kept, Held, sound, next}
 
 -- the message of a recover is known by the call
 same-message : {a b : List ℕ} → recovering a ≡ recovering b → a ≡ b

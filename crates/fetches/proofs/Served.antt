@@ -6,10 +6,9 @@ use Prim.Native.Nat.{ℕ, zero, suc, _+_, _≤_, _<_}
 use native.Mathlib.Nat.{zero-add}
 use native.Mathlib.Omega.{arith}
 use borrow.Author.Tests.{eqb-true, eqb-false, ne-eqb, le-ltb}
-use lib.Dec.{eqb, ltb}
+use lib.Dec.{eqb}
 use lib.ListN.{length, replicate, length-replicate}
 use lib.Seq.{take-all}
-use Rattle.lists.specs.Below.{Below}
 use Rattle.lists.specs.Ranges.{range}
 use Rattle.refusal.specs.declared.Verdict.the-variants.{Accepted}
 use Rattle.refusal.specs.declared.Outcome.the-variants.{Value}
@@ -19,12 +18,12 @@ use Rattle.catalogue.specs.declared.Catalogue.{Catalogue}
 use Rattle.catalogue.specs.Catalogue.{Admitted}
 use Rattle.server.specs.Answering.{answerVerdict}
 use Rattle.server.proofs.Laws.{answer-accepted, answer-by, writes-answer}
-use Rattle.fetches.specs.Fetches.{Call, issuing, taking, recovering, Fetch, history}
-use Rattle.fetches.specs.Shown.{Shown, asked, Issue, issues, asking, shownTo}
+use Rattle.fetches.specs.Fetches.{Call, issuing, taking, recovering, history}
+use Rattle.fetches.specs.Shown.{Shown, asked, issues, asking, shownTo}
 use Rattle.fetches.specs.Claim.{Promises}
-use Rattle.fetches.specs.Plain.{queryTo, answerOf, plain, PlainRight, PlainFetch}
+use Rattle.fetches.specs.Plain.{queryTo, answerOf, plain, PlainFetch}
 use Rattle.fetches.proofs.View.{seen, seenOf}
-use Rattle.fetches.proofs.Theorem.{begun, fetch-shown, kept-first}
+use Rattle.fetches.proofs.Theorem.{fetch-shown}
 use Rattle.fetches.proofs.Plain.{plain-ends}
 
 -- takes and a recover are no issues

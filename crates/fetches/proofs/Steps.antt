@@ -2,8 +2,8 @@
 -- the honest answers.
 use mathlib.Core.Path.{_≡_, refl, sym, ap, _∙_}
 use mathlib.Core.Bool.{Bool, true, false, _||_}
-use mathlib.Core.List.{List, [], _∷_}
-use Prim.Native.Nat.{ℕ, _*_, _+_, _≤_, _<_}
+use mathlib.Core.List.{List, _∷_}
+use Prim.Native.Nat.{ℕ, _*_, _≤_, _<_}
 use native.Mathlib.Omega.{arith}
 use borrow.Author.Tests.{eqb-true, eqb-false}
 use lib.Dec.{eqb}
@@ -16,18 +16,17 @@ use Rattle.scheme.specs.Laws.{Laws}
 use Rattle.catalogue.specs.declared.Catalogue.{Catalogue}
 use Rattle.catalogue.specs.Catalogue.{Admitted}
 use Rattle.session.specs.declared.Session.{Session}
-use Rattle.session.specs.declared.Handed.{Handed}
 use Rattle.session.specs.Marks.{marked}
 use Rattle.session.specs.Fields.{paddedKey}
-use Rattle.session.specs.Calls.{Out, codeOf, queryOf, keyOf, slotsOf, issueVerdict, takeVerdict}
+use Rattle.session.specs.Calls.{queryOf, slotsOf, issueVerdict, takeVerdict}
 use Rattle.session.proofs.Marks.{Marks, mark-set, mark-other, marks-issue, marks-take}
 use Rattle.session.proofs.Sound.{Sound}
 use Rattle.session.proofs.Begin.{key-kept}
-use Rattle.session.proofs.Issue.{Issues, issue-passed, issue-by}
+use Rattle.session.proofs.Issue.{issue-passed, issue-by}
 use Rattle.session.proofs.Take.{Takes, take-passed, take-by}
 use Rattle.session.proofs.Recover.{recover-same}
 use Rattle.session.proofs.Slots.{take-length, take-reads, take-others}
-use Rattle.fetches.specs.Fetches.{Call, issuing, taking, recovering, State, Made, make}
+use Rattle.fetches.specs.Fetches.{Call, issuing, taking, recovering, State, make}
 use Rattle.fetches.specs.Claim.{tally, has, Honest, HonestTake}
 
 -- a session of a fetch, and a state of one: only the marks and the answer buffer move

@@ -12,15 +12,14 @@ use Rattle.scheme.specs.Scheme.{Scheme, Valid}
 use Rattle.scheme.specs.Laws.{Laws}
 use Rattle.catalogue.specs.declared.Catalogue.{Catalogue}
 use Rattle.catalogue.specs.Catalogue.{Admitted}
-use Rattle.session.specs.declared.Handed.{Handed}
 use Rattle.session.specs.Marks.{noMarks}
 use Rattle.session.specs.Fields.{newSession}
 use Rattle.session.specs.Calls.{begin}
 use Rattle.session.proofs.Marks.{none-marked, marks-none}
-use Rattle.session.proofs.Begin.{Begins, begin-accepted, begin-by}
+use Rattle.session.proofs.Begin.{begin-accepted, begin-by}
 use Rattle.fetches.specs.Fetches.{Fetch, history}
 use Rattle.fetches.specs.Shown.{issues, issuesOf, shownTo, shown}
-use Rattle.fetches.specs.Claim.{has, Each, nil, cons, FetchRight, Claim, KeyList, Exchange, Demand3, Promises}
+use Rattle.fetches.specs.Claim.{has, Each, nil, cons, FetchRight, KeyList, Exchange, Demand3, Promises}
 use Rattle.fetches.proofs.Steps.{Kept, Held}
 use Rattle.fetches.proofs.View.{seenOf, view}
 use Rattle.fetches.proofs.Recovery.{verdicts, messages}

@@ -11,10 +11,8 @@ use Rattle.lists.specs.Ranges.{range}
 use Rattle.refusal.specs.declared.Refusal.the-variants.{Bounds}
 use Rattle.refusal.specs.declared.Verdict.the-variants.{Accepted}
 use Rattle.refusal.proofs.Chain.{passed}
-use Rattle.parameters.specs.declared.Sizes.{Sizes}
 use Rattle.parameters.proofs.Bounds.{short-bounds, even-bounds}
 use Rattle.scheme.specs.Scheme.{Scheme, honestAnswers}
-use Rattle.scheme.specs.Laws.{Laws}
 use Rattle.catalogue.specs.declared.Code.{Code}
 use Rattle.catalogue.specs.declared.Code.the-variants.{Short, Even}
 use Rattle.catalogue.specs.declared.Catalogue.{Catalogue}

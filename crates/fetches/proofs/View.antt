@@ -6,9 +6,8 @@ use Prim.Native.Nat.{ℕ, _<_}
 use native.Mathlib.Omega.{arith}
 use borrow.Author.Tests.{eqb-true}
 use lib.Dec.{ltb, eqb}
-use lib.ListN.{length, take, drop, replicate, length-replicate}
+use lib.ListN.{length, drop, replicate, length-replicate}
 use lib.Seq.{take-at, take-all}
-use Rattle.lists.specs.Parts.{put}
 use Rattle.refusal.specs.declared.Refusal.the-variants.{Room}
 use Rattle.refusal.specs.declared.Verdict.{Verdict}
 use Rattle.refusal.specs.declared.Verdict.the-variants.{Accepted, Refused}
@@ -18,14 +17,13 @@ use Rattle.scheme.specs.Scheme.{Scheme, Valid}
 use Rattle.scheme.specs.Laws.{Laws}
 use Rattle.catalogue.specs.declared.Catalogue.{Catalogue}
 use Rattle.catalogue.specs.Catalogue.{Admitted}
-use Rattle.server.specs.Answering.{Answered, answerVerdict}
+use Rattle.server.specs.Answering.{answerVerdict}
 use Rattle.server.proofs.Laws.{answer-by, writes-answer}
-use Rattle.session.specs.Calls.{Out, queryOf, issueVerdict, issue, issueBy}
+use Rattle.session.specs.Calls.{issueVerdict, issue}
 use Rattle.session.proofs.Issue.{issue-verdict, issue-by}
-use Rattle.fetches.specs.Fetches.{Call, issuing, taking, recovering, Made, run}
-use Rattle.fetches.specs.Shown.{Shown, asked, Issue, issues, asking, showing, shownBy, shownTo}
-use Rattle.fetches.specs.Claim.{has}
-use Rattle.fetches.proofs.Steps.{sessionOf, stateOf, Kept, Next, kept-query, sound, next}
+use Rattle.fetches.specs.Fetches.{Call, issuing, taking, recovering, run}
+use Rattle.fetches.specs.Shown.{Shown, asked, Issue, issues, asking, showing, shownTo}
+use Rattle.fetches.proofs.Steps.{sessionOf, stateOf, Kept, kept-query, sound, next}
 
 module _ (schemeOf : Catalogue → Scheme) (c : Catalogue) (store : List ℕ) (n : ℕ) (query : List ℕ) where
   -- what an issue shows that asks the query: as if into zeros

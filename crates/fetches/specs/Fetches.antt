@@ -5,7 +5,6 @@ use Rattle.refusal.specs.declared.Verdict.{Verdict}
 use Rattle.scheme.specs.Scheme.{Scheme}
 use Rattle.catalogue.specs.declared.Catalogue.{Catalogue}
 use Rattle.session.specs.declared.Session.{Session}
-use Rattle.session.specs.declared.Handed.{Handed}
 use Rattle.session.specs.Calls.{Out, begin, issue, takeAnswer, recover}
 
 -- A call of a fetch, with the buffers that are its own as they are when it is made: an issue has the one for the query, and the one that the server

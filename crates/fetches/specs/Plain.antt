@@ -13,7 +13,7 @@ use Rattle.scheme.specs.Scheme.{Scheme, Valid, messageOf}
 use Rattle.catalogue.specs.declared.Catalogue.{Catalogue}
 use Rattle.catalogue.specs.Catalogue.{Admitted}
 use Rattle.session.specs.Calls.{slotsOf}
-use Rattle.fetches.specs.Fetches.{Call, issuing, taking, recovering, Fetch, Made, history}
+use Rattle.fetches.specs.Fetches.{issuing, taking, recovering, Fetch, Made, history}
 use Rattle.fetches.specs.Shown.{asked, shownTo}
 
 -- every call is accepted, and P holds of the last one

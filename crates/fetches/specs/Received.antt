@@ -8,7 +8,6 @@ use Rattle.refusal.specs.declared.Verdict.the-variants.{Accepted, Refused}
 use Rattle.refusal.specs.declared.Outcome.the-variants.{Value}
 use Rattle.scheme.specs.Scheme.{Scheme, Valid, honestAnswers}
 use Rattle.catalogue.specs.declared.Catalogue.{Catalogue}
-use Rattle.catalogue.specs.Catalogue.{Admitted}
 use Rattle.session.specs.Calls.{slotsOf, bound}
 use Rattle.fetches.specs.Fetches.{Call, issuing, taking, recovering, Fetch, Made, history}
 

@@ -1,6 +1,5 @@
 -- Parts and elements of a list of one element repeated.
 use mathlib.Core.Path.{_≡_, refl, sym, ap, _∙_}
-use mathlib.Core.List.{List}
 use Prim.Native.Nat.{ℕ, zero, suc, _+_, _-_, _≤_}
 use native.Mathlib.Omega.{arith}
 use lib.ListN.{drop, getD, replicate, length-replicate, replicate-append-replicate}

@@ -18,7 +18,6 @@ use Rattle.scheme.specs.Scheme.{Scheme}
 use Rattle.catalogue.specs.declared.Catalogue.{Catalogue}
 use Rattle.catalogue.specs.Catalogue.{catalogueVerdict}
 use Rattle.session.specs.declared.Session.{Session}
-use Rattle.session.specs.declared.Handed.{Handed}
 use Rattle.session.specs.Marks.{marksGood}
 use Rattle.session.specs.Fields.{markIssued}
 use Rattle.session.specs.Calls.{Did, out, codeOf, keyOf, queryOf, issueVerdict, issueBy, issue}

@@ -1,6 +1,6 @@
 -- The slots of the answer buffer: a take writes its server's slot and no other, an empty answer writes nothing, and recovery reads of each slot only
 -- the answer that the session calls for there.
-use mathlib.Core.Path.{_≡_, refl, ap, _∙_}
+use mathlib.Core.Path.{_≡_, refl, ap}
 use mathlib.Core.Bool.{Bool, true, false}
 use mathlib.Core.List.{List, []}
 use Prim.Native.Nat.{ℕ, _+_, _*_, _≤_, _<_}
@@ -17,7 +17,7 @@ use Rattle.refusal.specs.declared.Verdict.the-variants.{Accepted, Refused}
 use Rattle.scheme.specs.Scheme.{Scheme, answersIn}
 use Rattle.catalogue.specs.declared.Catalogue.{Catalogue}
 use Rattle.session.specs.declared.Session.{Session}
-use Rattle.session.specs.Calls.{Out, codeOf, keyOf, queryOf, takeVerdict, takeBy, takeAnswer, recovered}
+use Rattle.session.specs.Calls.{codeOf, keyOf, queryOf, takeVerdict, takeBy, takeAnswer, recovered}
 use Rattle.session.proofs.Take.{Takes, take-by}
 
 module _ (schemeOf : Catalogue → Scheme) (s : Session) where

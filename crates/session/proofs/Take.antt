@@ -16,7 +16,6 @@ use Rattle.scheme.specs.Scheme.{Scheme}
 use Rattle.catalogue.specs.declared.Catalogue.{Catalogue}
 use Rattle.catalogue.specs.Catalogue.{catalogueVerdict}
 use Rattle.session.specs.declared.Session.{Session}
-use Rattle.session.specs.declared.Handed.{Handed}
 use Rattle.session.specs.Marks.{marked, marksGood}
 use Rattle.session.specs.Fields.{markTaken}
 use Rattle.session.specs.Calls.{Did, out, codeOf, keyOf, queryOf, slotsOf, takeVerdict, takeBy, takeAnswer}

@@ -1,7 +1,4 @@
 -- `session::new_session` meets its contract: its key is what `padded_key` gives, and its marks are not set.
-use mathlib.Core.Path.{ap}
-use mathlib.Core.List.{List}
-use Prim.Native.Nat.{ℕ}
 use borrow.Author.Needs.{needs}
 use Rattle.session.specs.Marks.{noMarks}
 use Rattle.session.proofs.new_session.Statement.{statement}
