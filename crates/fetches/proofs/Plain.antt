@@ -23,7 +23,7 @@ use Rattle.session.proofs.Marks.{mark-set, mark-other, marks-issue}
 use Rattle.session.proofs.Issue.{issue-accepted, issue-by}
 use Rattle.session.proofs.Take.{Takes, take-accepted, take-by}
 use Rattle.fetches.specs.Fetches.{issuing, taking, recovering, Made, run, history}
-use Rattle.fetches.specs.Claim.{has}
+use Rattle.fetches.specs.Right.{has}
 use Rattle.fetches.specs.Plain.{Ends, last, later, queryTo, answerOf, plain}
 use Rattle.fetches.proofs.Steps.{sessionOf, stateOf, Kept, Held, kept-query, sound, take-kept, take-held}
 use Rattle.fetches.proofs.Recovery.{recover-right, recover-message}

@@ -16,10 +16,12 @@ use Rattle.scheme.specs.Laws.{Laws}
 use Rattle.catalogue.specs.declared.Catalogue.{Catalogue}
 use Rattle.catalogue.specs.Catalogue.{Admitted}
 use Rattle.session.specs.Marks.{noMarks}
-use Rattle.session.specs.Calls.{slotsOf, takeVerdict, boundBy, bound}
+use Rattle.session.specs.Calls.{slotsOf, takeVerdict}
+use Rattle.session.proofs.Bound.{bound-done}
 use Rattle.session.proofs.Take.{take-passed, take-by}
 use Rattle.fetches.specs.Fetches.{Call, issuing, taking, recovering, make, run}
-use Rattle.fetches.specs.Claim.{tally, has, Promises}
+use Rattle.fetches.specs.Right.{tally, has}
+use Rattle.fetches.specs.Claim.{Promises}
 use Rattle.fetches.specs.Received.{receivedBy, received, bytesOf, Bounded}
 use Rattle.fetches.proofs.Steps.{sessionOf, stateOf, Kept, kept-query, fits-slot, next}
 use Rattle.fetches.proofs.Theorem.{kept-first, begun}
@@ -115,9 +117,9 @@ module _ (schemeOf : Catalogue → Scheme) (c : Catalogue) (admitted : Admitted 
       omega (arith, suc-mul count slot)
 
   bounded : Bounded schemeOf c
-  unfolding bound honestAnswers
+  unfolding honestAnswers
   bounded = record {
-    given = ap (boundBy schemeOf c) admitted;
+    given = bound-done schemeOf c Accepted (sym admitted) refl;
     taken = λ f inside valid.
         let most = receives (f .wanted) inside (f .key) valid (f .calls) (length (f .answers)) [] noMarks noMarks (f .answers) (kept-first schemeOf c (f .answers)) in
         rw (begun schemeOf c admitted laws (f .wanted) inside (f .key) valid) (omega arith);

@@ -23,7 +23,7 @@ use Rattle.session.specs.Calls.{slotsOf, recovered, recoverVerdict, recover}
 use Rattle.session.proofs.Begin.{key-kept}
 use Rattle.session.proofs.Recover.{recover-verdict, recover-by, recover-says}
 use Rattle.fetches.specs.Fetches.{Call, issuing, taking, recovering, make, run}
-use Rattle.fetches.specs.Claim.{has, Throughout, end, step, AllTaken, RecoverSays, RecoverVerdict, HonestTake, MessageLeft}
+use Rattle.fetches.specs.Right.{has, Throughout, end, step, AllTaken, RecoverSays, RecoverVerdict, HonestTake, MessageLeft}
 use Rattle.fetches.proofs.Throughout.{now-holds, then-holds, from-state}
 use Rattle.fetches.proofs.Steps.{sessionOf, stateOf, Kept, Held, sound, next}
 

@@ -2,7 +2,7 @@
 use mathlib.Core.Path.{_≡_, refl, sym, ap, _∙_}
 use mathlib.Core.Bool.{Bool, true, false, cond}
 use mathlib.Core.List.{List, [], _∷_, _++_, map}
-use Prim.Native.Nat.{ℕ, zero, suc, _+_, _≤_, _<_}
+use Prim.Native.Nat.{ℕ, zero, suc, _+_, _*_, _≤_, _<_}
 use native.Mathlib.Nat.{zero-add}
 use native.Mathlib.Omega.{arith}
 use borrow.Author.Tests.{eqb-true, eqb-false, ne-eqb, le-ltb}
@@ -10,9 +10,11 @@ use lib.Dec.{eqb}
 use lib.ListN.{length, replicate, length-replicate}
 use lib.Seq.{take-all}
 use Rattle.lists.specs.Ranges.{range}
+use Rattle.lists.proofs.Parts.{cut-length}
+use Rattle.lists.proofs.Slots.{slot-end}
 use Rattle.refusal.specs.declared.Verdict.the-variants.{Accepted}
 use Rattle.refusal.specs.declared.Outcome.the-variants.{Value}
-use Rattle.scheme.specs.Scheme.{Scheme, Valid}
+use Rattle.scheme.specs.Scheme.{Scheme, Valid, messageOf}
 use Rattle.scheme.specs.Laws.{Laws}
 use Rattle.catalogue.specs.declared.Catalogue.{Catalogue}
 use Rattle.catalogue.specs.Catalogue.{Admitted}
@@ -96,9 +98,17 @@ module _ (schemeOf : Catalogue → Scheme) (c : Catalogue) (admitted : Admitted 
           )
           (honest (replicate (length answerBuffer) 0) (omega (arith, length-replicate {A = ℕ} (length answerBuffer) 0)))
 
+-- a message of the store has all its bytes
+whole-message : (servers messages : ℕ) (scheme : Scheme) → Laws servers messages scheme → (store : List ℕ) → length store ≡ scheme .sizes .store
+    → (wanted : ℕ) → wanted < messages → length (messageOf scheme store wanted) ≡ scheme .sizes .message
+whole-message servers messages scheme laws store long wanted inside =
+    cut-length (wanted * scheme .sizes .message) (scheme .sizes .message) store
+    (omega (arith, slot-end wanted messages (scheme .sizes .message) inside, laws .store-whole))
+
 pub plain-fetch : (schemeOf : Catalogue → Scheme) → Promises schemeOf → PlainFetch schemeOf
 plain-fetch schemeOf promises c admitted store bytes long wanted inside key valid answers query answer message slots-fit query-fits answer-fits message-fits =
     record {
+      whole = whole-message (c .servers) (c .messages) (schemeOf c) (promises c admitted) store long wanted inside;
       served = λ n below. served schemeOf c admitted (promises c admitted) store long wanted inside key valid n below answers query answer message query-fits answer-fits;
       ends = plain-ends schemeOf c admitted (promises c admitted) wanted inside key valid store bytes long message message-fits answers slots-fit query answer query-fits;
     }

@@ -27,7 +27,7 @@ use Rattle.session.proofs.Take.{Takes, take-passed, take-by}
 use Rattle.session.proofs.Recover.{recover-same}
 use Rattle.session.proofs.Slots.{take-length, take-reads, take-others}
 use Rattle.fetches.specs.Fetches.{Call, issuing, taking, recovering, State, make}
-use Rattle.fetches.specs.Claim.{tally, has, Honest, HonestTake}
+use Rattle.fetches.specs.Right.{tally, has, Honest, HonestTake}
 
 -- a session of a fetch, and a state of one: only the marks and the answer buffer move
 abbrev pub sessionOf : Catalogue → ℕ → List ℕ → List Bool → List Bool → Session

@@ -19,7 +19,8 @@ use Rattle.session.proofs.Marks.{none-marked, marks-none}
 use Rattle.session.proofs.Begin.{begin-accepted, begin-by}
 use Rattle.fetches.specs.Fetches.{Fetch, history}
 use Rattle.fetches.specs.Shown.{issues, issuesOf, shownTo, shown}
-use Rattle.fetches.specs.Claim.{has, Each, nil, cons, FetchRight, KeyList, Exchange, Demand3, Promises}
+use Rattle.fetches.specs.Right.{has, FetchRight}
+use Rattle.fetches.specs.Claim.{Each, nil, cons, KeyList, Exchange, Demand3, Promises}
 use Rattle.fetches.proofs.Steps.{Kept, Held}
 use Rattle.fetches.proofs.View.{seenOf, view}
 use Rattle.fetches.proofs.Recovery.{verdicts, messages}

@@ -11,7 +11,7 @@ use Rattle.session.proofs.Issue.{issue-unchanged}
 use Rattle.session.proofs.Take.{take-unchanged}
 use Rattle.session.proofs.Recover.{recover-unchanged}
 use Rattle.fetches.specs.Fetches.{Call, issuing, taking, recovering, State, Made, make, run}
-use Rattle.fetches.specs.Claim.{tally, Throughout, end, step, Unchanged, AnswerLeft}
+use Rattle.fetches.specs.Right.{tally, Throughout, end, step, Unchanged, AnswerLeft}
 
 -- a call, and the rest
 pub now-holds : {P : List ℕ → Made → Type 0} {got : List ℕ} {made : Made} {rest : List Made} → Throughout P got (made ∷ rest) → P got made

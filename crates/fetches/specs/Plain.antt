@@ -39,9 +39,10 @@ module _ (schemeOf : Catalogue → Scheme) (c : Catalogue) (store : List ℕ) (w
         ++ (map (λ (server : ℕ). taking server (answerOf server)) (range 0 (c .servers)) ++ (recovering message ∷ []));
   }
 
-  -- each server is asked the query that the code calls for, once, and writes the answer that is taken from it; no call is refused; and the message's
-  -- buffer ends with the wanted message at its start and the rest as it was
+  -- the wanted message has all its bytes; each server is asked the query that the code calls for, once, and writes the answer that is taken from it; no
+  -- call is refused; and the message's buffer ends with the wanted message at its start and the rest as it was
   pub record PlainRight (answers query answer message : List ℕ) : Type 0 where
+    pub whole : length (messageOf (schemeOf c) store wanted) ≡ schemeOf c .sizes .message
     pub served : (n : ℕ) → n < c .servers
         → shownTo schemeOf c store n (history schemeOf c (plain answers query answer message)) ≡ asked (queryTo n) (Value (length (answerOf n))) (answerOf n) ∷ []
     pub ends : Ends (λ (made : Made). made .left ≡ put 0 (messageOf (schemeOf c) store wanted) message) (history schemeOf c (plain answers query answer message))

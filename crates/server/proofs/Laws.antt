@@ -3,6 +3,7 @@ use mathlib.Core.Path.{_≡_, refl, sym, ap}
 use mathlib.Core.Bool.{true, not}
 use mathlib.Core.List.{List}
 use Prim.Native.Nat.{ℕ, _≤_, _<_}
+use native.Mathlib.Omega.{arith}
 use lib.Dec.{leb, ltb, eqb}
 use lib.ListN.{length, take, drop}
 use lib.Seq.{take-at}
@@ -56,6 +57,12 @@ module _ (schemeOf : Catalogue → Scheme) where
         eq-eqb stored (schemeOf c .sizes .store) (a .store-long),
         le-ltb room (schemeOf c .answerLength query) (a .roomy),
       )
+
+  -- an empty answer needs no room
+  pub answer-empty : (c : Catalogue) (server stored : ℕ) (query : List ℕ) (room : ℕ) → schemeOf c .answerLength query ≡ 0
+      → answerVerdict schemeOf c server stored query room ≡ answerVerdict schemeOf c server stored query 0
+  unfolding answerVerdict
+  answer-empty c server stored query room e = rw (e, le-ltb room 0 (omega arith))
 
   module _ (c : Catalogue) (server : ℕ) (store query buffer : List ℕ) where
     -- answering goes by its verdict

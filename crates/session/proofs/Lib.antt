@@ -6,3 +6,4 @@ pub mod Issue
 pub mod Take
 pub mod Recover
 pub mod Slots
+pub mod Bound
