@@ -12,12 +12,14 @@ use Rattle.lists.specs.Below.{Below}
 use Rattle.lists.proofs.Every.{every-true, every-false}
 use Rattle.lists.proofs.Ranges.{map-range}
 use Rattle.refusal.specs.declared.Refusal.the-variants.{Room, Missing}
+use Rattle.refusal.specs.declared.Verdict.{Verdict}
 use Rattle.refusal.specs.declared.Verdict.the-variants.{Accepted, Refused}
 use Rattle.refusal.specs.Chain.{refuseIf}
 use Rattle.scheme.specs.Scheme.{Scheme, Valid, messageOf, honestAnswers, answersIn}
 use Rattle.scheme.specs.Laws.{Laws}
 use Rattle.catalogue.specs.declared.Catalogue.{Catalogue}
 use Rattle.catalogue.specs.Catalogue.{Admitted}
+use Rattle.session.specs.declared.Session.{Session}
 use Rattle.session.specs.Marks.{marked, allTaken}
 use Rattle.session.specs.Calls.{slotsOf, recovered, recoverVerdict, recover}
 use Rattle.session.proofs.Begin.{key-kept}
@@ -34,34 +36,40 @@ same-message {a} {b} e = cc
 module _ (schemeOf : Catalogue → Scheme) (c : Catalogue) (admitted : Admitted c) (laws : Laws (c .servers) (c .messages) (schemeOf c))
     (wanted : ℕ) (inside : wanted < c .messages) (key : List ℕ) (valid : Valid (schemeOf c) key) where
   module _ (room : ℕ) (got : List ℕ) (issued taken : List Bool) (answers : List ℕ) (k : Kept schemeOf c room got issued taken answers) (message : List ℕ) where
-    verdict : recoverVerdict schemeOf (sessionOf c wanted key issued taken) (length answers) (length message)
+    abbrev s : Session
+    s = sessionOf c wanted key issued taken
+
+    abbrev verdict : Verdict
+    verdict = recoverVerdict schemeOf s (length answers) (length message)
+
+    verdict-left : verdict
         ≡ refuseIf (ltb room (slotsOf schemeOf c)) Room
         (refuseIf (ltb (length message) (schemeOf c .sizes .message)) Room (refuseIf (not (allTaken (c .servers) taken)) Missing Accepted))
-    verdict = rw (← k .room-kept)
-        (recover-verdict schemeOf (sessionOf c wanted key issued taken) (sound schemeOf c admitted laws wanted inside key valid issued taken (k .marks))
+    verdict-left = rw (← k .room-kept)
+        (recover-verdict schemeOf s (sound schemeOf c admitted laws wanted inside key valid issued taken (k .marks))
         (length answers) (length message))
 
     -- all are taken, by the calls and so by the marks
-    all-verdict : AllTaken schemeOf c got → recoverVerdict schemeOf (sessionOf c wanted key issued taken) (length answers) (length message)
+    all-verdict : AllTaken schemeOf c got → verdict
         ≡ refuseIf (ltb (length message) (schemeOf c .sizes .message)) Room Accepted
     unfolding allTaken
     all-verdict all =
-        verdict
+        verdict-left
         ∙ rw (
           le-ltb room (slotsOf schemeOf c) (k .roomy 0 (all 0 (laws .servers-some))),
           every-true (c .servers) (marked taken) (λ i h. k .agree i h ∙ all i h),
         )
 
     missing-verdict : (server : ℕ) → server < c .servers → has server got ≡ false
-        → recoverVerdict schemeOf (sessionOf c wanted key issued taken) (length answers) (length message)
+        → verdict
         ≡ refuseIf (ltb room (slotsOf schemeOf c)) Room (refuseIf (ltb (length message) (schemeOf c .sizes .message)) Room (Refused Missing))
     unfolding allTaken
-    missing-verdict server h lacks = verdict ∙ rw (every-false (c .servers) (marked taken) server h (k .agree server h ∙ lacks))
+    missing-verdict server h lacks = verdict-left ∙ rw (every-false (c .servers) (marked taken) server h (k .agree server h ∙ lacks))
 
-    pub recover-right : RecoverSays schemeOf c room got message (recover schemeOf (sessionOf c wanted key issued taken) answers message .handed .verdict)
+    pub recover-right : RecoverSays schemeOf c room got message (recover schemeOf s answers message .handed .verdict)
     recover-right = record {
-      all-taken = λ all. recover-says schemeOf (sessionOf c wanted key issued taken) answers message ∙ all-verdict all;
-      missing = λ server h lacks. recover-says schemeOf (sessionOf c wanted key issued taken) answers message ∙ missing-verdict server h lacks;
+      all-taken = λ all. recover-says schemeOf s answers message ∙ all-verdict all;
+      missing = λ server h lacks. recover-says schemeOf s answers message ∙ missing-verdict server h lacks;
     }
 
     -- the slots hold the honest answers
@@ -70,18 +78,18 @@ module _ (schemeOf : Catalogue → Scheme) (c : Catalogue) (admitted : Admitted 
       unfolding answersIn honestAnswers
       answers-honest = map-range 0 (c .servers) _ _ (λ i l u. let h : i < c .servers = omega arith in held i h (all i h) .holds)
 
-      gives : recovered schemeOf (sessionOf c wanted key issued taken) answers ≡ messageOf (schemeOf c) store wanted
+      gives : recovered schemeOf s answers ≡ messageOf (schemeOf c) store wanted
       gives =
           ap (λ (l : List ℕ). schemeOf c .recover wanted l (answersIn (schemeOf c) (c .servers) wanted l answers)) (key-kept schemeOf c wanted key (valid .long))
           ∙ ap (schemeOf c .recover wanted key) answers-honest
           ∙ laws .recovers store wanted key bytes (held 0 (laws .servers-some) (all 0 (laws .servers-some)) .store-long) inside valid
 
       pub recover-message : schemeOf c .sizes .message ≤ length message
-          → recover schemeOf (sessionOf c wanted key issued taken) answers message .buffer ≡ put 0 (messageOf (schemeOf c) store wanted) message
+          → recover schemeOf s answers message .buffer ≡ put 0 (messageOf (schemeOf c) store wanted) message
       recover-message fits =
-          let e : recoverVerdict schemeOf (sessionOf c wanted key issued taken) (length answers) (length message) ≡ Accepted
+          let e : verdict ≡ Accepted
           = rw (le-ltb (length message) (schemeOf c .sizes .message) fits) at (all-verdict all) in
-          rw (recover-by schemeOf (sessionOf c wanted key issued taken) answers message Accepted (sym e), gives)
+          rw (recover-by schemeOf s answers message Accepted (sym e), gives)
 
   -- over the calls of a fetch
   says : (room : ℕ) (got : List ℕ) (issued taken : List Bool) (answers : List ℕ) → Kept schemeOf c room got issued taken answers → (call : Call)

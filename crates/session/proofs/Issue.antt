@@ -20,7 +20,7 @@ use Rattle.catalogue.specs.Catalogue.{catalogueVerdict}
 use Rattle.session.specs.declared.Session.{Session}
 use Rattle.session.specs.Marks.{marksGood}
 use Rattle.session.specs.Fields.{markIssued}
-use Rattle.session.specs.Calls.{Did, out, codeOf, keyOf, queryOf, issueVerdict, issueBy, issue}
+use Rattle.session.specs.Calls.{Out, Did, out, codeOf, keyOf, queryOf, issueVerdict, issueBy, issue}
 use Rattle.session.proofs.Sound.{Sound}
 
 module _ (schemeOf : Catalogue → Scheme) (s : Session) (server : ℕ) where
@@ -61,27 +61,32 @@ module _ (schemeOf : Catalogue → Scheme) (s : Session) (server : ℕ) where
   issue-accepted room i = rw (issue-verdict (i .sound) (i .below) room, le-ltb room (codeOf schemeOf s .sizes .query) (i .roomy))
 
   module _ (buffer : List ℕ) where
+    abbrev verdict : Verdict
+    verdict = issueVerdict schemeOf s server (length buffer)
+
+    abbrev did : Out
+    did = issue schemeOf s server buffer
+
     -- issue goes by its verdict
-    pub issue-by : (v : Verdict) → v ≡ issueVerdict schemeOf s server (length buffer) → issue schemeOf s server buffer ≡ issueBy schemeOf s server buffer v
+    pub issue-by : (v : Verdict) → v ≡ verdict → did ≡ issueBy schemeOf s server buffer v
     unfolding issue
     issue-by v e = ap (issueBy schemeOf s server buffer) (sym e)
 
     -- its result says the verdict, and a result that says a refusal says that nothing changed
-    pub issue-says : issue schemeOf s server buffer .handed .verdict ≡ issueVerdict schemeOf s server (length buffer)
-    issue-says = go (issueVerdict schemeOf s server (length buffer)) refl
+    pub issue-says : did .handed .verdict ≡ verdict
+    issue-says = go verdict refl
       where
-        go : (v : Verdict) → v ≡ issueVerdict schemeOf s server (length buffer) → issue schemeOf s server buffer .handed .verdict ≡ issueVerdict schemeOf s server (length buffer)
+        go : (v : Verdict) → v ≡ verdict → did .handed .verdict ≡ verdict
         go Accepted e = rw (issue-by Accepted e) e
         go (Refused refusal) e = rw (issue-by (Refused refusal) e) e
 
-    pub issue-unchanged : (refusal : Refusal) → issue schemeOf s server buffer .handed .verdict ≡ Refused refusal → issue schemeOf s server buffer ≡ out (Refused refusal) s buffer
+    pub issue-unchanged : (refusal : Refusal) → did .handed .verdict ≡ Refused refusal → did ≡ out (Refused refusal) s buffer
     issue-unchanged refusal e = issue-by (Refused refusal) (sym e ∙ issue-says)
 
-    pub issue-refused : (v : Verdict) (refusal : Refusal) → v ≡ issueVerdict schemeOf s server (length buffer) → v ≡ Refused refusal
-        → Did (issue schemeOf s server buffer) (record { verdict = v; session = s }) buffer
+    pub issue-refused : (v : Verdict) (refusal : Refusal) → v ≡ verdict → v ≡ Refused refusal → Did did (record { verdict = v; session = s }) buffer
     issue-refused v refusal e p = rw (issue-by v e, p) (record { handed = refl; buffer = refl })
 
-    pub issue-done : (v : Verdict) (after : List ℕ) → v ≡ issueVerdict schemeOf s server (length buffer) → v ≡ Accepted
+    pub issue-done : (v : Verdict) (after : List ℕ) → v ≡ verdict → v ≡ Accepted
         → after ≡ put 0 (queryOf schemeOf s server) buffer
-        → Did (issue schemeOf s server buffer) (record { verdict = Accepted; session = markIssued s server }) after
+        → Did did (record { verdict = Accepted; session = markIssued s server }) after
     issue-done v after e p a = rw (issue-by v e, p) (record { handed = refl; buffer = a })

@@ -19,7 +19,7 @@ use Rattle.catalogue.specs.declared.Catalogue.{Catalogue}
 use Rattle.catalogue.specs.Catalogue.{catalogueVerdict}
 use Rattle.session.specs.declared.Session.{Session}
 use Rattle.session.specs.Marks.{marksGood, allTaken}
-use Rattle.session.specs.Calls.{Did, out, codeOf, keyOf, slotsOf, recovered, recoverVerdict, recoverBy, recover}
+use Rattle.session.specs.Calls.{Out, Did, out, codeOf, keyOf, slotsOf, recovered, recoverVerdict, recoverBy, recover}
 use Rattle.session.proofs.Sound.{Sound}
 
 module _ (schemeOf : Catalogue → Scheme) (s : Session) where
@@ -70,35 +70,39 @@ module _ (schemeOf : Catalogue → Scheme) (s : Session) where
       )
 
   module _ (answers buffer : List ℕ) where
+    abbrev verdict : Verdict
+    verdict = recoverVerdict schemeOf s (length answers) (length buffer)
+
+    abbrev did : Out
+    did = recover schemeOf s answers buffer
+
     -- recover goes by its verdict
-    pub recover-by : (v : Verdict) → v ≡ recoverVerdict schemeOf s (length answers) (length buffer)
-        → recover schemeOf s answers buffer ≡ recoverBy schemeOf s answers buffer v
+    pub recover-by : (v : Verdict) → v ≡ verdict → did ≡ recoverBy schemeOf s answers buffer v
     unfolding recover
     recover-by v e = ap (recoverBy schemeOf s answers buffer) (sym e)
 
     -- its result says the verdict, and a result that says a refusal says that nothing changed
-    pub recover-says : recover schemeOf s answers buffer .handed .verdict ≡ recoverVerdict schemeOf s (length answers) (length buffer)
-    recover-says = go (recoverVerdict schemeOf s (length answers) (length buffer)) refl
+    pub recover-says : did .handed .verdict ≡ verdict
+    recover-says = go verdict refl
       where
-        go : (v : Verdict) → v ≡ recoverVerdict schemeOf s (length answers) (length buffer) → recover schemeOf s answers buffer .handed .verdict ≡ recoverVerdict schemeOf s (length answers) (length buffer)
+        go : (v : Verdict) → v ≡ verdict → did .handed .verdict ≡ verdict
         go Accepted e = rw (recover-by Accepted e) e
         go (Refused refusal) e = rw (recover-by (Refused refusal) e) e
 
-    pub recover-unchanged : (refusal : Refusal) → recover schemeOf s answers buffer .handed .verdict ≡ Refused refusal → recover schemeOf s answers buffer ≡ out (Refused refusal) s buffer
+    pub recover-unchanged : (refusal : Refusal) → did .handed .verdict ≡ Refused refusal → did ≡ out (Refused refusal) s buffer
     recover-unchanged refusal e = recover-by (Refused refusal) (sym e ∙ recover-says)
 
-    pub recover-refused : (v : Verdict) (refusal : Refusal) → v ≡ recoverVerdict schemeOf s (length answers) (length buffer) → v ≡ Refused refusal
-        → Did (recover schemeOf s answers buffer) (record { verdict = v; session = s }) buffer
+    pub recover-refused : (v : Verdict) (refusal : Refusal) → v ≡ verdict → v ≡ Refused refusal → Did did (record { verdict = v; session = s }) buffer
     recover-refused v refusal e p = rw (recover-by v e, p) (record { handed = refl; buffer = refl })
 
-    pub recover-done : (v : Verdict) (after : List ℕ) → v ≡ recoverVerdict schemeOf s (length answers) (length buffer) → v ≡ Accepted
+    pub recover-done : (v : Verdict) (after : List ℕ) → v ≡ verdict → v ≡ Accepted
         → after ≡ put 0 (recovered schemeOf s answers) buffer
-        → Did (recover schemeOf s answers buffer) (record { verdict = Accepted; session = s }) after
+        → Did did (record { verdict = Accepted; session = s }) after
     recover-done v after e p a = rw (recover-by v e, p) (record { handed = refl; buffer = a })
 
-    pub recover-same : recover schemeOf s answers buffer .handed .session ≡ s
-    recover-same = go (recoverVerdict schemeOf s (length answers) (length buffer)) refl
+    pub recover-same : did .handed .session ≡ s
+    recover-same = go verdict refl
       where
-        go : (v : Verdict) → v ≡ recoverVerdict schemeOf s (length answers) (length buffer) → recover schemeOf s answers buffer .handed .session ≡ s
+        go : (v : Verdict) → v ≡ verdict → did .handed .session ≡ s
         go Accepted e = rw (recover-by Accepted e)
         go (Refused refusal) e = rw (recover-by (Refused refusal) e)

@@ -18,7 +18,7 @@ use Rattle.catalogue.specs.Catalogue.{catalogueVerdict}
 use Rattle.session.specs.declared.Session.{Session}
 use Rattle.session.specs.Marks.{marked, marksGood}
 use Rattle.session.specs.Fields.{markTaken}
-use Rattle.session.specs.Calls.{Did, out, codeOf, keyOf, queryOf, slotsOf, takeVerdict, takeBy, takeAnswer}
+use Rattle.session.specs.Calls.{Out, Did, out, codeOf, keyOf, queryOf, slotsOf, takeVerdict, takeBy, takeAnswer}
 use Rattle.session.proofs.Sound.{Sound}
 
 module _ (schemeOf : Catalogue → Scheme) (s : Session) (server : ℕ) where
@@ -73,28 +73,32 @@ module _ (schemeOf : Catalogue → Scheme) (s : Session) (server : ℕ) where
       )
 
   module _ (answer buffer : List ℕ) where
+    abbrev verdict : Verdict
+    verdict = takeVerdict schemeOf s server (length answer) (length buffer)
+
+    abbrev did : Out
+    did = takeAnswer schemeOf s server answer buffer
+
     -- take goes by its verdict
-    pub take-by : (v : Verdict) → v ≡ takeVerdict schemeOf s server (length answer) (length buffer)
-        → takeAnswer schemeOf s server answer buffer ≡ takeBy schemeOf s server answer buffer v
+    pub take-by : (v : Verdict) → v ≡ verdict → did ≡ takeBy schemeOf s server answer buffer v
     unfolding takeAnswer
     take-by v e = ap (takeBy schemeOf s server answer buffer) (sym e)
 
     -- its result says the verdict, and a result that says a refusal says that nothing changed
-    pub take-says : takeAnswer schemeOf s server answer buffer .handed .verdict ≡ takeVerdict schemeOf s server (length answer) (length buffer)
-    take-says = go (takeVerdict schemeOf s server (length answer) (length buffer)) refl
+    pub take-says : did .handed .verdict ≡ verdict
+    take-says = go verdict refl
       where
-        go : (v : Verdict) → v ≡ takeVerdict schemeOf s server (length answer) (length buffer) → takeAnswer schemeOf s server answer buffer .handed .verdict ≡ takeVerdict schemeOf s server (length answer) (length buffer)
+        go : (v : Verdict) → v ≡ verdict → did .handed .verdict ≡ verdict
         go Accepted e = rw (take-by Accepted e) e
         go (Refused refusal) e = rw (take-by (Refused refusal) e) e
 
-    pub take-unchanged : (refusal : Refusal) → takeAnswer schemeOf s server answer buffer .handed .verdict ≡ Refused refusal → takeAnswer schemeOf s server answer buffer ≡ out (Refused refusal) s buffer
+    pub take-unchanged : (refusal : Refusal) → did .handed .verdict ≡ Refused refusal → did ≡ out (Refused refusal) s buffer
     take-unchanged refusal e = take-by (Refused refusal) (sym e ∙ take-says)
 
-    pub take-refused : (v : Verdict) (refusal : Refusal) → v ≡ takeVerdict schemeOf s server (length answer) (length buffer) → v ≡ Refused refusal
-        → Did (takeAnswer schemeOf s server answer buffer) (record { verdict = v; session = s }) buffer
+    pub take-refused : (v : Verdict) (refusal : Refusal) → v ≡ verdict → v ≡ Refused refusal → Did did (record { verdict = v; session = s }) buffer
     take-refused v refusal e p = rw (take-by v e, p) (record { handed = refl; buffer = refl })
 
-    pub take-done : (v : Verdict) (after : List ℕ) → v ≡ takeVerdict schemeOf s server (length answer) (length buffer) → v ≡ Accepted
+    pub take-done : (v : Verdict) (after : List ℕ) → v ≡ verdict → v ≡ Accepted
         → after ≡ put (server * codeOf schemeOf s .sizes .slot) answer buffer
-        → Did (takeAnswer schemeOf s server answer buffer) (record { verdict = Accepted; session = markTaken s server }) after
+        → Did did (record { verdict = Accepted; session = markTaken s server }) after
     take-done v after e p a = rw (take-by v e, p) (record { handed = refl; buffer = a })
