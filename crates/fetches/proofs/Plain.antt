@@ -22,7 +22,7 @@ use Rattle.session.specs.Calls.{slotsOf, issueVerdict}
 use Rattle.session.proofs.Marks.{mark-set, mark-other, marks-issue}
 use Rattle.session.proofs.Issue.{issue-accepted, issue-by}
 use Rattle.session.proofs.Take.{Takes, take-accepted, take-by}
-use Rattle.fetches.specs.Fetches.{issuing, taking, recovering, Made, run, history}
+use Rattle.fetches.specs.Fetches.{Call, issuing, taking, recovering, Made, run, history}
 use Rattle.fetches.specs.Right.{has}
 use Rattle.fetches.specs.Plain.{Ends, last, later, queryTo, answerOf, plain}
 use Rattle.fetches.proofs.Steps.{sessionOf, stateOf, Kept, Held, kept-query, sound, take-kept, take-held}
@@ -39,14 +39,21 @@ module _ (schemeOf : Catalogue → Scheme) (c : Catalogue) (admitted : Admitted 
   abbrev End : Made → Type 0
   End made = made .left ≡ put 0 (messageOf (schemeOf c) store wanted) message
 
+  -- the calls from the take of server `from` on, and from its issue on
+  abbrev takesFrom : ℕ → ℕ → List Call
+  takesFrom from count = map (λ (server : ℕ). taking server (answerFrom server)) (range from count) ++ (recovering message ∷ [])
+
+  abbrev issuesFrom : List ℕ → List ℕ → ℕ → ℕ → List Call
+  issuesFrom query answer from count = map (λ (server : ℕ). issuing server query answer) (range from count) ++ takesFrom 0 (c .servers)
+
   answer-long : (server : ℕ) → server < c .servers → length (answerFrom server) ≡ schemeOf c .answerLength (queryTo schemeOf c store wanted key server)
   answer-long server h = laws .answer-length server store _ long (laws .query-admitted wanted server key inside h valid)
 
-  -- the takes, from server `from` on, where all were issued and those before it are taken
+  -- all were issued, and those before `from` are taken
   takes-end : (count from : ℕ) → from + count ≡ c .servers → (issued taken : List Bool) (got answers : List ℕ)
       → Kept schemeOf c room got issued taken answers → Held schemeOf c store wanted key got answers
       → ((i : ℕ) → i < c .servers → marked issued i ≡ true) → ((i : ℕ) → i < from → has i got ≡ true) → ((i : ℕ) → from ≤ i → has i got ≡ false)
-      → Ends End (run schemeOf (stateOf c wanted key issued taken answers) (map (λ (server : ℕ). taking server (answerFrom server)) (range from count) ++ (recovering message ∷ [])))
+      → Ends End (run schemeOf (stateOf c wanted key issued taken answers) (takesFrom from count))
   unfolding range
   takes-end zero from e issued taken got answers k held all had lacks =
       last
@@ -82,11 +89,10 @@ module _ (schemeOf : Catalogue → Scheme) (c : Catalogue) (admitted : Admitted 
       lacks-more : (i : ℕ) → suc from ≤ i → (eqb from i || has i got) ≡ false
       lacks-more i l = rw (ne-eqb from i (λ q. omega arith)) (lacks i (omega arith))
 
-  -- the issues, from server `from` on, where those before it were issued
-  issues-end : (query answer : List ℕ) → schemeOf c .sizes .query ≤ length query → (count from : ℕ) → from + count ≡ c .servers → (issued : List Bool) (answers : List ℕ)
-      → Kept schemeOf c room [] issued noMarks answers → ((i : ℕ) → i < from → marked issued i ≡ true)
-      → Ends End (run schemeOf (stateOf c wanted key issued noMarks answers) (map (λ (server : ℕ). issuing server query answer) (range from count)
-      ++ (map (λ (server : ℕ). taking server (answerFrom server)) (range 0 (c .servers)) ++ (recovering message ∷ []))))
+  -- those before `from` were issued
+  issues-end : (query answer : List ℕ) → schemeOf c .sizes .query ≤ length query → (count from : ℕ) → from + count ≡ c .servers
+      → (issued : List Bool) (answers : List ℕ) → Kept schemeOf c room [] issued noMarks answers → ((i : ℕ) → i < from → marked issued i ≡ true)
+      → Ends End (run schemeOf (stateOf c wanted key issued noMarks answers) (issuesFrom query answer from count))
   unfolding range
   issues-end query answer room-for zero from e issued answers k had =
       takes-end (c .servers) 0 (omega (arith, zero-add (c .servers))) issued noMarks [] answers k (held-first schemeOf c store wanted key answers)

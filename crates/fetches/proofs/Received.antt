@@ -15,11 +15,12 @@ use Rattle.scheme.specs.Scheme.{Scheme, Valid, honestAnswers}
 use Rattle.scheme.specs.Laws.{Laws}
 use Rattle.catalogue.specs.declared.Catalogue.{Catalogue}
 use Rattle.catalogue.specs.Catalogue.{Admitted}
+use Rattle.session.specs.declared.Session.{Session}
 use Rattle.session.specs.Marks.{noMarks}
 use Rattle.session.specs.Calls.{slotsOf, takeVerdict}
 use Rattle.session.proofs.Bound.{bound-done}
 use Rattle.session.proofs.Take.{take-passed, take-by}
-use Rattle.fetches.specs.Fetches.{Call, issuing, taking, recovering, make, run}
+use Rattle.fetches.specs.Fetches.{Call, issuing, taking, recovering, Made, make, run}
 use Rattle.fetches.specs.Right.{tally, has}
 use Rattle.fetches.specs.Claim.{Promises}
 use Rattle.fetches.specs.Received.{receivedBy, received, bytesOf, Bounded}
@@ -74,24 +75,30 @@ module _ (schemeOf : Catalogue → Scheme) (c : Catalogue) (admitted : Admitted 
 
   module _ (wanted : ℕ) (inside : wanted < c .messages) (key : List ℕ) (valid : Valid (schemeOf c) key) where
     -- a call that takes a server's answer, no longer than a slot, takes one server more
-    grows : (room : ℕ) (got : List ℕ) (issued marks : List Bool) (answers : List ℕ) → Kept schemeOf c room got issued marks answers → (call : Call)
-        → receivedBy (make schemeOf (stateOf c wanted key issued marks answers) call .call) (make schemeOf (stateOf c wanted key issued marks answers) call .verdict)
-        + taken (c .servers) got * slot ≤ taken (c .servers) (tally got (make schemeOf (stateOf c wanted key issued marks answers) call)) * slot
-    grows room got issued marks answers k (issuing server query answer) = omega arith
-    grows room got issued marks answers k (recovering message) = omega arith
-    grows room got issued marks answers k (taking server answer) = go (takeVerdict schemeOf (sessionOf c wanted key issued marks) server (length answer) (length answers)) refl
-      where
-        go : (v : Verdict) → v ≡ takeVerdict schemeOf (sessionOf c wanted key issued marks) server (length answer) (length answers)
-            → receivedBy (taking server answer) (make schemeOf (stateOf c wanted key issued marks answers) (taking server answer) .verdict) + taken (c .servers) got * slot
-            ≤ taken (c .servers) (tally got (make schemeOf (stateOf c wanted key issued marks answers) (taking server answer))) * slot
-        go Accepted e =
-            let t = take-passed schemeOf (sessionOf c wanted key issued marks) server (length answer) (length answers) (sym e) in
-            let sized : length answer ≡ schemeOf c .answerLength (schemeOf c .query wanted server key)
-            = t .sized ∙ ap (schemeOf c .answerLength) (kept-query schemeOf c admitted laws wanted inside key valid issued marks server) in
-            let fits = fits-slot schemeOf c admitted laws wanted inside key valid server (t .below) in
-            let count = taken-more (c .servers) server got (t .below) (sym (k .agree server (t .below)) ∙ t .not-taken) in
-            rw (take-by schemeOf (sessionOf c wanted key issued marks) server answer answers Accepted e, count, suc-mul) (omega arith)
-        go (Refused refusal) e = rw (take-by schemeOf (sessionOf c wanted key issued marks) server answer answers (Refused refusal) e) (omega arith)
+    module _ (room : ℕ) (got : List ℕ) (issued marks : List Bool) (answers : List ℕ) (k : Kept schemeOf c room got issued marks answers) where
+      abbrev s : Session
+      s = sessionOf c wanted key issued marks
+
+      abbrev made : Call → Made
+      made call = make schemeOf (stateOf c wanted key issued marks answers) call
+
+      abbrev Grows : Call → Type 0
+      Grows call = receivedBy (made call .call) (made call .verdict) + taken (c .servers) got * slot ≤ taken (c .servers) (tally got (made call)) * slot
+
+      grows : (call : Call) → Grows call
+      grows (issuing server query answer) = omega arith
+      grows (recovering message) = omega arith
+      grows (taking server answer) = go (takeVerdict schemeOf s server (length answer) (length answers)) refl
+        where
+          go : (v : Verdict) → v ≡ takeVerdict schemeOf s server (length answer) (length answers) → Grows (taking server answer)
+          go Accepted e =
+              let t = take-passed schemeOf s server (length answer) (length answers) (sym e) in
+              let sized : length answer ≡ schemeOf c .answerLength (schemeOf c .query wanted server key)
+              = t .sized ∙ ap (schemeOf c .answerLength) (kept-query schemeOf c admitted laws wanted inside key valid issued marks server) in
+              let fits = fits-slot schemeOf c admitted laws wanted inside key valid server (t .below) in
+              let count = taken-more (c .servers) server got (t .below) (sym (k .agree server (t .below)) ∙ t .not-taken) in
+              rw (take-by schemeOf s server answer answers Accepted e, count, suc-mul) (omega arith)
+          go (Refused refusal) e = rw (take-by schemeOf s server answer answers (Refused refusal) e) (omega arith)
 
     receives : (calls : List Call) (room : ℕ) (got : List ℕ) (issued marks : List Bool) (answers : List ℕ) → Kept schemeOf c room got issued marks answers
         → received (run schemeOf (stateOf c wanted key issued marks answers) calls) + taken (c .servers) got * slot ≤ slotsOf schemeOf c
