@@ -1,25 +1,52 @@
--- The test `every` says of each number below the count that the test holds of it: one computed test shows a rule of a whole table.
-use mathlib.Core.Path.{_≡_, refl, ap, _∙_}
+-- Laws of `every`: it is true exactly if the test holds of each number below the count. One computed test shows a rule of a whole table.
+use mathlib.Core.Path.{_≡_, refl, sym, ap, _∙_}
 use mathlib.Core.Bool.{Bool, true, false, _&&_}
-use Prim.Native.Nat.{ℕ, zero, suc, _<_}
+use Prim.Native.Nat.{ℕ, zero, suc, _+_, _<_}
 use native.Mathlib.Nat.{not-suc-le-zero}
+use native.Mathlib.Numerals.{add-one}
 use native.Mathlib.Omega.{arith}
 use borrow.Author.Tests.{eqb-true, eqb-false}
 use lib.Dec.{eqb}
 use Rattle.lists.specs.Ranges.{every}
 
+and-both : {t u : Bool} → t ≡ true → u ≡ true → t && u ≡ true
+and-both {t} {u} e f = rw (e, f)
+
 pub both-true : (t u : Bool) → t && u ≡ true → (t ≡ true) × (u ≡ true)
 both-true true u e = (refl, e)
-both-true false u e = let z : _≡_ {A = ℕ} 0 1 = cc in absurd (let w : ⊥ = omega arith in w)
+both-true false u e = (e, cc)
+
+and-fails : (t u : Bool) → u ≡ false → t && u ≡ false
+and-fails true u e = e
+and-fails false u e = refl
+
+pub every-none : (test : ℕ → Bool) → every 0 test ≡ true
+unfolding every
+every-none test = refl
+
+pub every-more : (count : ℕ) (test : ℕ → Bool) → every count test ≡ true → test count ≡ true → every (count + 1) test ≡ true
+unfolding every
+every-more count test e f = rw (add-one count) (and-both e f)
+
+pub every-true : (count : ℕ) (test : ℕ → Bool) → ((i : ℕ) → i < count → test i ≡ true) → every count test ≡ true
+unfolding every
+every-true zero test h = refl
+every-true (suc count) test h = and-both (every-true count test (λ i l. h i (omega arith))) (h count (omega arith))
+
+pub every-false : (count : ℕ) (test : ℕ → Bool) (i : ℕ) → i < count → test i ≡ false → every count test ≡ false
+unfolding every
+every-false zero test i l e = absurd (not-suc-le-zero l)
+every-false (suc count) test i l e = go (λ h. every-false count test i h e) (eqb i count) refl
+  where
+    go : (i < count → every count test ≡ false) → (t : Bool) → eqb i count ≡ t → every count test && test count ≡ false
+    go below true q = and-fails (every count test) (test count) (ap test (sym (eqb-true i count q)) ∙ e)
+    go below false q = rw (below (let ne : (i ≡ count → ⊥) = eqb-false i count q in omega (arith, ne)))
 
 pub every-at : (count : ℕ) (test : ℕ → Bool) → every count test ≡ true → (i : ℕ) → i < count → test i ≡ true
 unfolding every
-every-at zero test e i h = absurd (not-suc-le-zero h)
-every-at (suc count) test e i h = go (eqb i count) refl (λ k. every-at count test (both .0) i k)
+every-at zero test e i l = absurd (not-suc-le-zero l)
+every-at (suc count) test e i l = go (every-at count test (both-true (every count test) (test count) e .0) i) (eqb i count) refl
   where
-    both : (every count test ≡ true) × (test count ≡ true)
-    both = both-true (every count test) (test count) e
-
-    go : (t : Bool) → eqb i count ≡ t → (i < count → test i ≡ true) → test i ≡ true
-    go true same before = ap test (eqb-true i count same) ∙ both .1
-    go false other before = let ne = eqb-false i count other in before (omega arith)
+    go : (i < count → test i ≡ true) → (t : Bool) → eqb i count ≡ t → test i ≡ true
+    go below true q = ap test (eqb-true i count q) ∙ both-true (every count test) (test count) e .1
+    go below false q = below (let ne : (i ≡ count → ⊥) = eqb-false i count q in omega (arith, ne))

@@ -8,3 +8,5 @@ pub mod Writes
 pub mod Inserts
 pub mod Mapped
 pub mod Scans
+pub mod Replicate
+pub mod Ranges

@@ -1,0 +1,131 @@
+-- The plain fetch is right: its session is sound throughout, so that no call is refused, and its takes are honest.
+use mathlib.Core.Path.{_≡_, refl, sym, ap, _∙_}
+use mathlib.Core.Bool.{Bool, true, false, _||_}
+use mathlib.Core.List.{List, [], _∷_, _++_, map}
+use Prim.Native.Nat.{ℕ, zero, suc, _+_, _*_, _≤_, _<_}
+use native.Mathlib.Nat.{not-suc-le-zero, zero-add}
+use native.Mathlib.Omega.{arith}
+use borrow.Author.Tests.{eqb-true, eqb-false, ne-eqb, le-ltb}
+use lib.Dec.{eqb}
+use lib.ListN.{length, set}
+use Rattle.lists.specs.Parts.{put}
+use Rattle.lists.specs.Below.{Below}
+use Rattle.lists.specs.Ranges.{range}
+use Rattle.refusal.specs.declared.Verdict.the-variants.{Accepted}
+use Rattle.scheme.specs.Scheme.{Scheme, Valid, messageOf}
+use Rattle.scheme.specs.Laws.{Laws}
+use Rattle.catalogue.specs.declared.Catalogue.{Catalogue}
+use Rattle.catalogue.specs.Catalogue.{Admitted}
+use Rattle.session.specs.declared.Session.{Session}
+use Rattle.session.specs.Marks.{noMarks, marked}
+use Rattle.session.specs.Calls.{slotsOf, issueVerdict}
+use Rattle.session.proofs.Marks.{mark-set, mark-other, marks-issue}
+use Rattle.session.proofs.Issue.{issue-accepted, issue-by}
+use Rattle.session.proofs.Take.{Takes, take-accepted, take-by}
+use Rattle.fetches.specs.Fetches.{Call, issuing, taking, recovering, Made, run, history}
+use Rattle.fetches.specs.Right.{has}
+use Rattle.fetches.specs.Plain.{Ends, last, later, queryTo, answerOf, plain}
+use Rattle.fetches.proofs.Steps.{sessionOf, stateOf, Kept, Held, kept-query, sound, take-kept, take-held}
+use Rattle.fetches.proofs.Recovery.{recover-right, recover-message}
+use Rattle.fetches.proofs.Theorem.{kept-first, held-first, begun}
+
+module _ (schemeOf : Catalogue → Scheme) (c : Catalogue) (admitted : Admitted c) (laws : Laws (c .servers) (c .messages) (schemeOf c))
+    (wanted : ℕ) (inside : wanted < c .messages) (key : List ℕ) (valid : Valid (schemeOf c) key)
+    (store : List ℕ) (bytes : Below 256 store) (long : length store ≡ schemeOf c .sizes .store)
+    (message : List ℕ) (fits : schemeOf c .sizes .message ≤ length message) (room : ℕ) (roomy : slotsOf schemeOf c ≤ room) where
+  abbrev answerFrom : ℕ → List ℕ
+  answerFrom = answerOf schemeOf c store wanted key
+
+  abbrev End : Made → Type 0
+  End made = made .left ≡ put 0 (messageOf (schemeOf c) store wanted) message
+
+  -- the calls from the take of server `from` on, and from its issue on
+  abbrev takesFrom : ℕ → ℕ → List Call
+  takesFrom from count = map (λ (server : ℕ). taking server (answerFrom server)) (range from count) ++ (recovering message ∷ [])
+
+  abbrev issuesFrom : List ℕ → List ℕ → ℕ → ℕ → List Call
+  issuesFrom query answer from count = map (λ (server : ℕ). issuing server query answer) (range from count) ++ takesFrom 0 (c .servers)
+
+  answer-long : (server : ℕ) → server < c .servers → length (answerFrom server) ≡ schemeOf c .answerLength (queryTo schemeOf c store wanted key server)
+  answer-long server h = laws .answer-length server store _ long (laws .query-admitted wanted server key inside h valid)
+
+  -- all were issued, and those before `from` are taken
+  takes-end : (count from : ℕ) → from + count ≡ c .servers → (issued taken : List Bool) (got answers : List ℕ)
+      → Kept schemeOf c room got issued taken answers → Held schemeOf c store wanted key got answers
+      → ((i : ℕ) → i < c .servers → marked issued i ≡ true) → ((i : ℕ) → i < from → has i got ≡ true) → ((i : ℕ) → from ≤ i → has i got ≡ false)
+      → Ends End (run schemeOf (stateOf c wanted key issued taken answers) (takesFrom from count))
+  unfolding range
+  takes-end zero from e issued taken got answers k held all had lacks =
+      last
+      (rw (le-ltb (length message) (schemeOf c .sizes .message) fits) at
+      (recover-right schemeOf c admitted laws wanted inside key valid room got issued taken answers k message .all-taken (λ i h. had i (omega arith))))
+      (recover-message schemeOf c admitted laws wanted inside key valid room got issued taken answers k message store bytes held (λ i h. had i (omega arith)) fits)
+  takes-end (suc count) from e issued taken got answers k held all had lacks =
+      let h : from < c .servers = omega arith in
+      let t : Takes schemeOf (sessionOf c wanted key issued taken) from (length (answerFrom from)) (length answers) = record {
+        sound = sound schemeOf c admitted laws wanted inside key valid issued taken (k .marks);
+        below = h;
+        roomy = omega (arith, k .room-kept);
+        sized = answer-long from h ∙ ap (schemeOf c .answerLength) (sym (kept-query schemeOf c admitted laws wanted inside key valid issued taken from));
+        was-issued = all from h;
+        not-taken = k .agree from h ∙ lacks from (omega arith);
+      } in
+      let by = take-by schemeOf (sessionOf c wanted key issued taken) from (answerFrom from) answers Accepted
+      (sym (take-accepted schemeOf (sessionOf c wanted key issued taken) from (length (answerFrom from)) (length answers) t)) in
+      rw by
+      (later refl
+      (takes-end count (suc from) (omega arith) issued (set taken from true) (from ∷ got) (put (from * schemeOf c .sizes .slot) (answerFrom from) answers)
+      (take-kept schemeOf c admitted laws wanted inside key valid room got issued taken answers k from (answerFrom from) t)
+      (take-held schemeOf c admitted laws wanted inside key valid room got issued taken answers k from (answerFrom from) t store held
+      (record { store-long = long; as-coded = refl }))
+      all
+      (λ i l. had-more i l (eqb from i) refl)
+      (λ i l. lacks-more i l)))
+    where
+      had-more : (i : ℕ) → i < suc from → (b : Bool) → eqb from i ≡ b → (b || has i got) ≡ true
+      had-more i l true q = refl
+      had-more i l false q = let ne : (from ≡ i → ⊥) = eqb-false from i q in had i (omega (arith, ne))
+
+      lacks-more : (i : ℕ) → suc from ≤ i → (eqb from i || has i got) ≡ false
+      lacks-more i l = rw (ne-eqb from i (λ q. omega arith)) (lacks i (omega arith))
+
+  -- those before `from` were issued
+  issues-end : (query answer : List ℕ) → schemeOf c .sizes .query ≤ length query → (count from : ℕ) → from + count ≡ c .servers
+      → (issued : List Bool) (answers : List ℕ) → Kept schemeOf c room [] issued noMarks answers → ((i : ℕ) → i < from → marked issued i ≡ true)
+      → Ends End (run schemeOf (stateOf c wanted key issued noMarks answers) (issuesFrom query answer from count))
+  unfolding range
+  issues-end query answer room-for zero from e issued answers k had =
+      takes-end (c .servers) 0 (omega (arith, zero-add (c .servers))) issued noMarks [] answers k (held-first schemeOf c store wanted key answers)
+      (λ i h. had i (omega arith)) (λ i h. absurd (not-suc-le-zero h)) (λ i h. refl)
+  issues-end query answer room-for (suc count) from e issued answers k had =
+      let h : from < c .servers = omega arith in
+      let s : Session = sessionOf c wanted key issued noMarks in
+      let accepted : issueVerdict schemeOf s from (length query) ≡ Accepted = issue-accepted schemeOf s from (length query)
+      (record { sound = sound schemeOf c admitted laws wanted inside key valid issued noMarks (k .marks); below = h; roomy = room-for }) in
+      rw (issue-by schemeOf s from query Accepted (sym accepted))
+      (later refl
+      (issues-end query answer room-for count (suc from) (omega arith) (set issued from true) answers
+      (record {
+        marks = marks-issue (c .servers) issued noMarks (k .marks) from h (laws .servers-fit);
+        room-kept = k .room-kept;
+        agree = k .agree;
+        roomy = k .roomy;
+      })
+      (λ i l. had-more i l (eqb i from) refl)))
+    where
+      had-more : (i : ℕ) → i < suc from → (b : Bool) → eqb i from ≡ b → marked (set issued from true) i ≡ true
+      had-more i l true q = rw (eqb-true i from q) (mark-set issued from (omega (arith, k .marks .issued-long, laws .servers-fit)))
+      had-more i l false q =
+          let ne : (i ≡ from → ⊥) = eqb-false i from q in
+          mark-other issued from i ne ∙ had i (omega (arith, ne))
+
+pub plain-ends : (schemeOf : Catalogue → Scheme) (c : Catalogue) → Admitted c → Laws (c .servers) (c .messages) (schemeOf c)
+    → (wanted : ℕ) → wanted < c .messages → (key : List ℕ) → Valid (schemeOf c) key
+    → (store : List ℕ) → Below 256 store → length store ≡ schemeOf c .sizes .store → (message : List ℕ) → schemeOf c .sizes .message ≤ length message
+    → (answers : List ℕ) → slotsOf schemeOf c ≤ length answers → (query answer : List ℕ) → schemeOf c .sizes .query ≤ length query
+    → Ends (λ (made : Made). made .left ≡ put 0 (messageOf (schemeOf c) store wanted) message)
+    (history schemeOf c (plain schemeOf c store wanted key answers query answer message))
+plain-ends schemeOf c admitted laws wanted inside key valid store bytes long message fits answers roomy query answer room-for =
+    rw (begun schemeOf c admitted laws wanted inside key valid)
+    (issues-end schemeOf c admitted laws wanted inside key valid store bytes long message fits (length answers) roomy query answer room-for (c .servers) 0
+    (zero-add (c .servers)) noMarks answers (kept-first schemeOf c answers) (λ i h. absurd (not-suc-le-zero h)))

@@ -1,0 +1,192 @@
+-- One call of a fetch: catalogue, wanted message and key of its session stay, its marks agree with the calls made, and the slots of honest takes hold
+-- the honest answers.
+use mathlib.Core.Path.{_≡_, refl, sym, ap, _∙_}
+use mathlib.Core.Bool.{Bool, true, false, _||_}
+use mathlib.Core.List.{List, _∷_}
+use Prim.Native.Nat.{ℕ, _*_, _≤_, _<_}
+use native.Mathlib.Omega.{arith}
+use borrow.Author.Tests.{eqb-true, eqb-false}
+use lib.Dec.{eqb}
+use lib.ListN.{length, set}
+use Rattle.lists.specs.Parts.{cut, put}
+use Rattle.refusal.specs.declared.Verdict.{Verdict}
+use Rattle.refusal.specs.declared.Verdict.the-variants.{Accepted, Refused}
+use Rattle.scheme.specs.Scheme.{Scheme, Valid}
+use Rattle.scheme.specs.Laws.{Laws}
+use Rattle.catalogue.specs.declared.Catalogue.{Catalogue}
+use Rattle.catalogue.specs.Catalogue.{Admitted}
+use Rattle.session.specs.declared.Session.{Session}
+use Rattle.session.specs.Marks.{marked}
+use Rattle.session.specs.Fields.{paddedKey}
+use Rattle.session.specs.Calls.{queryOf, slotsOf, issueVerdict, takeVerdict}
+use Rattle.session.proofs.Marks.{Marks, mark-set, mark-other, marks-issue, marks-take}
+use Rattle.session.proofs.Sound.{Sound}
+use Rattle.session.proofs.Begin.{key-kept}
+use Rattle.session.proofs.Issue.{issue-passed, issue-by}
+use Rattle.session.proofs.Take.{Takes, take-passed, take-by}
+use Rattle.session.proofs.Recover.{recover-same}
+use Rattle.session.proofs.Slots.{take-length, take-reads, take-others}
+use Rattle.fetches.specs.Fetches.{Call, issuing, taking, recovering, State, make}
+use Rattle.fetches.specs.Right.{tally, has, Honest, HonestTake}
+
+-- a session of a fetch, and a state of one: only the marks and the answer buffer move
+abbrev pub sessionOf : Catalogue → ℕ → List ℕ → List Bool → List Bool → Session
+sessionOf c wanted key issued taken = record { catalogue = c; wanted = wanted; key = paddedKey key; issued = issued; taken = taken }
+
+abbrev pub stateOf : Catalogue → ℕ → List ℕ → List Bool → List Bool → List ℕ → State
+stateOf c wanted key issued taken answers = record { session = sessionOf c wanted key issued taken; answers = answers }
+
+-- what holds between the calls of a fetch, where the servers `got` were taken and the answer buffer has `room` bytes
+pub record Kept (schemeOf : Catalogue → Scheme) (c : Catalogue) (room : ℕ) (got : List ℕ) (issued taken : List Bool) (answers : List ℕ) : Type 0 where
+  pub marks : Marks (c .servers) issued taken
+  pub room-kept : length answers ≡ room
+  pub agree : (i : ℕ) → i < c .servers → marked taken i ≡ has i got
+  pub roomy : (i : ℕ) → has i got ≡ true → slotsOf schemeOf c ≤ room
+
+module _ (schemeOf : Catalogue → Scheme) (c : Catalogue) (store : List ℕ) (wanted : ℕ) (key : List ℕ) where
+  -- slot i holds the honest answer
+  pub record HeldAt (answers : List ℕ) (i : ℕ) : Type 0 where
+    pub store-long : length store ≡ schemeOf c .sizes .store
+    pub holds : cut (i * schemeOf c .sizes .slot) (schemeOf c .answerLength (schemeOf c .query wanted i key)) answers
+        ≡ schemeOf c .answer store (schemeOf c .query wanted i key)
+
+  abbrev pub Held : List ℕ → List ℕ → Type 0
+  Held got answers = (i : ℕ) → i < c .servers → has i got ≡ true → HeldAt answers i
+
+-- the state after a call
+pub record Next (schemeOf : Catalogue → Scheme) (c : Catalogue) (wanted : ℕ) (key : List ℕ) (room : ℕ) (got : List ℕ) (at : State) (call : Call) : Type 0 where
+  pub issued : List Bool
+  pub taken : List Bool
+  pub answers : List ℕ
+  pub is : make schemeOf at call .after ≡ stateOf c wanted key issued taken answers
+  pub kept : Kept schemeOf c room (tally got (make schemeOf at call)) issued taken answers
+  pub held : (store : List ℕ) → Held schemeOf c store wanted key got (at .answers) → HonestTake schemeOf c store wanted key got (make schemeOf at call)
+      → Held schemeOf c store wanted key (tally got (make schemeOf at call)) answers
+
+module _ (schemeOf : Catalogue → Scheme) (c : Catalogue) (admitted : Admitted c) (laws : Laws (c .servers) (c .messages) (schemeOf c))
+    (wanted : ℕ) (inside : wanted < c .messages) (key : List ℕ) (valid : Valid (schemeOf c) key) where
+  pub kept-query : (issued taken : List Bool) (server : ℕ) → queryOf schemeOf (sessionOf c wanted key issued taken) server ≡ schemeOf c .query wanted server key
+  kept-query issued taken server = ap (schemeOf c .query wanted server) (key-kept schemeOf c wanted key (valid .long))
+
+  pub sound : (issued taken : List Bool) → Marks (c .servers) issued taken → Sound schemeOf (sessionOf c wanted key issued taken)
+  sound issued taken m = record {
+    admitted = admitted;
+    inside = inside;
+    good = rw (key-kept schemeOf c wanted key (valid .long)) (valid .good);
+    marks = m .good;
+  }
+
+  -- what is asked of a server, and the length of a slot
+  abbrev query : ℕ → List ℕ
+  query i = schemeOf c .query wanted i key
+
+  abbrev slot : ℕ
+  slot = schemeOf c .sizes .slot
+
+  -- an honest answer fits its slot
+  pub fits-slot : (i : ℕ) → i < c .servers → schemeOf c .answerLength (query i) ≤ slot
+  fits-slot i h = laws .answer-fits i (query i) (laws .query-admitted wanted i key inside h valid)
+
+  module _ (room : ℕ) (got : List ℕ) (issued taken : List Bool) (answers : List ℕ) (k : Kept schemeOf c room got issued taken answers) where
+    abbrev s : Session
+    s = sessionOf c wanted key issued taken
+
+    abbrev at : State
+    at = stateOf c wanted key issued taken answers
+
+    next-issue : (server : ℕ) (buffer answer : List ℕ) → Next schemeOf c wanted key room got at (issuing server buffer answer)
+    next-issue server buffer answer = go (issueVerdict schemeOf s server (length buffer)) refl
+      where
+        go : (v : Verdict) → v ≡ issueVerdict schemeOf s server (length buffer) → Next schemeOf c wanted key room got at (issuing server buffer answer)
+        go Accepted e = record {
+          issued = set issued server true;
+          taken = taken;
+          answers = answers;
+          is = rw (issue-by schemeOf s server buffer Accepted e);
+          kept = record {
+            marks = marks-issue (c .servers) issued taken (k .marks) server (issue-passed schemeOf s server (length buffer) (sym e) .below) (laws .servers-fit);
+            room-kept = k .room-kept;
+            agree = k .agree;
+            roomy = k .roomy;
+          };
+          held = λ store h honest. h;
+        }
+        go (Refused refusal) e = record {
+          issued = issued;
+          taken = taken;
+          answers = answers;
+          is = rw (issue-by schemeOf s server buffer (Refused refusal) e);
+          kept = k;
+          held = λ store h honest. h;
+        }
+
+    next-recover : (message : List ℕ) → Next schemeOf c wanted key room got at (recovering message)
+    next-recover message = record {
+      issued = issued;
+      taken = taken;
+      answers = answers;
+      is = rw (recover-same schemeOf s answers message);
+      kept = k;
+      held = λ store h honest. h;
+    }
+
+    -- a take that was not refused
+    module _ (server : ℕ) (answer : List ℕ) (t : Takes schemeOf s server (length answer) (length answers)) where
+      abbrev after : List ℕ
+      after = put (server * slot) answer answers
+
+      fits : schemeOf c .answerLength (queryOf schemeOf s server) ≤ slot
+      fits = rw (kept-query issued taken server) (fits-slot server (t .below))
+
+      pub take-kept : Kept schemeOf c room (server ∷ got) issued (set taken server true) after
+      take-kept = record {
+        marks = marks-take (c .servers) issued taken (k .marks) server (t .below) (laws .servers-fit) (t .was-issued);
+        room-kept = take-length schemeOf s server answer answers t fits ∙ k .room-kept;
+        agree = λ i h. agrees i h (eqb server i) refl;
+        roomy = λ i h. let e = k .room-kept in omega (arith, t .roomy);
+      }
+        where
+          agrees : (i : ℕ) → i < c .servers → (b : Bool) → eqb server i ≡ b → marked (set taken server true) i ≡ (b || has i got)
+          agrees i h true e = rw (← eqb-true server i e) (mark-set taken server (omega (arith, k .marks .taken-long, t .below, laws .servers-fit)))
+          agrees i h false e = mark-other taken server i (λ q. eqb-false server i e (sym q)) ∙ k .agree i h
+
+      pub take-held : (store : List ℕ) → Held schemeOf c store wanted key got answers → Honest schemeOf c store wanted key server answer
+          → Held schemeOf c store wanted key (server ∷ got) after
+      take-held store held honest i h = go (eqb server i) refl
+        where
+          here : cut (server * slot) (schemeOf c .answerLength (query server)) after ≡ schemeOf c .answer store (query server)
+          here =
+              ap (λ (q : List ℕ). cut (server * slot) (schemeOf c .answerLength q) after) (sym (kept-query issued taken server))
+              ∙ take-reads schemeOf s server answer answers t fits
+              ∙ honest .as-coded
+
+          go : (b : Bool) → eqb server i ≡ b → (b || has i got) ≡ true → HeldAt schemeOf c store wanted key after i
+          go true e p = record { store-long = honest .store-long; holds = rw (← eqb-true server i e) here }
+          go false e p =
+              let w = held i h p in
+              let apart = take-others schemeOf s server answer answers t fits i (schemeOf c .answerLength (query i)) (λ q. eqb-false server i e (sym q)) (fits-slot i h) in
+              record { store-long = w .store-long; holds = apart ∙ w .holds }
+
+    next-take : (server : ℕ) (answer : List ℕ) → Next schemeOf c wanted key room got at (taking server answer)
+    next-take server answer = go (takeVerdict schemeOf s server (length answer) (length answers)) refl
+      where
+        go : (v : Verdict) → v ≡ takeVerdict schemeOf s server (length answer) (length answers) → Next schemeOf c wanted key room got at (taking server answer)
+        go Accepted e =
+            let by = take-by schemeOf s server answer answers Accepted e in
+            let t = take-passed schemeOf s server (length answer) (length answers) (sym e) in
+            record {
+              issued = issued;
+              taken = set taken server true;
+              answers = put (server * slot) answer answers;
+              is = rw by;
+              kept = rw by (take-kept server answer t);
+              held = rw by (λ store h honest. take-held server answer t store h (honest server answer refl refl));
+            }
+        go (Refused refusal) e =
+            let by = take-by schemeOf s server answer answers (Refused refusal) e in
+            record { issued = issued; taken = taken; answers = answers; is = rw by; kept = rw by k; held = rw by (λ store h honest. h) }
+
+    pub next : (call : Call) → Next schemeOf c wanted key room got at call
+    next (issuing server buffer answer) = next-issue server buffer answer
+    next (taking server answer) = next-take server answer
+    next (recovering message) = next-recover message

@@ -1,0 +1,135 @@
+-- Demand 3, from what the codes promise: of two lists of fetches with exchanged keys that make the same issues a server is shown the same, since it is
+-- asked the same queries; and each fetch recovers what it wants.
+use mathlib.Core.Path.{_≡_, refl, sym}
+use mathlib.Core.Bool.{true}
+use mathlib.Core.List.{List, [], _∷_, map}
+use Prim.Native.Nat.{ℕ, _<_}
+use native.Mathlib.Omega.{arith}
+use lib.ListN.{length}
+use Rattle.lists.specs.Below.{Below}
+use Rattle.refusal.specs.declared.Verdict.the-variants.{Accepted}
+use Rattle.scheme.specs.Scheme.{Scheme, Valid}
+use Rattle.scheme.specs.Laws.{Laws}
+use Rattle.catalogue.specs.declared.Catalogue.{Catalogue}
+use Rattle.catalogue.specs.Catalogue.{Admitted}
+use Rattle.session.specs.Marks.{noMarks}
+use Rattle.session.specs.Fields.{newSession}
+use Rattle.session.specs.Calls.{begin}
+use Rattle.session.proofs.Marks.{none-marked, marks-none}
+use Rattle.session.proofs.Begin.{begin-accepted, begin-by}
+use Rattle.fetches.specs.Fetches.{Fetch, history}
+use Rattle.fetches.specs.Shown.{issues, issuesOf, shownTo, shown}
+use Rattle.fetches.specs.Right.{has, FetchRight}
+use Rattle.fetches.specs.Claim.{Each, nil, cons, KeyList, Exchange, Demand3, Promises}
+use Rattle.fetches.proofs.Steps.{Kept, Held}
+use Rattle.fetches.proofs.View.{seenOf, view}
+use Rattle.fetches.proofs.Recovery.{verdicts, messages}
+use Rattle.fetches.proofs.Throughout.{all-unchanged, all-answers-left}
+use Rattle.fetches.proofs.Exchange.{exchanges, first-key, other-keys, below-rest, exchanges-valid, exchanges-back}
+
+-- no server is taken at first
+pub none-taken : {A : Type 0} (i : ℕ) → has i [] ≡ true → A
+none-taken i e = let z : _≡_ {A = ℕ} 0 1 = cc in absurd (let w : ⊥ = omega arith in w)
+
+pub kept-first : (schemeOf : Catalogue → Scheme) (c : Catalogue) (answers : List ℕ) → Kept schemeOf c (length answers) [] noMarks noMarks answers
+kept-first schemeOf c answers = record {
+  marks = marks-none (c .servers);
+  room-kept = refl;
+  agree = λ i h. none-marked i;
+  roomy = λ i e. none-taken i e;
+}
+
+pub held-first : (schemeOf : Catalogue → Scheme) (c : Catalogue) (store : List ℕ) (wanted : ℕ) (key answers : List ℕ)
+    → Held schemeOf c store wanted key [] answers
+held-first schemeOf c store wanted key answers i h e = none-taken i e
+
+module _ (schemeOf : Catalogue → Scheme) (c : Catalogue) (admitted : Admitted c) (laws : Laws (c .servers) (c .messages) (schemeOf c)) where
+  -- one fetch
+  pub begun : (wanted : ℕ) → wanted < c .messages → (key : List ℕ) → Valid (schemeOf c) key
+      → begin schemeOf c wanted key ≡ record { verdict = Accepted; session = newSession c wanted key }
+  begun wanted inside key valid =
+      begin-by schemeOf c wanted key Accepted
+      (sym (begin-accepted schemeOf c wanted key (record { admitted = admitted; inside = inside; valid = valid })))
+
+  pub fetch-shown : (store : List ℕ) (n : ℕ) → n < c .servers → (f : Fetch) → f .wanted < c .messages → Valid (schemeOf c) (f .key)
+      → shownTo schemeOf c store n (history schemeOf c f) ≡ seenOf schemeOf c store n (schemeOf c .query (f .wanted) n (f .key)) (issues (f .calls))
+  fetch-shown store n below f inside valid =
+      rw (begun (f .wanted) inside (f .key) valid)
+      (view schemeOf c admitted laws (f .wanted) inside (f .key) valid store n below (f .calls) (length (f .answers)) [] noMarks noMarks (f .answers)
+      (kept-first schemeOf c (f .answers)))
+
+  fetch-right : (store : List ℕ) → Below 256 store → (f : Fetch) → f .wanted < c .messages → Valid (schemeOf c) (f .key) → FetchRight schemeOf c store f
+  fetch-right store bytes f inside valid = record {
+    begun = rw (begun (f .wanted) inside (f .key) valid);
+    refusals = all-unchanged schemeOf (f .calls) [] _;
+    answers-left = all-answers-left schemeOf c laws store (f .calls) [] _;
+    verdicts = rw (begun (f .wanted) inside (f .key) valid)
+        (verdicts schemeOf c admitted laws (f .wanted) inside (f .key) valid (f .calls) (length (f .answers)) [] noMarks noMarks (f .answers)
+        (kept-first schemeOf c (f .answers)));
+    messages = rw (begun (f .wanted) inside (f .key) valid)
+        (messages schemeOf c admitted laws (f .wanted) inside (f .key) valid store bytes (f .calls) (length (f .answers)) [] noMarks noMarks (f .answers)
+        (kept-first schemeOf c (f .answers)) (held-first schemeOf c store (f .wanted) (f .key) (f .answers)));
+  }
+
+  -- lists of fetches
+  abbrev wantedOf : List Fetch → List ℕ
+  wantedOf fs = map (λ (f : Fetch). f .wanted) fs
+
+  abbrev keysOf : List Fetch → List (List ℕ)
+  keysOf fs = map (λ (f : Fetch). f .key) fs
+
+  abbrev Keyed : List Fetch → Type 0
+  Keyed fs = KeyList (schemeOf c) (length (wantedOf fs)) (keysOf fs)
+
+  all-right : (store : List ℕ) → Below 256 store → (fs : List Fetch) → Below (c .messages) (wantedOf fs) → Keyed fs → Each (FetchRight schemeOf c store) fs
+  all-right store bytes [] u k = nil
+  all-right store bytes (f ∷ fs) u k =
+      cons (fetch-right store bytes f (u 0 (omega arith)) (first-key (schemeOf c) (length (wantedOf fs)) (f .key) (keysOf fs) k))
+      (all-right store bytes fs (below-rest (c .messages) (f .wanted) (wantedOf fs) u) (other-keys (schemeOf c) (length (wantedOf fs)) (f .key) (keysOf fs) k))
+
+  all-alike : (store : List ℕ) (n : ℕ) → n < c .servers → (fs gs : List Fetch) → Below (c .messages) (wantedOf fs) → Below (c .messages) (wantedOf gs)
+      → Keyed fs → Keyed gs → keysOf gs ≡ exchanges (laws .exchange n) (wantedOf fs) (wantedOf gs) (keysOf fs)
+      → issuesOf fs ≡ issuesOf gs → shown schemeOf c store n fs ≡ shown schemeOf c store n gs
+  all-alike store n below [] [] u v k l e i = refl
+  all-alike store n below [] (g ∷ gs) u v k l e i = cc
+  all-alike store n below (f ∷ fs) [] u v k l e i = cc
+  all-alike store n below (f ∷ fs) (g ∷ gs) u v k l e i =
+      let rest : shown schemeOf c store n fs ≡ shown schemeOf c store n gs = all-alike store n below fs gs
+      (below-rest (c .messages) (f .wanted) (wantedOf fs) u) (below-rest (c .messages) (g .wanted) (wantedOf gs) v)
+      (other-keys (schemeOf c) (length (wantedOf fs)) (f .key) (keysOf fs) k) (other-keys (schemeOf c) (length (wantedOf gs)) (g .key) (keysOf gs) l) (cc) (cc) in
+      let p : f .wanted < c .messages = u 0 (omega arith) in
+      let q : g .wanted < c .messages = v 0 (omega arith) in
+      let vf = first-key (schemeOf c) (length (wantedOf fs)) (f .key) (keysOf fs) k in
+      let vg = first-key (schemeOf c) (length (wantedOf gs)) (g .key) (keysOf gs) l in
+      let a = fetch-shown store n below f p vf in
+      let b = fetch-shown store n below g q vg in
+      let x : g .key ≡ laws .exchange n (f .wanted) (g .wanted) (f .key) = cc in
+      let y : issues (f .calls) ≡ issues (g .calls) = cc in
+      let z = laws .exchange-shown n (f .wanted) (g .wanted) (f .key) below p q vf in
+      let d : shownTo schemeOf c store n (history schemeOf c f) ≡ shownTo schemeOf c store n (history schemeOf c g) = cc in
+      cc
+
+  exchange : (n : ℕ) → n < c .servers → (ps qs : List ℕ) → length ps ≡ length qs → Below (c .messages) ps → Below (c .messages) qs
+      → Exchange schemeOf c n ps qs
+  exchange n below ps qs e u v = record {
+    swap = exchanges (laws .exchange n) ps qs;
+    back = exchanges (laws .exchange n) qs ps;
+    swap-valid = exchanges-valid (c .servers) (c .messages) (schemeOf c) laws n below ps qs e u v;
+    back-valid = exchanges-valid (c .servers) (c .messages) (schemeOf c) laws n below qs ps (sym e) v u;
+    back-swap = exchanges-back (c .servers) (c .messages) (schemeOf c) laws n below ps qs e u v;
+    swap-back = exchanges-back (c .servers) (c .messages) (schemeOf c) laws n below qs ps (sym e) v u;
+    claim = λ keys k store bytes fs gs wf kf wg kg.
+        let u′ : Below (c .messages) (wantedOf fs) = rw wf u in
+        let v′ : Below (c .messages) (wantedOf gs) = rw wg v in
+        let k′ : Keyed fs = rw (wf, kf) k in
+        let l′ : Keyed gs = rw (wg, kg) (exchanges-valid (c .servers) (c .messages) (schemeOf c) laws n below ps qs e u v keys k) in
+        let x : keysOf gs ≡ exchanges (laws .exchange n) (wantedOf fs) (wantedOf gs) (keysOf fs) = rw (wf, wg, kf) kg in
+        record {
+          alike = all-alike store n below fs gs u′ v′ k′ l′ x;
+          first = all-right store bytes fs u′ k′;
+          second = all-right store bytes gs v′ l′;
+        };
+  }
+
+pub demand3 : (schemeOf : Catalogue → Scheme) → Promises schemeOf → Demand3 schemeOf
+demand3 schemeOf promises c admitted = exchange schemeOf c admitted (promises c admitted)

@@ -1,0 +1,108 @@
+-- What a server is shown of a fetch: a function of the query that the fetch asks it and of the fetch's issues, and of nothing else.
+use mathlib.Core.Path.{_≡_, refl, sym, ap, _∙_}
+use mathlib.Core.Bool.{Bool, true, false, cond}
+use mathlib.Core.List.{List, [], _∷_, _++_}
+use Prim.Native.Nat.{ℕ, _<_}
+use native.Mathlib.Omega.{arith}
+use borrow.Author.Tests.{eqb-true}
+use lib.Dec.{ltb, eqb}
+use lib.ListN.{length, drop, replicate, length-replicate}
+use lib.Seq.{take-at, take-all}
+use Rattle.refusal.specs.declared.Refusal.the-variants.{Room}
+use Rattle.refusal.specs.declared.Verdict.{Verdict}
+use Rattle.refusal.specs.declared.Verdict.the-variants.{Accepted, Refused}
+use Rattle.refusal.specs.declared.Outcome.the-variants.{Value}
+use Rattle.refusal.specs.Chain.{refuseIf}
+use Rattle.scheme.specs.Scheme.{Scheme, Valid}
+use Rattle.scheme.specs.Laws.{Laws}
+use Rattle.catalogue.specs.declared.Catalogue.{Catalogue}
+use Rattle.catalogue.specs.Catalogue.{Admitted}
+use Rattle.server.specs.Answering.{answerVerdict}
+use Rattle.server.proofs.Laws.{answer-by, writes-answer}
+use Rattle.session.specs.Calls.{issueVerdict, issue}
+use Rattle.session.proofs.Issue.{issue-verdict, issue-by}
+use Rattle.fetches.specs.Fetches.{Call, issuing, taking, recovering, run}
+use Rattle.fetches.specs.Shown.{Shown, asked, Issue, issues, asking, showing, shownTo}
+use Rattle.fetches.proofs.Steps.{sessionOf, stateOf, Kept, kept-query, sound, next}
+
+module _ (schemeOf : Catalogue → Scheme) (c : Catalogue) (store : List ℕ) (n : ℕ) (query : List ℕ) where
+  -- what an issue shows that asks the query: as if into zeros
+  abbrev pub seen : ℕ → ℕ → Shown
+  seen room answerRoom = showing schemeOf c store n query (replicate answerRoom 0) (refuseIf (ltb room (schemeOf c .sizes .query)) Room Accepted)
+
+  abbrev pub seenOf : List Issue → List Shown
+  seenOf [] = []
+  seenOf (i ∷ is) = cond (eqb (i .server) n) (seen (i .room) (i .answerRoom) ∷ []) [] ++ seenOf is
+
+module _ (schemeOf : Catalogue → Scheme) (c : Catalogue) (laws : Laws (c .servers) (c .messages) (schemeOf c)) (store : List ℕ) (n : ℕ) (query : List ℕ) where
+  abbrev verdict : List ℕ → Verdict
+  verdict answer = answerVerdict schemeOf c n (length store) query (length answer)
+
+  -- what answering shows goes by its verdict
+  pub answer-shown : (answer : List ℕ) (v : Verdict) → v ≡ verdict answer → (other : List ℕ) → v ≡ verdict other
+      → asking schemeOf c store n query answer ≡ asking schemeOf c store n query other
+  answer-shown answer Accepted e other f =
+      let written = writes-answer schemeOf c laws n store query answer (sym e) ∙ sym (writes-answer schemeOf c laws n store query other (sym f)) in
+      let by = answer-by schemeOf c n store query answer Accepted e in
+      let by′ = answer-by schemeOf c n store query other Accepted f in
+      rw (by, by′) (ap (asked query (Value (schemeOf c .answerLength query))) (rw (by, by′) at written))
+  answer-shown answer (Refused refusal) e other f =
+      rw (answer-by schemeOf c n store query answer (Refused refusal) e, answer-by schemeOf c n store query other (Refused refusal) f)
+
+  -- and so by the length of the buffer that the query is answered into
+  pub same-room : (answer : List ℕ) → asking schemeOf c store n query answer ≡ asking schemeOf c store n query (replicate (length answer) 0)
+  same-room answer = answer-shown answer (verdict answer) refl (replicate (length answer) 0) (rw (length-replicate {A = ℕ} (length answer) 0))
+
+module _ (schemeOf : Catalogue → Scheme) (c : Catalogue) (admitted : Admitted c) (laws : Laws (c .servers) (c .messages) (schemeOf c))
+    (wanted : ℕ) (inside : wanted < c .messages) (key : List ℕ) (valid : Valid (schemeOf c) key) (store : List ℕ) (n : ℕ) (below : n < c .servers) where
+  abbrev query : List ℕ
+  query = schemeOf c .query wanted n key
+
+  long : length query ≡ schemeOf c .sizes .query
+  long = laws .query-length wanted n key inside below valid
+
+  -- an issue to the server
+  module _ (room : ℕ) (got : List ℕ) (issued taken : List Bool) (answers : List ℕ) (k : Kept schemeOf c room got issued taken answers) where
+    issue-shown : (buffer answer : List ℕ)
+        → showing schemeOf c store n (issue schemeOf (sessionOf c wanted key issued taken) n buffer .buffer) answer
+        (issue schemeOf (sessionOf c wanted key issued taken) n buffer .handed .verdict)
+        ≡ seen schemeOf c store n query (length buffer) (length answer)
+    issue-shown buffer answer =
+        go (refuseIf (ltb (length buffer) (schemeOf c .sizes .query)) Room Accepted)
+        (sym (issue-verdict schemeOf (sessionOf c wanted key issued taken) n
+        (sound schemeOf c admitted laws wanted inside key valid issued taken (k .marks)) below (length buffer)))
+      where
+        go : (v : Verdict) → v ≡ issueVerdict schemeOf (sessionOf c wanted key issued taken) n (length buffer)
+            → showing schemeOf c store n (issue schemeOf (sessionOf c wanted key issued taken) n buffer .buffer) answer
+            (issue schemeOf (sessionOf c wanted key issued taken) n buffer .handed .verdict)
+            ≡ showing schemeOf c store n query (replicate (length answer) 0) v
+        go Accepted e =
+            rw (
+              issue-by schemeOf (sessionOf c wanted key issued taken) n buffer Accepted e,
+              kept-query schemeOf c admitted laws wanted inside key valid issued taken n,
+              take-at query (drop (length query) buffer) (schemeOf c .sizes .query) long,
+              take-all (schemeOf c .sizes .query) query (omega (arith, long)),
+            )
+            (same-room schemeOf c laws store n query answer)
+        go (Refused refusal) e = rw (issue-by schemeOf (sessionOf c wanted key issued taken) n buffer (Refused refusal) e)
+
+  -- the calls of a fetch
+  pub view : (calls : List Call) (room : ℕ) (got : List ℕ) (issued taken : List Bool) (answers : List ℕ) → Kept schemeOf c room got issued taken answers
+      → shownTo schemeOf c store n (run schemeOf (stateOf c wanted key issued taken answers) calls) ≡ seenOf schemeOf c store n query (issues calls)
+  view [] room got issued taken answers k = refl
+  view (issuing server buffer answer ∷ calls) room got issued taken answers k =
+      let x = next schemeOf c admitted laws wanted inside key valid room got issued taken answers k (issuing server buffer answer) in
+      rw (x .is, view calls room got (x .issued) (x .taken) (x .answers) (x .kept)) (go (eqb server n) refl)
+    where
+      go : (t : Bool) → eqb server n ≡ t
+          → cond t (showing schemeOf c store server (issue schemeOf (sessionOf c wanted key issued taken) server buffer .buffer) answer
+          (issue schemeOf (sessionOf c wanted key issued taken) server buffer .handed .verdict) ∷ []) [] ++ seenOf schemeOf c store n query (issues calls)
+          ≡ cond t (seen schemeOf c store n query (length buffer) (length answer) ∷ []) [] ++ seenOf schemeOf c store n query (issues calls)
+      go true e = rw (eqb-true server n e, issue-shown room got issued taken answers k buffer answer)
+      go false e = refl
+  view (taking server answer ∷ calls) room got issued taken answers k =
+      let x = next schemeOf c admitted laws wanted inside key valid room got issued taken answers k (taking server answer) in
+      rw (x .is) (view calls room _ (x .issued) (x .taken) (x .answers) (x .kept))
+  view (recovering message ∷ calls) room got issued taken answers k =
+      let x = next schemeOf c admitted laws wanted inside key valid room got issued taken answers k (recovering message) in
+      rw (x .is) (view calls room got (x .issued) (x .taken) (x .answers) (x .kept))

@@ -1,0 +1,53 @@
+-- The claim on two whole lists of fetches over one catalogue and one store (demand 3; document 01, 'Lists of fetches'): any server is shown the same
+-- of both, and each fetch of both recovers what it wants.
+use mathlib.Core.Path.{_≡_}
+use mathlib.Core.List.{List, [], _∷_, map}
+use Prim.Native.Nat.{ℕ, _<_}
+use lib.ListN.{length, getD}
+use Rattle.lists.specs.Below.{Below}
+use Rattle.scheme.specs.Scheme.{Scheme, Valid}
+use Rattle.scheme.specs.Laws.{Laws}
+use Rattle.catalogue.specs.declared.Catalogue.{Catalogue}
+use Rattle.catalogue.specs.Catalogue.{Admitted}
+use Rattle.fetches.specs.Fetches.{Fetch}
+use Rattle.fetches.specs.Shown.{issuesOf, shown}
+use Rattle.fetches.specs.Right.{FetchRight}
+
+-- P holds of each fetch
+pub data Each (P : Fetch → Type 0) : List Fetch → Type 0 where
+  nil : Each P []
+  cons : {f : Fetch} {fs : List Fetch} → P f → Each P fs → Each P (f ∷ fs)
+
+-- THE CLAIM on the lists fs and gs: server n is shown the same of both, if they make the same issues; and each fetch of both is right
+pub record Claim (schemeOf : Catalogue → Scheme) (c : Catalogue) (store : List ℕ) (n : ℕ) (fs gs : List Fetch) : Type 0 where
+  pub alike : issuesOf fs ≡ issuesOf gs → shown schemeOf c store n fs ≡ shown schemeOf c store n gs
+  pub first : Each (FetchRight schemeOf c store) fs
+  pub second : Each (FetchRight schemeOf c store) gs
+
+-- Lists of valid keys, one for each of `count` fetches
+pub record KeyList (scheme : Scheme) (count : ℕ) (keys : List (List ℕ)) : Type 0 where
+  pub one-each : length keys ≡ count
+  pub valid : (i : ℕ) → i < length keys → Valid scheme (getD keys i [])
+
+-- For a catalogue, a server and two lists of messages: a one-to-one exchange of the lists of valid keys, and the claim of any fetches with these
+-- messages, with any keys for the first list and the exchanged ones for the second
+pub record Exchange (schemeOf : Catalogue → Scheme) (c : Catalogue) (n : ℕ) (ps qs : List ℕ) : Type 0 where
+  pub swap : List (List ℕ) → List (List ℕ)
+  pub back : List (List ℕ) → List (List ℕ)
+  pub swap-valid : (keys : List (List ℕ)) → KeyList (schemeOf c) (length ps) keys → KeyList (schemeOf c) (length qs) (swap keys)
+  pub back-valid : (keys : List (List ℕ)) → KeyList (schemeOf c) (length qs) keys → KeyList (schemeOf c) (length ps) (back keys)
+  pub back-swap : (keys : List (List ℕ)) → KeyList (schemeOf c) (length ps) keys → back (swap keys) ≡ keys
+  pub swap-back : (keys : List (List ℕ)) → KeyList (schemeOf c) (length qs) keys → swap (back keys) ≡ keys
+  pub claim : (keys : List (List ℕ)) → KeyList (schemeOf c) (length ps) keys → (store : List ℕ) → Below 256 store → (fs gs : List Fetch)
+      → map (λ (f : Fetch). f .wanted) fs ≡ ps → map (λ (f : Fetch). f .key) fs ≡ keys
+      → map (λ (f : Fetch). f .wanted) gs ≡ qs → map (λ (f : Fetch). f .key) gs ≡ swap keys → Claim schemeOf c store n fs gs
+
+-- Demand 3, whole
+abbrev pub Demand3 : (Catalogue → Scheme) → Type 0
+Demand3 schemeOf =
+    (c : Catalogue) → Admitted c → (n : ℕ) → n < c .servers → (ps qs : List ℕ) → length ps ≡ length qs → Below (c .messages) ps
+    → Below (c .messages) qs → Exchange schemeOf c n ps qs
+
+-- The code of each admitted catalogue keeps its promises
+abbrev pub Promises : (Catalogue → Scheme) → Type 0
+Promises schemeOf = (c : Catalogue) → Admitted c → Laws (c .servers) (c .messages) (schemeOf c)

@@ -1,0 +1,6 @@
+pub mod Fetches
+pub mod Shown
+pub mod Right
+pub mod Claim
+pub mod Plain
+pub mod Received

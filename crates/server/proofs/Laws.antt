@@ -1,0 +1,105 @@
+-- Laws of answering: refused it changes nothing, done it writes the answer and returns its length, and what an accepted verdict says.
+use mathlib.Core.Path.{_≡_, refl, sym, ap}
+use mathlib.Core.Bool.{true, not}
+use mathlib.Core.List.{List}
+use Prim.Native.Nat.{ℕ, _≤_, _<_}
+use native.Mathlib.Omega.{arith}
+use lib.Dec.{leb, ltb, eqb}
+use lib.ListN.{length, take, drop}
+use lib.Seq.{take-at}
+use borrow.Author.Tests.{leb-false, lt-leb, ltb-false, le-ltb, eqb-true, eq-eqb, not-false}
+use Rattle.lists.specs.Parts.{put}
+use Rattle.refusal.specs.declared.Refusal.{Refusal}
+use Rattle.refusal.specs.declared.Verdict.{Verdict}
+use Rattle.refusal.specs.declared.Verdict.the-variants.{Accepted, Refused}
+use Rattle.refusal.specs.declared.Outcome.the-variants.{Value, Refused as NoValue}
+use Rattle.refusal.proofs.Chain.{passed, both-accepted}
+use Rattle.scheme.specs.Scheme.{Scheme}
+use Rattle.scheme.specs.Laws.{Laws}
+use Rattle.catalogue.specs.declared.Catalogue.{Catalogue}
+use Rattle.catalogue.specs.Catalogue.{Admitted, catalogueVerdict}
+use Rattle.server.specs.Answering.{Answered, DidAnswer, writtenBy, answerVerdict, answerBy, answering}
+
+module _ (schemeOf : Catalogue → Scheme) where
+  -- what an accepted verdict says
+  pub record Answers (c : Catalogue) (server stored : ℕ) (query : List ℕ) (room : ℕ) : Type 0 where
+    pub admitted : Admitted c
+    pub below : server < c .servers
+    pub admits : schemeOf c .admits server query ≡ true
+    pub store-long : stored ≡ schemeOf c .sizes .store
+    pub roomy : schemeOf c .answerLength query ≤ room
+
+  pub answer-passed : (c : Catalogue) (server stored : ℕ) (query : List ℕ) (room : ℕ)
+      → answerVerdict schemeOf c server stored query room ≡ Accepted → Answers c server stored query room
+  unfolding answerVerdict
+  answer-passed c server stored query room e =
+      let p = both-accepted (catalogueVerdict c) _ e in
+      let q = passed (leb (c .servers) server) _ _ (p .1) in
+      let r = passed (not (schemeOf c .admits server query)) _ _ (q .1) in
+      let s = passed (not (eqb stored (schemeOf c .sizes .store))) _ _ (r .1) in
+      let t = passed (ltb room (schemeOf c .answerLength query)) _ _ (s .1) in
+      record {
+        admitted = p .0;
+        below = leb-false (c .servers) server (q .0);
+        admits = not-false _ (r .0);
+        store-long = eqb-true stored (schemeOf c .sizes .store) (not-false _ (s .0));
+        roomy = ltb-false room (schemeOf c .answerLength query) (t .0);
+      }
+
+  pub answer-accepted : (c : Catalogue) (server stored : ℕ) (query : List ℕ) (room : ℕ)
+      → Answers c server stored query room → answerVerdict schemeOf c server stored query room ≡ Accepted
+  unfolding answerVerdict
+  answer-accepted c server stored query room a =
+      rw (
+        a .admitted,
+        lt-leb (c .servers) server (a .below),
+        a .admits,
+        eq-eqb stored (schemeOf c .sizes .store) (a .store-long),
+        le-ltb room (schemeOf c .answerLength query) (a .roomy),
+      )
+
+  -- an empty answer needs no room
+  pub answer-empty : (c : Catalogue) (server stored : ℕ) (query : List ℕ) (room : ℕ) → schemeOf c .answerLength query ≡ 0
+      → answerVerdict schemeOf c server stored query room ≡ answerVerdict schemeOf c server stored query 0
+  unfolding answerVerdict
+  answer-empty c server stored query room e = rw (e, le-ltb room 0 (omega arith))
+
+  module _ (c : Catalogue) (server : ℕ) (store query buffer : List ℕ) where
+    -- answering goes by its verdict
+    pub answer-by : (v : Verdict) → v ≡ answerVerdict schemeOf c server (length store) query (length buffer)
+        → answering schemeOf c server store query buffer ≡ answerBy schemeOf c store query buffer v
+    unfolding answering
+    answer-by v e = ap (answerBy schemeOf c store query buffer) (sym e)
+
+    -- refused, it leaves the buffer as it was
+    pub answer-refused : (v : Verdict) (refusal : Refusal) → v ≡ answerVerdict schemeOf c server (length store) query (length buffer) → v ≡ Refused refusal
+        → DidAnswer (answering schemeOf c server store query buffer) (NoValue refusal) buffer
+    answer-refused v refusal e p = rw (answer-by v e, p) (record { outcome = refl; buffer = refl })
+
+    pub answer-done : (v : Verdict) (size : ℕ) (after : List ℕ) → v ≡ answerVerdict schemeOf c server (length store) query (length buffer) → v ≡ Accepted
+        → size ≡ schemeOf c .answerLength query → after ≡ put 0 (schemeOf c .answer store query) buffer
+        → DidAnswer (answering schemeOf c server store query buffer) (Value size) after
+    answer-done v size after e p q a = rw (answer-by v e, p, q) (record { outcome = refl; buffer = a })
+
+  -- Of a code that keeps its promises: the bytes that answering wrote are the answer, and the rest of the buffer is as it was
+  module _ (c : Catalogue) (laws : Laws (c .servers) (c .messages) (schemeOf c)) (server : ℕ) (store query buffer : List ℕ) where
+    whole-answer : Answers c server (length store) query (length buffer)
+        → take (schemeOf c .answerLength query) (put 0 (schemeOf c .answer store query) buffer) ≡ schemeOf c .answer store query
+    whole-answer a = take-at (schemeOf c .answer store query) (drop (length (schemeOf c .answer store query)) buffer) (schemeOf c .answerLength query)
+        (laws .answer-length server store query (a .store-long) (a .admits))
+
+    abbrev did : Answered
+    did = answering schemeOf c server store query buffer
+
+    pub writes-answer : answerVerdict schemeOf c server (length store) query (length buffer) ≡ Accepted
+        → writtenBy (did .outcome) (did .buffer) ≡ schemeOf c .answer store query
+    writes-answer e = rw (answer-by c server store query buffer Accepted (sym e)) (whole-answer (answer-passed c server (length store) query (length buffer) e))
+
+    pub writes-only : did .buffer ≡ put 0 (writtenBy (did .outcome) (did .buffer)) buffer
+    writes-only = go (answerVerdict schemeOf c server (length store) query (length buffer)) refl
+      where
+        go : (v : Verdict) → v ≡ answerVerdict schemeOf c server (length store) query (length buffer)
+            → did .buffer ≡ put 0 (writtenBy (did .outcome) (did .buffer)) buffer
+        go Accepted e =
+            rw (answer-by c server store query buffer Accepted e, whole-answer (answer-passed c server (length store) query (length buffer) (sym e)))
+        go (Refused refusal) e = rw (answer-by c server store query buffer (Refused refusal) e)

@@ -1,0 +1,55 @@
+-- Answering, over the code of each catalogue: the whole result, and the final bytes of the answer's buffer, for every input
+-- (document 01, 'Numbers a call can give').
+use mathlib.Core.Path.{_≡_}
+use mathlib.Core.Bool.{not}
+use mathlib.Core.List.{List, []}
+use Prim.Native.Nat.{ℕ}
+use lib.Dec.{leb, ltb, eqb}
+use lib.ListN.{length, take}
+use Rattle.lists.specs.Parts.{put}
+use Rattle.refusal.specs.declared.Refusal.the-variants.{Server, Query, StoreLength, Room}
+use Rattle.refusal.specs.declared.Verdict.{Verdict}
+use Rattle.refusal.specs.declared.Verdict.the-variants.{Accepted, Refused}
+use Rattle.refusal.specs.declared.Outcome.{Outcome}
+use Rattle.refusal.specs.declared.Outcome.the-variants.{Value, Refused as NoValue}
+use Rattle.refusal.specs.Chain.{refuseIf, andThen}
+use Rattle.scheme.specs.Scheme.{Scheme}
+use Rattle.catalogue.specs.declared.Catalogue.{Catalogue}
+use Rattle.catalogue.specs.Catalogue.{catalogueVerdict}
+
+-- What answering returns, the answer's length unless it is refused, and the buffer as it leaves it
+pub record Answered : Type 0 where
+  pub outcome : Outcome
+  pub buffer : List ℕ
+
+-- the bytes that answering wrote: as many as it returns, from the start of the buffer; refused, none
+abbrev pub writtenBy : Outcome → List ℕ → List ℕ
+writtenBy (Value size) buffer = take size buffer
+writtenBy (NoValue refusal) buffer = []
+
+-- A call of the code did what the definition says: its result, and the final bytes of the buffer
+pub record DidAnswer (answered : Answered) (result : Outcome) (after : List ℕ) : Type 0 where
+  pub outcome : result ≡ answered .outcome
+  pub buffer : after ≡ answered .buffer
+
+module _ (schemeOf : Catalogue → Scheme) where
+  -- refusals 2, 3, 7, 8, 9: from the lengths of the store (`stored`) and of the buffer (`room`). No room is too little for an empty answer
+  unfoldable pub answerVerdict : Catalogue → ℕ → ℕ → List ℕ → ℕ → Verdict
+  answerVerdict c server stored query room =
+      andThen (catalogueVerdict c)
+      (refuseIf (leb (c .servers) server) Server
+      (refuseIf (not (schemeOf c .admits server query)) Query
+      (refuseIf (not (eqb stored (schemeOf c .sizes .store))) StoreLength
+      (refuseIf (ltb room (schemeOf c .answerLength query)) Room
+      Accepted))))
+
+  abbrev pub answerBy : Catalogue → List ℕ → List ℕ → List ℕ → Verdict → Answered
+  answerBy c store query buffer Accepted = record {
+    outcome = Value (schemeOf c .answerLength query);
+    buffer = put 0 (schemeOf c .answer store query) buffer;
+  }
+  answerBy c store query buffer (Refused refusal) = record { outcome = NoValue refusal; buffer = buffer }
+
+  -- answering c server store query buffer
+  unfoldable pub answering : Catalogue → ℕ → List ℕ → List ℕ → List ℕ → Answered
+  answering c server store query buffer = answerBy c store query buffer (answerVerdict c server (length store) query (length buffer))

@@ -1,0 +1,15 @@
+-- `session::new_session` meets its contract: its key is what `padded_key` gives, and its marks are not set.
+use borrow.Author.Needs.{needs}
+use Rattle.session.specs.Marks.{noMarks}
+use Rattle.session.proofs.new_session.Statement.{statement}
+use Rattle.session.proofs.new_session.Tie as tie
+
+padded-key-requires : tie.Need-padded-key-requires
+padded-key-requires c κs = search needs
+
+returns : tie.Need-returns
+unfolding noMarks
+returns c = rw (c .padded-key .ensures)
+
+pub new-session-spec : {M : Type 1} → statement M
+new-session-spec = tie.close (tie.spec padded-key-requires returns)

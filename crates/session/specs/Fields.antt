@@ -1,0 +1,30 @@
+-- Sessions as values (document 01, 'Session'): the one that begin hands back, done or refused, and the ones with a mark more.
+use Prim.Native.Nat.{ℕ, _-_}
+use mathlib.Core.Bool.{true}
+use mathlib.Core.List.{List, _++_}
+use lib.ListN.{length, set, replicate}
+use Rattle.parameters.specs.Measures.{keyPlaces}
+use Rattle.catalogue.specs.declared.Catalogue.{Catalogue}
+use Rattle.catalogue.specs.Catalogue.{zeroCatalogue}
+use Rattle.session.specs.declared.Session.{Session}
+use Rattle.session.specs.Marks.{noMarks}
+
+-- the key, and 0 in the places that it leaves
+unfoldable pub paddedKey : List ℕ → List ℕ
+paddedKey key = key ++ replicate (keyPlaces - length key) 0
+
+-- a session at the start of a fetch: newSession catalogue wanted key
+abbrev pub newSession : Catalogue → ℕ → List ℕ → Session
+newSession c wanted key = record { catalogue = c; wanted = wanted; key = paddedKey key; issued = noMarks; taken = noMarks }
+
+-- zeros, the code short
+unfoldable pub zeroSession : Session
+zeroSession = record { catalogue = zeroCatalogue; wanted = 0; key = replicate keyPlaces 0; issued = noMarks; taken = noMarks }
+
+-- a query was issued to the server
+abbrev pub markIssued : Session → ℕ → Session
+markIssued s server = record { catalogue = s .catalogue; wanted = s .wanted; key = s .key; issued = set (s .issued) server true; taken = s .taken }
+
+-- the server's answer was taken
+abbrev pub markTaken : Session → ℕ → Session
+markTaken s server = record { catalogue = s .catalogue; wanted = s .wanted; key = s .key; issued = s .issued; taken = set (s .taken) server true }

@@ -1,0 +1,135 @@
+// The session: one fetch, from its key to its message, passed from call to call by value. Its calls are defined in specs/Calls.antt;
+// here are the parts of them that ask no code.
+ghost use mathlib.Core.Path.{_≡_};
+ghost use Prim.Native.Nat.{_≤_, _<_};
+ghost use lib.ListN.{length};
+ghost use Rattle.session.specs.Marks.{markGood, marksGood, allTaken};
+ghost use Rattle.session.specs.Fields.{paddedKey, zeroSession, newSession, markIssued, markTaken};
+use catalogue::Catalogue;
+use catalogue::Code;
+use refusal::Verdict;
+
+// What a fetch holds between its calls. Any value may come in: each call checks the fields again.
+pub struct Session {
+    pub catalogue: Catalogue,
+    // The number of the message that is fetched (01: k).
+    pub wanted: usize,
+    // The key, then places that are not used: 0 after begin, and neither read nor checked later.
+    pub key: [u8; 2048],
+    // For each server, whether a query was issued to it.
+    pub issued: [bool; 16],
+    // For each server, whether its answer was taken.
+    pub taken: [bool; 16],
+}
+
+// What a call on a session hands back.
+pub struct Handed {
+    pub verdict: Verdict,
+    pub session: Session,
+}
+
+// Whether some history of calls gives a place these two marks.
+fn mark_good(servers: usize, place: usize, issued: bool, taken: bool) -> bool
+    ensures { λ r. ⌜ r ≡ markGood servers place issued taken ⌝ }
+{
+    if issued {
+        return place < servers;
+    }
+    !taken
+}
+
+// Whether some history of calls gives all these marks.
+fn marks_good<'a>(servers: usize, issued: &'a [bool; 16], taken: &'a [bool; 16]) -> bool
+    ensures { λ r. ⌜ r ≡ marksGood servers (now (issued .entry)) (now (taken .entry)) ⌝ }
+{
+    let mut i: usize = 0;
+    while i < 16 {
+        if !mark_good(servers, i, issued[i], taken[i]) {
+            return false;
+        }
+        i += 1;
+    }
+    true
+}
+
+// Whether the answer of each server was taken.
+fn all_taken<'a>(servers: usize, taken: &'a [bool; 16]) -> bool
+    requires { ⌜ servers ≤ 16 ⌝ }
+    ensures { λ r. ⌜ r ≡ allTaken servers (now (taken .entry)) ⌝ }
+{
+    let mut i: usize = 0;
+    while i < servers {
+        if !taken[i] {
+            return false;
+        }
+        i += 1;
+    }
+    true
+}
+
+// The key at the start of a session's places, the rest 0.
+fn padded_key(key: &[u8]) -> [u8; 2048]
+    requires { ⌜ length (now key) ≤ 2048 ⌝ }
+    ensures { λ r. ⌜ r ≡ paddedKey (now (key .entry)) ⌝ }
+{
+    let mut out = [0; 2048];
+    let mut i: usize = 0;
+    while i < key.len() {
+        out[i] = key[i];
+        i += 1;
+    }
+    out
+}
+
+// What a refused begin hands back.
+fn zero_session() -> Session
+    ensures { λ r. ⌜ r ≡ zeroSession ⌝ }
+{
+    Session {
+        catalogue: Catalogue {
+            code: Code::Short,
+            servers: 0,
+            messages: 0,
+            symbol: 0,
+        },
+        wanted: 0,
+        key: [0; 2048],
+        issued: [false; 16],
+        taken: [false; 16],
+    }
+}
+
+// A session at the start of a fetch.
+fn new_session(catalogue: Catalogue, wanted: usize, key: &[u8]) -> Session
+    requires { ⌜ length (now key) ≤ 2048 ⌝ }
+    ensures { λ r. ⌜ r ≡ newSession catalogue wanted (now (key .entry)) ⌝ }
+{
+    let places = padded_key(key);
+    Session {
+        catalogue: catalogue,
+        wanted: wanted,
+        key: places,
+        issued: [false; 16],
+        taken: [false; 16],
+    }
+}
+
+impl Session {
+    // The session with the mark that a query was issued to the server.
+    fn mark_issued(mut self, server: usize) -> Self
+        requires { ⌜ server < 16 ⌝ }
+        ensures { λ r. ⌜ r ≡ markIssued self server ⌝ }
+    {
+        self.issued[server] = true;
+        self
+    }
+
+    // The session with the mark that the server's answer was taken.
+    fn mark_taken(mut self, server: usize) -> Self
+        requires { ⌜ server < 16 ⌝ }
+        ensures { λ r. ⌜ r ≡ markTaken self server ⌝ }
+    {
+        self.taken[server] = true;
+        self
+    }
+}
