@@ -1,5 +1,4 @@
 -- The sizes of an admitted catalogue are small: what callers need so that their sums and products fit.
-
 use Prim.Native.Nat.{ℕ, _-_, _*_, _^_, _≤_, _<_}
 use native.Mathlib.Nat.{mul-le-mul, pow-le-pow-right, div-le-self}
 use native.Mathlib.Omega.{arith}

@@ -6,7 +6,7 @@ ghost use mathlib.Core.Path.{_≡_};
 ghost use mathlib.Core.Bool.{true, _&&_};
 ghost use Prim.Native.Nat.{_^_, _≤_};
 ghost use Rattle.parameters.specs.Bounds.{serversFit, symbolFits, shortFits, evenFits};
-ghost use Rattle.parameters.specs.Measures.{shortSizes, evenRows, evenSizes};
+ghost use Rattle.parameters.specs.Measures.{shortSizes, evenSizes};
 ghost use Rattle.catalogue.specs.Catalogue.{fits, catalogueVerdict, zeroCatalogue, measuredOf};
 ghost use Rattle.catalogue.specs.Most.{Most};
 
