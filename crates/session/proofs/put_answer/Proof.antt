@@ -1,5 +1,5 @@
 -- `session::put_answer` meets its contract: the part of the buffer that is lent is left as the answer, whose length it has.
-use mathlib.Core.Path.{_≡_, refl, ap, _∙_}
+use mathlib.Core.Path.{refl, ap, _∙_}
 use mathlib.Core.List.{List, _++_}
 use Prim.Native.Nat.{ℕ, _+_, _-_}
 use borrow.Author.Needs.{needs}
