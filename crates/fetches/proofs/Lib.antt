@@ -8,3 +8,4 @@ pub mod Plain
 pub mod Served
 pub mod Received
 pub mod Toy
+pub mod Numbers

@@ -4,3 +4,4 @@ pub mod Right
 pub mod Claim
 pub mod Plain
 pub mod Received
+pub mod Numbers

@@ -1,8 +1,9 @@
 // The session: one fetch, from its key to its message, passed from call to call by value. Its calls are defined in specs/Calls.antt;
 // here are the parts of them that ask no code.
 ghost use mathlib.Core.Path.{_≡_};
-ghost use Prim.Native.Nat.{_≤_, _<_};
+ghost use Prim.Native.Nat.{_+_, _≤_, _<_};
 ghost use lib.ListN.{length};
+ghost use Rattle.lists.specs.Parts.{put};
 ghost use Rattle.session.specs.Marks.{markGood, marksGood, allTaken};
 ghost use Rattle.session.specs.Fields.{paddedKey, zeroSession, newSession, markIssued, markTaken};
 use catalogue::Catalogue;
@@ -79,6 +80,15 @@ fn padded_key(key: &[u8]) -> [u8; 2048]
         i += 1;
     }
     out
+}
+
+// Writes an answer into the answer buffer, from the start of its slot on; of an empty answer, nothing.
+fn put_answer(buffer: &mut [u8], at: usize, answer: &[u8])
+    requires { ⌜ at + length (now answer) ≤ length (now buffer) ⌝ }
+    ensures { λ _. ⌜ now (buffer .exit) ≡ put at (now (answer .entry)) (now (buffer .entry)) ⌝ }
+{
+    let end = at + answer.len();
+    symbol::copy(&mut buffer[at..end], answer);
 }
 
 // What a refused begin hands back.

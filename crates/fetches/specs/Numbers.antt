@@ -1,0 +1,34 @@
+-- The numbers that each call can give (document 01, 'Numbers a call can give'): only those about its own inputs, for every input.
+use mathlib.Core.Path.{_≡_}
+use mathlib.Core.Bool.{true}
+use mathlib.Core.List.{List, [], _∷_}
+use Prim.Native.Nat.{ℕ}
+use Rattle.refusal.specs.declared.Refusal.{Refusal}
+use Rattle.refusal.specs.declared.Verdict.{Verdict}
+use Rattle.refusal.specs.declared.Verdict.the-variants.{Refused}
+use Rattle.refusal.specs.declared.Outcome.{Outcome}
+use Rattle.refusal.specs.declared.Outcome.the-variants.{Refused as NoValue}
+use Rattle.refusal.specs.Numbers.{numberOf}
+use Rattle.scheme.specs.Scheme.{Scheme}
+use Rattle.catalogue.specs.declared.Catalogue.{Catalogue}
+use Rattle.server.specs.Answering.{answering}
+use Rattle.session.specs.declared.Session.{Session}
+use Rattle.session.specs.Calls.{begin, issue, takeAnswer, recover, bound}
+use Rattle.fetches.specs.Right.{has}
+
+-- a refusal in it has one of the numbers
+abbrev pub Within : List ℕ → Verdict → Type 0
+Within numbers verdict = (refusal : Refusal) → verdict ≡ Refused refusal → has (numberOf refusal) numbers ≡ true
+
+abbrev pub ValueWithin : List ℕ → Outcome → Type 0
+ValueWithin numbers outcome = (refusal : Refusal) → outcome ≡ NoValue refusal → has (numberOf refusal) numbers ≡ true
+
+pub record CallNumbers (schemeOf : Catalogue → Scheme) : Type 0 where
+  pub begins : (c : Catalogue) (wanted : ℕ) (key : List ℕ) → Within (2 ∷ 4 ∷ 5 ∷ 6 ∷ []) (begin schemeOf c wanted key .verdict)
+  pub issues : (s : Session) (server : ℕ) (buffer : List ℕ) → Within (2 ∷ 3 ∷ 4 ∷ 6 ∷ 9 ∷ 11 ∷ []) (issue schemeOf s server buffer .handed .verdict)
+  pub takes : (s : Session) (server : ℕ) (answer buffer : List ℕ)
+      → Within (2 ∷ 3 ∷ 4 ∷ 6 ∷ 9 ∷ 10 ∷ 11 ∷ []) (takeAnswer schemeOf s server answer buffer .handed .verdict)
+  pub recovers : (s : Session) (answers buffer : List ℕ) → Within (2 ∷ 4 ∷ 6 ∷ 9 ∷ 11 ∷ 12 ∷ []) (recover schemeOf s answers buffer .handed .verdict)
+  pub bounds : (c : Catalogue) → ValueWithin (2 ∷ []) (bound schemeOf c)
+  pub answers : (c : Catalogue) (server : ℕ) (store query buffer : List ℕ)
+      → ValueWithin (2 ∷ 3 ∷ 7 ∷ 8 ∷ 9 ∷ []) (answering schemeOf c server store query buffer .outcome)
