@@ -57,8 +57,8 @@ fn refused(refusal: Refusal) -> Lines
     }
 }
 
-// The four lines at the start of the text, in any bounds.
-fn four_lines(text: &[u8]) -> Lines
+// The four lines at the start of the text, in any bounds: refused 1. For an input that goes on after the catalogue.
+pub fn four_lines(text: &[u8]) -> Lines
     ensures { λ r. ⌜ r ≡ fourLines (now (text .entry)) ⌝ }
 {
     let Line::Value {
