@@ -1,3 +1,4 @@
 pub mod Parts
 pub mod Ranges
 pub mod Below
+pub mod Sums
