@@ -11,10 +11,10 @@ use lib.Seq.{getD-append-add, getD-set-same}
 use Rattle.lists.specs.Sums.{bit, keep, keepIf, sum, All, allNil, allCons}
 use Rattle.lists.specs.Ranges.{range}
 use Rattle.lists.proofs.Sums.{All-imp, All-replicate, sum-mul, sum-ext, sum-keep}
-use Rattle.even_places.specs.Sets.{has, sets, with, ones}
+use Rattle.even_places.specs.Sets.{has, sets, with, ones, alike}
 use Rattle.even_places.specs.Rule.{Row, same, give, next, after, number, join, ofSet, block, used, sideSets, sideRows, wantedRows, joins, sources}
 use Rattle.even_places.proofs.Rows.{Lacks, SetLacks, number-lacks, next-at, after-at, after-length, number-length}
-use Rattle.even_places.proofs.SetLaws.{alike, same-alike, alike-eq, alike-one, alike-carry, setOf-next, keep-append, keep-nothing, same-join, join-keep, ones-drop, has-drop}
+use Rattle.even_places.proofs.SetLaws.{same-alike, alike-eq, alike-one, alike-carry, setOf-next, keep-append, keep-nothing, same-join, join-keep, ones-drop, has-drop}
 use Rattle.even_places.proofs.Counts.{fresh, starts, starts-length, starts-at, side-is, side-length, side-lacks, lone-lacks}
 use Rattle.even_places.proofs.Joined.{with-k, without-k}
 use Rattle.even_places.proofs.Positions.{others-below, others-length, group-length}

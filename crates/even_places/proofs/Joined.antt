@@ -10,10 +10,10 @@ use lib.ListN.{length, set, replicate, length-set}
 use Rattle.lists.specs.Sums.{bit, keep, sum}
 use Rattle.lists.specs.Ranges.{range}
 use Rattle.lists.proofs.Sums.{sum-append, sum-mul, sum-ext, sum-all, sum-flatMap, All-imp}
-use Rattle.even_places.specs.Sets.{has, sets, ones}
+use Rattle.even_places.specs.Sets.{has, sets, ones, alike}
 use Rattle.even_places.specs.Rule.{isSome, same, bySet, ofSet, others, block, used, sideRows, sources, joins, wantedRows, rows, layout}
 use Rattle.even_places.proofs.Rows.{join-sum, others-sum}
-use Rattle.even_places.proofs.SetLaws.{setOf, alike, same-alike, alike-one, alike-carry, alike-join, ones-drop, setOf-set, number-sets, keep-sets, keep-append, keep-nothing, keep-flatMap, flatMap-all, map-flatMap, same-not, join-keep, join-have, has-drop}
+use Rattle.even_places.proofs.SetLaws.{setOf, same-alike, alike-one, alike-carry, alike-join, ones-drop, setOf-set, number-sets, keep-sets, keep-append, keep-nothing, keep-flatMap, flatMap-all, map-flatMap, same-not, join-keep, join-have, has-drop}
 use Rattle.even_places.proofs.Counts.{sets-fit, sets-zero, has-none, sum-const, either, starts, starts-length, sideSets-sum, side-is, sideSets-lack, side-lacks, sources-lack}
 
 setOf-none : (K : ℕ) → setOf (replicate K none) ≡ replicate K false

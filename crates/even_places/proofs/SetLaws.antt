@@ -12,20 +12,14 @@ use lib.ListN.{length, getD, set, replicate}
 use lib.Seq.{getD-set-same, set-set, set-getD}
 use Rattle.lists.specs.Sums.{bit, keep, keepIf, sum, All, allNil, allCons}
 use Rattle.lists.proofs.Sums.{sum-zero}
-use Rattle.even_places.specs.Sets.{has, sets, ones}
+use Rattle.even_places.specs.Sets.{has, sets, ones, alike}
 use Rattle.even_places.specs.Rule.{Row, isSome, same, give, next, after, number, join, ofSet}
 use Rattle.even_places.proofs.Choose.{sets-none, sets-some}
 use Rattle.even_places.proofs.Rows.{after-length, Lacks}
 
--- a row's set, and the test that two sets are the same
+-- a row's set
 unfoldable pub setOf : Row → List Bool
 setOf r = map isSome r
-
-unfoldable pub alike : List Bool → List Bool → Bool
-alike [] [] = true
-alike [] (b ∷ B) = false
-alike (a ∷ A) [] = false
-alike (a ∷ A) (b ∷ B) = Bool·beq a b && alike A B
 
 pub same-alike : (A : List Bool) (r : Row) → same A r ≡ alike A (setOf r)
 unfolding same alike setOf

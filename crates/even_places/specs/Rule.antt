@@ -1,5 +1,5 @@
--- The place rule of the even code (section 'Even code' of the scope): N servers, K messages, wanted message k.
--- Blocks are counted from 0 here: the rows of block b have sets of b + 1 messages.
+-- The place rule of the even code: N servers, K messages, wanted message k (document 01, 'Even code'; source 003, section IV-B).
+-- Blocks are counted from 0 here: the rows of block b have sets of b + 1 messages. A place stands for a symbol through the key.
 use Prim.Native.Nat.{ℕ, zero, suc, _+_, _*_, _-_, _^_}
 use mathlib.Core.List.{List, [], _∷_, _++_, map, flatMap}
 use mathlib.Core.Bool.{Bool, true, false, not, Bool·beq, _&&_}
@@ -10,7 +10,7 @@ use Rattle.lists.specs.Sums.{bit, keep, sum}
 use Rattle.lists.specs.Ranges.{range}
 use Rattle.even_places.specs.Sets.{has, sets, with}
 
--- A row: for each message the place that it gives, or none.
+-- A row: for each message the place that it gives, or none
 abbrev pub Row : Type 0
 Row = List (Option ℕ)
 
@@ -107,7 +107,7 @@ module _ (N K k : ℕ) where
   unfolding sideRows wantedRows
   block b n = sideRows b n ++ wantedRows b n
 
-  -- server n's query, as rows
+  -- server n's query as rows: by block, then by set, then in the order made
   unfoldable pub rows : ℕ → List Row
   unfolding flatMap bySet sets block range
   rows n = flatMap (λ b. bySet (sets K (suc b)) (block b n)) (range 0 K)
@@ -119,17 +119,17 @@ cells p (none ∷ r) = cells (suc p) r
 cells p (some x ∷ r) = (p, x) ∷ cells (suc p) r
 
 module _ (N K k : ℕ) where
-  -- server n's query: at each position a message and its place
+  -- server n's query as cells: at each position a message and its place
   unfoldable pub queryCells : ℕ → List (ℕ × ℕ)
   unfolding flatMap cells rows
   queryCells n = flatMap (cells 0) (rows N K k n)
 
--- the sets of a query's rows
+-- the sets of a query's rows, which the server knows from N and K
 unfoldable pub layout : ℕ → ℕ → List (List Bool)
 unfolding flatMap sets range
 layout N K = flatMap (λ b. flatMap (replicate ((N - 1) ^ b)) (sets K (suc b))) (range 0 K)
 
--- the number of rows of a query
+-- how many they are; `row-count-is` shows document 01's formula
 unfoldable pub rowCount : ℕ → ℕ → ℕ
 unfolding sum sets range
 rowCount N K = sum (λ b. length (sets K (suc b)) * (N - 1) ^ b) (range 0 K)

@@ -2,3 +2,4 @@ pub mod Parts
 pub mod Ranges
 pub mod Below
 pub mod Sums
+pub mod Distinct
