@@ -21,8 +21,6 @@ use Rattle.even_places.proofs.Order.{range-append}
 use Rattle.even_places.proofs.Flat.{eqb-self, eqb-not}
 use Rattle.even_places.proofs.Counts.{range-length}
 
-
-
 cells-packs : (q : ℕ) (r : Row) → map (λ e. e .0) (cells q r) ≡ members q (setOf r)
 unfolding cells members setOf isSome
 cells-packs q [] = refl

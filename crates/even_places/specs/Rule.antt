@@ -2,13 +2,13 @@
 -- Blocks are counted from 0 here: the rows of block b have sets of b + 1 messages. A place stands for a symbol through the key.
 use Prim.Native.Nat.{ℕ, zero, suc, _+_, _*_, _-_, _^_}
 use mathlib.Core.List.{List, [], _∷_, _++_, map, flatMap}
-use mathlib.Core.Bool.{Bool, true, false, not, Bool·beq, _&&_}
+use mathlib.Core.Bool.{Bool, true, false, cond, not, Bool·beq, _&&_}
 use mathlib.Core.Option.{Option, none, some}
 use lib.ListN.{length, getD, set, replicate}
 use lib.Dec.{eqb}
 use Rattle.lists.specs.Sums.{bit, keep, sum}
 use Rattle.lists.specs.Ranges.{range}
-use Rattle.even_places.specs.Sets.{has, sets, with}
+use Rattle.even_places.specs.Sets.{has, sets, with, members, alike}
 
 -- A row: for each message the place that it gives, or none
 abbrev pub Row : Type 0
@@ -129,7 +129,16 @@ unfoldable pub layout : ℕ → ℕ → List (List Bool)
 unfolding flatMap sets range
 layout N K = flatMap (λ b. flatMap (replicate ((N - 1) ^ b)) (sets K (suc b))) (range 0 K)
 
--- how many they are; `row-count-is` shows document 01's formula
+-- the message at each position of a query
+unfoldable pub positions : ℕ → ℕ → List ℕ
+positions N K = flatMap (members 0) (layout N K)
+
+-- the number of the first row of set A among rows with these sets
+unfoldable pub firstRow : List Bool → List (List Bool) → ℕ
+firstRow A [] = 0
+firstRow A (B ∷ sets) = cond (alike A B) 0 (suc (firstRow A sets))
+
+-- how many rows a query has; `row-count-is` shows document 01's formula
 unfoldable pub rowCount : ℕ → ℕ → ℕ
 unfolding sum sets range
 rowCount N K = sum (λ b. length (sets K (suc b)) * (N - 1) ^ b) (range 0 K)

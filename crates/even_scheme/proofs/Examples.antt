@@ -13,8 +13,8 @@ use Rattle.symbol.specs.Sum.{total, totalFrom}
 use Rattle.symbol.specs.Xor.{xor, xorBytes}
 use Rattle.scheme.specs.Scheme.{honestAnswers, messageOf}
 use Rattle.even_places.specs.Sets.{has, ones, members, allSets, alike, sets, with}
-use Rattle.even_places.specs.Rule.{others, rows, queryCells, layout}
-use Rattle.even_scheme.specs.Even.{permutation, numberAt, evenKeyGood, evenQuery, positions, numbersOf, evenAdmits, symbolAt, rowAnswer, rowAnswers, evenAnswer, firstRow, assemble, answeredRow, sourceServer, sourceRow, recoveredSymbol, wantedPlace, recoveredPart, serverParts, recoveredParts, evenScheme}
+use Rattle.even_places.specs.Rule.{others, rows, queryCells, layout, positions, firstRow}
+use Rattle.even_scheme.specs.Even.{permutation, numberAt, evenKeyGood, evenQuery, numbersOf, evenAdmits, symbolAt, rowAnswer, rowAnswers, evenAnswer, assemble, answeredRow, sourceServer, sourceRow, recoveredSymbol, wantedPlace, recoveredPart, serverParts, recoveredParts, evenScheme}
 
 B7 : evenScheme xor 2 2 1 .query 0 0 (0 ∷ 1 ∷ 2 ∷ 3 ∷ 0 ∷ 1 ∷ 2 ∷ 3 ∷ []) ≡ 0 ∷ 0 ∷ 2 ∷ 1 ∷ []
 unfolding evenQuery numberAt permutation queryCells

@@ -14,8 +14,8 @@ use Rattle.lists.specs.Distinct.{distinct, isPermutation}
 use Rattle.parameters.specs.Measures.{evenSizes, evenRows}
 use Rattle.symbol.specs.Sum.{Sum, zeros, total}
 use Rattle.scheme.specs.Scheme.{Scheme}
-use Rattle.even_places.specs.Sets.{has, ones, members, allSets, alike}
-use Rattle.even_places.specs.Rule.{Row, others, rows, queryCells, layout}
+use Rattle.even_places.specs.Sets.{has, ones, members, allSets}
+use Rattle.even_places.specs.Rule.{others, rows, queryCells, layout, positions, firstRow}
 
 -- ---- The key: K permutations, message 0's first
 
@@ -36,13 +36,9 @@ module _ (N K : ℕ) where
   unfoldable pub evenQuery : ℕ → ℕ → List ℕ → List ℕ
   evenQuery wanted server key = map (λ cell. numberAt key (cell .0) (cell .1)) (queryCells N K wanted server)
 
-  -- the message at each position of a query, which the server knows from N and K
-  unfoldable pub positions : List ℕ
-  positions = flatMap (members 0) (layout N K)
-
   -- the numbers that a query names of message p
   unfoldable pub numbersOf : ℕ → List ℕ → List ℕ
-  numbersOf p query = map (λ e. e .1) (keep (λ e. eqb (e .0) p) (zip positions query))
+  numbersOf p query = map (λ e. e .1) (keep (λ e. eqb (e .0) p) (zip (positions N K) query))
 
   -- the right length, numbers below N^K, none twice for the same message; the same at every server
   unfoldable pub evenAdmits : ℕ → List ℕ → Bool
@@ -69,11 +65,6 @@ module _ (sum : Sum) (N K S : ℕ) where
   evenAnswer store query = rowAnswers store (layout N K) query
 
 -- ---- Recovery
-
--- the number of the first row of set A
-unfoldable pub firstRow : List Bool → List (List Bool) → ℕ
-firstRow A [] = 0
-firstRow A (B ∷ sets) = cond (alike A B) 0 (suc (firstRow A sets))
 
 abbrev placeOf : Option ℕ → ℕ
 placeOf none = 0
