@@ -1,2 +1,4 @@
 pub mod Examples
 pub mod Assembled
+pub mod Symbols
+pub mod Answers
