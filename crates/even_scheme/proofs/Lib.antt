@@ -2,3 +2,4 @@ pub mod Examples
 pub mod Assembled
 pub mod Symbols
 pub mod Answers
+pub mod HonestRows
