@@ -28,7 +28,7 @@ use Rattle.even_scheme.specs.Even.{numberAt, evenKeyGood, evenQuery, sym
 use Rattle.even_scheme.proofs.Symbols.{number-below, symbol-symbol}
 
 -- a row has a cell for each message of its set
-cells-count : (q : ℕ) (r : Row) → length (cells q r) ≡ ones (setOf r)
+pub cells-count : (q : ℕ) (r : Row) → length (cells q r) ≡ ones (setOf r)
 unfolding cells setOf isSome ones sum bit
 cells-count q [] = refl
 cells-count q (none ∷ r) = omega (arith, cells-count (suc q) r)

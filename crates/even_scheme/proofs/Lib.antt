@@ -3,3 +3,6 @@ pub mod Assembled
 pub mod Symbols
 pub mod Answers
 pub mod HonestRows
+pub mod RowSymbols
+pub mod Recovery
+pub mod Covers
