@@ -6,3 +6,4 @@ pub mod HonestRows
 pub mod RowSymbols
 pub mod Recovery
 pub mod Covers
+pub mod Recovers
