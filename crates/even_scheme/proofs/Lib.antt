@@ -7,3 +7,4 @@ pub mod RowSymbols
 pub mod Recovery
 pub mod Covers
 pub mod Recovers
+pub mod Written
