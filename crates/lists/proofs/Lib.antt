@@ -1,3 +1,6 @@
 pub mod Below
 pub mod Parts
 pub mod Sums
+pub mod Distinct
+pub mod Ranges
+pub mod Arranged
