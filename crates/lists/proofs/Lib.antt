@@ -4,3 +4,5 @@ pub mod Sums
 pub mod Distinct
 pub mod Ranges
 pub mod Arranged
+pub mod Pairs
+pub mod Cuts
