@@ -1,1 +1,4 @@
+pub mod Keys
+pub mod Queries
+pub mod Exchange
 pub mod Examples

@@ -38,15 +38,15 @@ permutation-facts size l e =
       apart = λ i j h k. distinct-apart l (q .1) i j (omega arith) (omega arith);
     }
 
+pub permutation-tests : (size : ℕ) (l : List ℕ) → Permutation size l → Below size l × (distinct l ≡ true)
+permutation-tests size l p =
+    let long = p .long in (λ i h. p .low i (omega arith), apart-distinct l (λ i j h k. p .apart i j (omega arith) (omega arith)))
+
 pub facts-permutation : (size : ℕ) (l : List ℕ) → Permutation size l → isPermutation size l ≡ true
 unfolding isPermutation
 facts-permutation size l p =
-    let long = p .long in
-    rw (
-      eq-eqb (length l) size long,
-      below-allBelow size l (λ i h. p .low i (omega arith)),
-      apart-distinct l (λ i j h k. p .apart i j (omega arith) (omega arith)),
-    )
+    let t = permutation-tests size l p in
+    rw (eq-eqb (length l) size (p .long), below-allBelow size l (t .0), t .1)
 
 bit-one : (t : Bool) → bit t ≡ 1 → t ≡ true
 unfolding bit
@@ -86,9 +86,8 @@ covers size l p v h = let c = place-of v l (bit-one (stands v l) here) in let lo
   where
     here : bit (stands v l) ≡ 1
     here =
-        let long = p .long in
-        all-one (λ u. bit (stands u l)) (λ u. bit-small (stands u l)) size
-        (stands-count size l (λ i k. p .low i (omega arith)) (apart-distinct l (λ i j k m. p .apart i j (omega arith) (omega arith))) ∙ long) v h
+        let t = permutation-tests size l p in
+        all-one (λ u. bit (stands u l)) (λ u. bit-small (stands u l)) size (stands-count size l (t .0) (t .1) ∙ p .long) v h
 
 module _ (size : ℕ) (A B : List ℕ) (a : Permutation size A) where
   pub arranged-length : length (arranged A B) ≡ size
@@ -133,17 +132,34 @@ pub picked-length : (list places : List ℕ) → length (picked list places) ≡
 unfolding picked
 picked-length list places = length-map places (λ place. getD list place 0)
 
-module _ (size : ℕ) (l places : List ℕ) (p : Permutation size l) (q : Permutation size places) where
-  pub picked-permutation : Permutation size (picked l places)
-  picked-permutation =
-      record {
-        long = picked-length l places ∙ q .long;
-        low = λ i h. subst (λ (x : ℕ). x < size) (sym (at i h)) (p .low (getD places i 0) (q .low i h));
-        apart = λ i j h k e. q .apart i j h k (p .apart (getD places i 0) (getD places j 0) (q .low i h) (q .low j k) (sym (at i h) ∙ e ∙ at j k));
-      }
-    where
-      at : (i : ℕ) → i < size → getD (picked l places) i 0 ≡ getD l (getD places i 0) 0
-      at i h = let long = q .long in picked-at l places i (omega arith)
+picked-append : (list xs ys : List ℕ) → picked list (xs ++ ys) ≡ picked list xs ++ picked list ys
+unfolding picked
+picked-append list [] ys = refl
+picked-append list (x ∷ xs) ys = ap (λ l. getD list x 0 ∷ l) (picked-append list xs ys)
+
+-- different places of a permutation hold different entries
+module _ (size : ℕ) (l places : List ℕ) (p : Permutation size l) (b : Below size places) where
+  pub picked-below : Below size (picked l places)
+  picked-below i h = let e = picked-length l places in subst (λ (x : ℕ). x < size) (sym (picked-at l places i (omega arith))) (p .low (getD places i 0) (b i (omega arith)))
+
+  pub picked-distinct : distinct places ≡ true → distinct (picked l places) ≡ true
+  picked-distinct d =
+      let e = picked-length l places in
+      apart-distinct (picked l places) (λ i j h k q.
+      distinct-apart places d i j (omega arith) (omega arith)
+      (p .apart (getD places i 0) (getD places j 0) (b i (omega arith)) (b j (omega arith))
+      (sym (picked-at l places i (omega arith)) ∙ q ∙ picked-at l places j (omega arith))))
+
+pub picked-permutation : (size : ℕ) (l places : List ℕ) → Permutation size l → Permutation size places → Permutation size (picked l places)
+unfolding isPermutation
+picked-permutation size l places p q =
+    let t = permutation-tests size places q in
+    permutation-facts size (picked l places)
+    (rw (
+      eq-eqb (length (picked l places)) size (picked-length l places ∙ q .long),
+      below-allBelow size (picked l places) (picked-below size l places p (t .0)),
+      picked-distinct size l places p (t .0) (t .1),
+    ))
 
 module _ (size : ℕ) (xs : List ℕ) (b : Below size xs) (d : distinct xs ≡ true) where
   left : ℕ → Bool
@@ -208,3 +224,49 @@ module _ (size : ℕ) (xs : List ℕ) (b : Below size xs) (d : distinct xs ≡ t
         times-below size (completed size xs) completed-times,
         times-distinct (completed size xs) (λ v. omega (arith, completed-times v, bit-small (ltb v size))),
       ))
+
+-- the entries of B's first part stand at the places that A's first part names
+arranged-front : (size : ℕ) (A A′ B B′ : List ℕ) → Permutation size (A ++ A′) → length A ≡ length B → picked (arranged (A ++ A′) (B ++ B′)) A ≡ B
+arranged-front size A A′ B B′ p e =
+    ext-getD 0 (picked (arranged (A ++ A′) (B ++ B′)) A) B (picked-length (arranged (A ++ A′) (B ++ B′)) A ∙ e) (λ i h.
+    let long = picked-length (arranged (A ++ A′) (B ++ B′)) A in
+    let whole = p .long in
+    let parts = length-append A A′ in
+    picked-at (arranged (A ++ A′) (B ++ B′)) A i (omega arith)
+    ∙ ap (λ v. getD (arranged (A ++ A′) (B ++ B′)) v 0) (sym (List·getD-append A A′ 0 i (omega arith)))
+    ∙ arranged-at size (A ++ A′) (B ++ B′) p i (omega arith)
+    ∙ List·getD-append B B′ 0 i (omega arith))
+
+module _ (size : ℕ) (A B : List ℕ) (p : Permutation size (completed size A)) (e : length A ≡ length B) where
+  -- B arranged by A, both completed, has B at the places A
+  pub completed-shown : picked (arranged (completed size A) (completed size B)) A ≡ B
+  unfolding completed
+  completed-shown = arranged-front size A (keep (λ v. not (stands v A)) (range 0 size)) B (keep (λ v. not (stands v B)) (range 0 size)) p e
+
+  -- a list carried from the places B to the places A, both completed, has at A what it had at B
+  pub carried-shown : (l : List ℕ) → picked (arranged (completed size A) (picked l (completed size B))) A ≡ picked l B
+  unfolding completed
+  carried-shown l =
+      ap (λ m. picked (arranged (completed size A) m) A) (picked-append l B (keep (λ v. not (stands v B)) (range 0 size)))
+      ∙ arranged-front size A (keep (λ v. not (stands v A)) (range 0 size)) (picked l B) (picked l (keep (λ v. not (stands v B)) (range 0 size))) p (e ∙ sym (picked-length l B))
+
+-- a list carried from the places B to the places A, and back
+pub carried-back : (size : ℕ) (A B l : List ℕ) → Permutation size A → Permutation size B → length l ≡ size → arranged B (picked (arranged A (picked l B)) A) ≡ l
+carried-back size A B l a b long =
+    sym (arranged-only size B (picked (arranged A (picked l B)) A) b l long (λ i h.
+    let longA = a .long in
+    let longB = b .long in
+    sym (picked-at (arranged A (picked l B)) A i (omega arith) ∙ arranged-at size A (picked l B) a i h ∙ picked-at l B i (omega arith))))
+
+-- renamed by A and B, and by B and A again
+pub renamed-back : (size : ℕ) (A B l : List ℕ) → Permutation size A → Permutation size B → Below size l → picked (arranged B A) (picked (arranged A B) l) ≡ l
+renamed-back size A B l a b low =
+    let first = picked-length (arranged A B) l in
+    let both = picked-length (arranged B A) (picked (arranged A B) l) in
+    ext-getD 0 (picked (arranged B A) (picked (arranged A B) l)) l (both ∙ first) (λ i h.
+    let c = covers size A a (getD l i 0) (low i (omega arith)) in
+    let j = placeIn (getD l i 0) A in
+    picked-at (arranged B A) (picked (arranged A B) l) i (omega arith)
+    ∙ ap (λ v. getD (arranged B A) v 0) (picked-at (arranged A B) l i (omega arith) ∙ ap (λ v. getD (arranged A B) v 0) (sym (c .1)) ∙ arranged-at size A B a j (c .0))
+    ∙ arranged-at size B A b j (c .0)
+    ∙ c .1)

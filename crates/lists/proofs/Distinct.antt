@@ -13,7 +13,8 @@ use Rattle.lists.specs.Arranged.{placeIn}
 use Rattle.lists.specs.Below.{allBelow, Below}
 use Rattle.lists.specs.Distinct.{stands, distinct}
 use Rattle.lists.specs.Ranges.{range}
-use Rattle.lists.specs.Sums.{bit, sum, All, allNil, allCons}
+use Rattle.lists.specs.Sums.{bit, sum}
+use Rattle.lists.proofs.Each.{All-at}
 use Rattle.lists.proofs.Sums.{sum-all, sum-ext, sum-one, sum-next, sum-swap, All-imp}
 
 -- no two places hold one number
@@ -68,10 +69,6 @@ apart-distinct (x ∷ l) a =
         let z : 0 ≡ suc (placeIn x l) = a 0 (suc (placeIn x l)) (omega arith) (omega (arith, p .0)) (sym (p .1)) in
         absurd (let w : ⊥ = omega arith in w)
     go false e ih = ih
-
-pub below-all : (n : ℕ) (l : List ℕ) → Below n l → All (λ x. x < n) l
-below-all n [] b = allNil
-below-all n (x ∷ l) b = allCons {x = x} (b 0 (omega arith)) (below-all n l (λ i h. b (suc i) (omega arith)))
 
 -- ---- counting
 
@@ -143,7 +140,7 @@ unfolding times bit
 stands-count size l b d =
     sum-ext (λ v. bit (stands v l)) (λ v. sum (λ x. bit (eqb x v)) l) (λ v. sym (stands-times v l d)) (range 0 size)
     ∙ sum-swap (λ v x. bit (eqb x v)) (range 0 size) l
-    ∙ sum-all (λ x. sum (λ v. bit (eqb x v)) (range 0 size)) (λ x. 1) (All-imp (λ x h. once x h) (below-all size l b))
+    ∙ sum-all (λ x. sum (λ v. bit (eqb x v)) (range 0 size)) (λ x. 1) (All-imp (λ x h. once x h) (All-at 0 l b))
     ∙ sum-one l
   where
     once : (x : ℕ) → x < size → sum (λ v. bit (eqb x v)) (range 0 size) ≡ 1

@@ -6,3 +6,4 @@ pub mod Ranges
 pub mod Arranged
 pub mod Pairs
 pub mod Cuts
+pub mod Each

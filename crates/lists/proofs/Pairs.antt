@@ -83,3 +83,9 @@ module _ {A B : Type 0} where
   zip-seconds [] (y ∷ ys) e = absurd (omega arith)
   zip-seconds (x ∷ xs) [] e = absurd (omega arith)
   zip-seconds (x ∷ xs) (y ∷ ys) e = ap (λ l. y ∷ l) (zip-seconds xs ys (omega arith))
+
+module _ {A B C : Type 0} (f : A → B) (g : A → C) where
+  pub zip-map : (l : List A) → zip (map f l) (map g l) ≡ map (λ x. (f x, g x)) l
+  unfolding zip zipWith
+  zip-map [] = refl
+  zip-map (x ∷ l) = ap (λ r. (f x, g x) ∷ r) (zip-map l)
