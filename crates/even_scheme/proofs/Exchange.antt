@@ -30,54 +30,55 @@ module _ (N K server : ℕ) where
   unfoldable pub evenExchange : ℕ → ℕ → List ℕ → List ℕ
   evenExchange wanted other key = keyOf K (exchanged wanted other key)
 
-module _ (sum : Sum) (N K S : ℕ) (fits : evenFits N K S ≡ true) (server : ℕ) (there : server < N) where
-  pub order-permutation : (wanted p : ℕ) → wanted < K → p < K → Permutation (N ^ K) (order N K server wanted p)
+  pub order-permutation : 1 < N → server < N → (wanted p : ℕ) → wanted < K → p < K → Permutation (N ^ K) (order wanted p)
   unfolding order
-  order-permutation wanted p known h =
-      let b = even-bounds N K S fits in
-      completed-permutation (N ^ K) (under p (queryCells N K wanted server)) (places-below N K wanted server (b .servers-low) known there p h) (places-distinct N K wanted server (b .servers-low) known there p h)
+  order-permutation wide there wanted p known h =
+      completed-permutation (N ^ K) (under p (queryCells N K wanted server)) (places-below N K wanted server wide known there p h) (places-distinct N K wanted server wide known there p h)
 
-  module _ (wanted other : ℕ) (key : List ℕ) (known : wanted < K) (known′ : other < K) (valid : Valid (evenScheme sum N K S) key) where
-    exchanged-permutation : (p : ℕ) → p < K → Permutation (N ^ K) (exchanged N K server wanted other key p)
-    unfolding exchanged
-    exchanged-permutation p h =
-        arranged-permutation (N ^ K) (order N K server other p) (picked (permutation N K key p) (order N K server wanted p)) (order-permutation other p known′ h)
-        (picked-permutation (N ^ K) (permutation N K key p) (order N K server wanted p) (key-permutation sum N K S key valid p h) (order-permutation wanted p known h))
+module _ (sum : Sum) (N K S : ℕ) (fits : evenFits N K S ≡ true) (server wanted other : ℕ) (key : List ℕ)
+    (there : server < N) (known : wanted < K) (known′ : other < K) (valid : Valid (evenScheme sum N K S) key) where
+  wide : 1 < N
+  wide = even-bounds N K S fits .servers-low
 
-    pub exchange-valid : Valid (evenScheme sum N K S) (evenExchange N K server wanted other key)
-    unfolding evenExchange
-    exchange-valid = key-of-valid sum N K S (exchanged N K server wanted other key) exchanged-permutation
+  exchanged-permutation : (p : ℕ) → p < K → Permutation (N ^ K) (exchanged N K server wanted other key p)
+  unfolding exchanged
+  exchanged-permutation p h =
+      arranged-permutation (N ^ K) (order N K server other p) (picked (permutation N K key p) (order N K server wanted p)) (order-permutation N K server wide there other p known′ h)
+      (picked-permutation (N ^ K) (permutation N K key p) (order N K server wanted p) (key-permutation sum N K S key valid p h) (order-permutation N K server wide there wanted p known h))
 
-    exchange-at : (p : ℕ) → p < K → permutation N K (evenExchange N K server wanted other key) p ≡ exchanged N K server wanted other key p
-    unfolding evenExchange
-    exchange-at p h = key-of sum N K S (exchanged N K server wanted other key) exchanged-permutation p h
+  pub exchange-valid : Valid (evenScheme sum N K S) (evenExchange N K server wanted other key)
+  unfolding evenExchange
+  exchange-valid = key-of-valid sum N K S (exchanged N K server wanted other key) exchanged-permutation
 
-    back : (p : ℕ) → p < K → exchanged N K server other wanted (evenExchange N K server wanted other key) p ≡ permutation N K key p
-    unfolding exchanged
-    back p h =
-        ap (λ l. arranged (order N K server wanted p) (picked l (order N K server other p))) (exchange-at p h)
-        ∙ carried-back (N ^ K) (order N K server other p) (order N K server wanted p) (permutation N K key p) (order-permutation other p known′ h) (order-permutation wanted p known h)
-        (key-permutation sum N K S key valid p h .long)
+  exchange-at : (p : ℕ) → p < K → permutation N K (evenExchange N K server wanted other key) p ≡ exchanged N K server wanted other key p
+  unfolding evenExchange
+  exchange-at p h = key-of sum N K S (exchanged N K server wanted other key) exchanged-permutation p h
 
-    same-labels : map (λ cell. cell .0) (queryCells N K other server) ≡ map (λ cell. cell .0) (queryCells N K wanted server)
-    same-labels = let b = even-bounds N K S fits in cells-labels N K other server (b .servers-low) known′ there ∙ sym (cells-labels N K wanted server (b .servers-low) known there)
+  back : (p : ℕ) → p < K → exchanged N K server other wanted (evenExchange N K server wanted other key) p ≡ permutation N K key p
+  unfolding exchanged
+  back p h =
+      ap (λ l. arranged (order N K server wanted p) (picked l (order N K server other p))) (exchange-at p h)
+      ∙ carried-back (N ^ K) (order N K server other p) (order N K server wanted p) (permutation N K key p) (order-permutation N K server wide there other p known′ h) (order-permutation N K server wide there wanted p known h)
+      (key-permutation sum N K S key valid p h .long)
 
-    -- what the exchanged key has at message p's places for `other` is what the key has at those for `wanted`
-    shown : (p : ℕ) → p < K
-        → map (numberAt N K (evenExchange N K server wanted other key) p) (under p (queryCells N K other server)) ≡ map (numberAt N K key p) (under p (queryCells N K wanted server))
-    unfolding numberAt exchanged order picked
-    shown p h =
-        ap (λ l. picked l (under p (queryCells N K other server))) (exchange-at p h)
-        ∙ carried-shown (N ^ K) (under p (queryCells N K other server)) (under p (queryCells N K wanted server)) (order-permutation other p known′ h)
-        (under-length p (queryCells N K other server) (queryCells N K wanted server) same-labels) (permutation N K key p)
+  same-labels : map (λ cell. cell .0) (queryCells N K other server) ≡ map (λ cell. cell .0) (queryCells N K wanted server)
+  same-labels = cells-labels N K other server wide known′ there ∙ sym (cells-labels N K wanted server wide known there)
 
-    pub exchange-back : evenExchange N K server other wanted (evenExchange N K server wanted other key) ≡ key
-    unfolding evenExchange
-    exchange-back = key-same K (exchanged N K server other wanted (evenExchange N K server wanted other key)) (permutation N K key) back ∙ key-whole sum N K S key valid
+  -- what the exchanged key has at message p's places for `other` is what the key has at those for `wanted`
+  shown : (p : ℕ) → p < K
+      → map (numberAt N K (evenExchange N K server wanted other key) p) (under p (queryCells N K other server)) ≡ map (numberAt N K key p) (under p (queryCells N K wanted server))
+  unfolding numberAt exchanged order picked
+  shown p h =
+      ap (λ l. picked l (under p (queryCells N K other server))) (exchange-at p h)
+      ∙ carried-shown (N ^ K) (under p (queryCells N K other server)) (under p (queryCells N K wanted server)) (order-permutation N K server wide there other p known′ h)
+      (under-length p (queryCells N K other server) (queryCells N K wanted server) same-labels) (permutation N K key p)
 
-    pub exchange-shown : evenScheme sum N K S .query other server (evenExchange N K server wanted other key) ≡ evenScheme sum N K S .query wanted server key
-    unfolding evenQuery
-    exchange-shown =
-        let b = even-bounds N K S fits in
-        same-under (numberAt N K (evenExchange N K server wanted other key)) (numberAt N K key) K (queryCells N K wanted server)
-        (All-imp (λ cell h. h .0) (cells-inside N K other server (b .servers-low) known′ there)) same-labels shown
+  pub exchange-back : evenExchange N K server other wanted (evenExchange N K server wanted other key) ≡ key
+  unfolding evenExchange
+  exchange-back = key-same K (exchanged N K server other wanted (evenExchange N K server wanted other key)) (permutation N K key) back ∙ key-whole sum N K S key valid
+
+  pub exchange-shown : evenScheme sum N K S .query other server (evenExchange N K server wanted other key) ≡ evenScheme sum N K S .query wanted server key
+  unfolding evenQuery
+  exchange-shown =
+            same-under (numberAt N K (evenExchange N K server wanted other key)) (numberAt N K key) K (queryCells N K wanted server)
+      (All-imp (λ cell h. h .0) (cells-inside N K other server wide known′ there)) same-labels shown

@@ -1,10 +1,8 @@
 -- Keys: a valid key is K permutations (`key-permutation`), and any K permutations are a valid key (`key-of`, `key-of-valid`).
-use Prim.Native.Nat.{ℕ, _*_, _^_, _<_}
+use Prim.Native.Nat.{ℕ, _^_, _<_}
 use native.Mathlib.Omega.{arith}
-use mathlib.Core.Path.{_≡_, sym, ap, _∙_, subst}
-use mathlib.Core.Bool.{true}
+use mathlib.Core.Path.{_≡_, ap, _∙_}
 use mathlib.Core.List.{List, flatMap}
-use lib.ListN.{length}
 use Rattle.lists.specs.Distinct.{isPermutation}
 use Rattle.lists.specs.Ranges.{range}
 use Rattle.lists.proofs.Arranged.{Permutation, permutation-facts, facts-permutation}

@@ -5,10 +5,10 @@ use native.Mathlib.Nat.{not-suc-le-zero, mul-zero, one-mul}
 use native.Mathlib.Omega.{arith}
 use mathlib.Core.Path.{_≡_, refl, sym, ap, _∙_, subst}
 use mathlib.Core.Bool.{Bool, true, false, not, _&&_}
-use mathlib.Core.List.{List, [], _∷_, _++_, map}
+use mathlib.Core.List.{List, [], _∷_, _++_}
 use borrow.Author.Tests.{eqb-true, eqb-false, eq-eqb, ltb-false}
 use lib.Dec.{eqb, ltb}
-use lib.ListN.{length, getD, length-map, length-append, List·getD-append, List·getD-map}
+use lib.ListN.{length, getD, length-map, length-append, List·getD-append}
 use lib.Seq.{ext-getD}
 use Rattle.lists.specs.Arranged.{placeIn, arranged, picked, completed}
 use Rattle.lists.specs.Below.{allBelow, Below}
@@ -16,7 +16,7 @@ use Rattle.lists.specs.Distinct.{stands, distinct, isPermutation}
 use Rattle.lists.specs.Ranges.{range}
 use Rattle.lists.specs.Sums.{bit, keep, sum}
 use Rattle.lists.proofs.Below.{allBelow-below, below-allBelow}
-use Rattle.lists.proofs.Distinct.{Apart, and-both, stands-at, place-of, distinct-apart, apart-distinct, times, stands-times, times-distinct, times-below, range-times, stands-count}
+use Rattle.lists.proofs.Distinct.{and-both, place-of, distinct-apart, apart-distinct, times, stands-times, times-distinct, times-below, range-times, stands-count}
 use Rattle.lists.proofs.Ranges.{map-range-length, map-range-at, range-length}
 use Rattle.lists.proofs.Sums.{sum-append, sum-keep, sum-mul, sum-ext, sum-next, sum-add, sum-one}
 
@@ -131,6 +131,13 @@ picked-at list (x ∷ places) (suc i) h = picked-at list places i (omega arith)
 pub picked-length : (list places : List ℕ) → length (picked list places) ≡ length places
 unfolding picked
 picked-length list places = length-map places (λ place. getD list place 0)
+
+pub picked-picked : (list middle places : List ℕ) → Below (length middle) places → picked (picked list middle) places ≡ picked list (picked middle places)
+unfolding picked
+picked-picked list middle [] b = refl
+picked-picked list middle (x ∷ places) b =
+    let first : getD (picked list middle) x 0 ≡ getD list (getD middle x 0) 0 = picked-at list middle x (b 0 (omega arith)) in
+    ap (λ v. v ∷ picked (picked list middle) places) first ∙ ap (λ l. getD list (getD middle x 0) 0 ∷ l) (picked-picked list middle places (λ i h. b (suc i) (omega arith)))
 
 picked-append : (list xs ys : List ℕ) → picked list (xs ++ ys) ≡ picked list xs ++ picked list ys
 unfolding picked

@@ -7,8 +7,11 @@ use mathlib.Core.List.{List, [], _∷_, map, zip, zipWith, head-eq-of-cons-eq, t
 use borrow.Author.Tests.{eq-eqb, eqb-true}
 use lib.Dec.{eqb}
 use lib.ListN.{length}
+use Rattle.lists.specs.Below.{Below}
 use Rattle.lists.specs.Pairs.{under}
 use Rattle.lists.specs.Sums.{keep, keepIf, All, allNil, allCons}
+use Rattle.lists.proofs.Each.{All-at, All-get}
+use Rattle.lists.proofs.Sums.{All-imp, All-keep, All-map}
 
 under-cons : (p q x : ℕ) (cs : List (ℕ × ℕ)) → under p ((q, x) ∷ cs) ≡ cond (eqb q p) (x ∷ under p cs) (under p cs)
 unfolding under keep keepIf
@@ -83,6 +86,16 @@ module _ {A B : Type 0} where
   zip-seconds [] (y ∷ ys) e = absurd (omega arith)
   zip-seconds (x ∷ xs) [] e = absurd (omega arith)
   zip-seconds (x ∷ xs) (y ∷ ys) e = ap (λ l. y ∷ l) (zip-seconds xs ys (omega arith))
+
+-- the entries under a label are among all entries
+pub under-below : (n p : ℕ) (xs ys : List ℕ) → Below n ys → Below n (under p (zip xs ys))
+unfolding under zip zipWith
+under-below n p xs ys b = All-get {P = λ y. y < n} 0 (All-map (λ e. e .1) (All-imp (λ e h. h .0) (All-keep (λ e. eqb (e .0) p) (go xs (All-at 0 ys b)))))
+  where
+    go : (xs : List ℕ) {ys : List ℕ} → All (λ y. y < n) ys → All (λ e. e .1 < n) (zip xs ys)
+    go [] a = allNil
+    go (x ∷ xs) allNil = allNil
+    go (x ∷ xs) (allCons h a) = allCons h (go xs a)
 
 module _ {A B C : Type 0} (f : A → B) (g : A → C) where
   pub zip-map : (l : List A) → zip (map f l) (map g l) ≡ map (λ x. (f x, g x)) l
