@@ -1,3 +1,4 @@
+pub mod Measures
 pub mod Keys
 pub mod Queries
 pub mod Exchange
