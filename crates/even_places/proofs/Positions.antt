@@ -14,11 +14,11 @@ use Rattle.lists.specs.Sums.{bit, keep, keepIf, sum, All, allNil, allCons}
 use Rattle.lists.specs.Ranges.{range}
 use Rattle.lists.proofs.Sums.{All-imp, All-keep}
 use Rattle.even_places.specs.Sets.{has, ones, members}
-use Rattle.even_places.specs.Rule.{Row, isSome, same, ofSet, others, block, rows, cells, queryCells, layout}
+use Rattle.even_places.specs.Rule.{Row, isSome, same, ofSet, others, block, rows, cells, queryCells, layout, positions}
 use Rattle.even_places.proofs.SetLaws.{setOf, map-flatMap, keep-append, keep-sets, ones-drop}
 use Rattle.even_places.proofs.Joined.{same-layout, group-size, joined}
 use Rattle.even_places.proofs.Order.{range-append}
-use Rattle.even_places.proofs.Flat.{eqb-self, eqb-not}
+use Rattle.even_places.proofs.Flat.{eqb-self, eqb-not, query-length}
 use Rattle.even_places.proofs.Counts.{range-length}
 
 cells-packs : (q : ℕ) (r : Row) → map (λ e. e .0) (cells q r) ≡ members q (setOf r)
@@ -40,6 +40,13 @@ same-members N K k n wide known l =
     ∙ ap (λ g. flatMap g (rows N K k n)) (fun-ext (cells-packs 0))
     ∙ each-map (members 0) (rows N K k n)
     ∙ ap (flatMap (members 0)) (same-layout N K k wide known n l)
+
+pub positions-length : (N K : ℕ) → 1 < N → 0 < K → length (positions N K) ≡ K * N ^ (K - 1)
+unfolding positions
+positions-length N K wide some-message =
+    ap length (sym (same-members N K 0 0 wide some-message (omega arith)))
+    ∙ length-map (queryCells N K 0 0) (λ e. e .0)
+    ∙ query-length N K 0 wide some-message 0 (omega arith)
 
 -- lists of one length, joined: what stands at j * q + r
 module _ {A B : Type 0} (g : B → List A) (q : ℕ) (d : A) (e : B) where

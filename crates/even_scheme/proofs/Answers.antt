@@ -12,8 +12,8 @@ use Rattle.lists.specs.Distinct.{distinct}
 use Rattle.lists.specs.Ranges.{every}
 use Rattle.lists.specs.Sums.{All, allNil, allCons}
 use Rattle.lists.proofs.Below.{allBelow-below, below-drop}
+use Rattle.lists.proofs.Distinct.{and-both}
 use Rattle.lists.proofs.Sums.{All-imp, All-flatMap, All-replicate}
-use Rattle.lists.proofs.Tests.{and-true}
 use Rattle.parameters.specs.Bounds.{evenFits}
 use Rattle.parameters.specs.Measures.{evenSizes, evenRows}
 use Rattle.parameters.proofs.Bounds.{EvenBounds, even-bounds}
@@ -22,11 +22,12 @@ use Rattle.symbol.specs.Xor.{xor}
 use Rattle.symbol.proofs.XorBytes.{xor-length}
 use Rattle.even_places.specs.Sets.{ones, members}
 use Rattle.even_places.specs.Rule.{rows, layout}
-use Rattle.even_places.proofs.Counts.{rows-length, row-count-is}
+use Rattle.even_places.proofs.Counts.{rows-length}
 use Rattle.even_places.proofs.Joined.{same-layout}
 use Rattle.even_places.proofs.RowNumbers.{allSets-good, layout-by-set}
 use Rattle.even_places.proofs.SetLaws.{setOf}
 use Rattle.even_scheme.specs.Even.{numbersOf, evenAdmits, symbolAt, rowAnswer, rowAnswers, evenAnswer, evenScheme}
+use Rattle.even_scheme.proofs.Measures.{rows-counted}
 use Rattle.even_scheme.proofs.Symbols.{symbol-long}
 
 -- Sums and differences of strings of this length have it, also where a string is no symbol: its elements may be no bytes
@@ -40,12 +41,11 @@ xor-keeps-length size = record { plus-long = λ a b e f. xor-length a b ∙ e; m
 -- ---- The length of an answer
 
 pub layout-length : (N K : ℕ) → 1 < N → 0 < K → length (layout N K) ≡ evenRows N K
-unfolding evenRows
 layout-length N K wide some =
     ap length (sym (same-layout N K 0 wide some 0 (omega arith)))
     ∙ length-map (rows N K 0 0) setOf
     ∙ rows-length N K 0 wide some 0 (omega arith)
-    ∙ row-count-is N K wide some
+    ∙ sym (rows-counted N K wide some)
 
 layout-sets : (N K : ℕ) → All (λ A. length A ≡ K) (layout N K)
 layout-sets N K =
@@ -95,7 +95,7 @@ unfolding evenAdmits
 admits-below N K server query e =
     let rest = allBelow (N ^ K) query && every K (λ p. distinct (numbersOf N K p query)) in
     allBelow-below (N ^ K) query
-    (and-true (allBelow (N ^ K) query) (every K (λ p. distinct (numbersOf N K p query))) (and-true (eqb (length query) (K * N ^ (K - 1))) rest e .1) .0)
+    (and-both (allBelow (N ^ K) query) (every K (λ p. distinct (numbersOf N K p query))) (and-both (eqb (length query) (K * N ^ (K - 1))) rest e .1) .0)
 
 module _ (sum : Sum) (N K S : ℕ) (keeps : KeepsLength sum S) (fits : evenFits N K S ≡ true) where
   pub even-answer-length : (server : ℕ) (store query : List ℕ) → length store ≡ evenScheme sum N K S .sizes .store

@@ -10,15 +10,19 @@ use lib.ListN.{length, getD}
 use Rattle.lists.specs.Any.{Any}
 use Rattle.lists.specs.Ranges.{range}
 use Rattle.lists.specs.Sums.{All, keep}
+use Rattle.lists.specs.Arranged.{placeIn}
 use Rattle.lists.proofs.Any.{Any-imp, Any-all, Any-keep, Any-map, Any-flatMap, Any-range, All-range}
+use Rattle.lists.proofs.Arranged.{covers}
 use Rattle.lists.proofs.Sums.{All-imp, All-keep, All-flatMap, All-map}
 use Rattle.symbol.specs.Sum.{Sum}
+use Rattle.scheme.specs.Scheme.{Valid}
 use Rattle.even_places.specs.Sets.{has, ones, allSets}
 use Rattle.even_places.proofs.RowNumbers.{Good, setRows, Gives, allSets-good, place-found}
-use Rattle.even_scheme.specs.Even.{permutation, numberAt, evenKeyGood, recoveredSymbol, wantedPlace, recoveredPart, serverParts, recoveredParts}
+use Rattle.even_scheme.specs.Even.{permutation, numberAt, recoveredSymbol, wantedPlace, recoveredPart, serverParts, recoveredParts, evenScheme}
 use Rattle.even_scheme.proofs.Assembled.{Part, Within, In, Covers}
+use Rattle.even_scheme.proofs.Keys.{key-permutation}
 use Rattle.even_scheme.proofs.Recovery.{wanted-place}
-use Rattle.even_scheme.proofs.Symbols.{key-permutes, number-below}
+use Rattle.even_scheme.proofs.Symbols.{number-below}
 
 module _ (sum : Sum) (N K S k : ℕ) (key : List ℕ) (answers : List (List ℕ)) where
   -- what holds of the part of each row with the wanted message holds of each part
@@ -49,32 +53,35 @@ abbrev pub Whole : Sum → ℕ → ℕ → ℕ → ℕ → List (List ℕ) → T
 Whole sum N K S k answers =
     (n : ℕ) → n < N → (A : List Bool) → Good K A → has k A ≡ true → (i : ℕ) → i < (N - 1) ^ (ones A - 1) → length (recoveredSymbol sum N K S k answers n A i) ≡ S
 
-module _ (sum : Sum) (N K S k : ℕ) (key : List ℕ) (answers : List (List ℕ)) (wide : 1 < N) (known : k < K) (good : evenKeyGood N K key ≡ true) (whole : Whole sum N K S k answers) where
+module _ (sum : Sum) (N K S k : ℕ) (key : List ℕ) (answers : List (List ℕ)) (wide : 1 < N) (known : k < K) (valid : Valid (evenScheme sum N K S) key) (whole : Whole sum N K S k answers) where
   pub parts-within : All (Within (N ^ K * S)) (recoveredParts sum N K S k key answers)
   unfolding recoveredPart
   parts-within = each-part sum N K S k key answers (λ n l A set-good in-set i h.
       let number = numberAt N K key k (wantedPlace sum N K S k n A i) in
-      let below : number < N ^ K = number-below N K key k (wantedPlace sum N K S k n A i) good known (one-le-pow K N (omega arith)) in
+      let below : number < N ^ K = number-below sum N K S key valid k known (one-le-pow K N (omega arith)) (wantedPlace sum N K S k n A i) in
       omega (arith, whole n l A set-good in-set i h, suc-mul number S, mul-le-mul-right S below))
 
   pub parts-cover : 0 < S → Covers (N ^ K * S) (recoveredParts sum N K S k key answers)
   unfolding recoveredPart numberAt
   parts-cover sized j h = some-part sum N K S k key answers (found .0) (found .1) (Any-imp given (Any-all (allSets-good K) (found .2)))
     where
-      place : (v : ℕ) × (v < N ^ K) × (getD (permutation N K key k) v 0 ≡ j / S)
-      place = key-permutes N K key k good known .reaches (j / S) (div-lt-iff-lt-mul sized .1 h)
+      v : ℕ
+      v = placeIn (j / S) (permutation N K key k)
 
-      found : (n : ℕ) × (n < N) × Any (Gives N K k n (place .0)) (allSets K)
-      found = place-found N K k (place .0) wide known (place .1)
+      place : (v < N ^ K) × (getD (permutation N K key k) v 0 ≡ j / S)
+      place = covers (N ^ K) (permutation N K key k) (key-permutation sum N K S key valid k known) (j / S) (div-lt-iff-lt-mul sized .1 h)
 
-      given : (A : List Bool) → Good K A × Gives N K k (found .0) (place .0) A
+      found : (n : ℕ) × (n < N) × Any (Gives N K k n v) (allSets K)
+      found = place-found N K k v wide known (place .0)
+
+      given : (A : List Bool) → Good K A × Gives N K k (found .0) v A
           → (has k A ≡ true) × ((i : ℕ) × (i < (N - 1) ^ (ones A - 1)) × In j (recoveredPart sum N K S k key answers (found .0) A i))
       given A (set-good, gives) = (gives .in-set, (gives .row, gives .row-below, (omega (arith, number, parts), omega (arith, number, parts, mod-lt j sized, long))))
         where
           number : numberAt N K key k (wantedPlace sum N K S k (found .0) A (gives .row)) * S ≡ j / S * S
           number =
-              ap (λ (x : ℕ). numberAt N K key k x * S) (wanted-place sum N K S k wide known (found .0) (found .1) A (gives .row) (place .0) set-good (gives .row-below) (gives .row-place))
-              ∙ ap (λ (t : ℕ). t * S) (place .2)
+              ap (λ (x : ℕ). numberAt N K key k x * S) (wanted-place sum N K S k wide known (found .0) (found .1) A (gives .row) v set-good (gives .row-below) (gives .row-place))
+              ∙ ap (λ (t : ℕ). t * S) (place .1)
 
           parts : j / S * S + j % S ≡ j
           parts = div-add-mod' j S

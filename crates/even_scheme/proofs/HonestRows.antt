@@ -12,19 +12,19 @@ use Rattle.lists.specs.Below.{Below}
 use Rattle.lists.specs.Parts.{cut}
 use Rattle.lists.specs.Sums.{All, allNil, allCons, bit, sum}
 use Rattle.lists.proofs.Flat.{flatMap-cut}
-use Rattle.lists.proofs.Mapped.{mapped-at}
+use Rattle.lists.proofs.Ranges.{map-range-at}
 use Rattle.lists.proofs.Sums.{All-imp}
 use Rattle.symbol.specs.Group.{AbelianGroup, Symbols, none, more}
 use Rattle.symbol.specs.Sum.{Symbol, Sum, total}
 use Rattle.symbol.proofs.Totals.{total-symbol}
-use Rattle.scheme.specs.Scheme.{honestAnswers}
+use Rattle.scheme.specs.Scheme.{Valid, honestAnswers}
 use Rattle.even_places.specs.Sets.{ones, members}
 use Rattle.even_places.specs.Rule.{Row, isSome, rows, cells, queryCells, layout, firstRow}
 use Rattle.even_places.proofs.Flat.{rows-long}
 use Rattle.even_places.proofs.Joined.{same-layout}
 use Rattle.even_places.proofs.RowNumbers.{Good, setRows, row-number}
 use Rattle.even_places.proofs.SetLaws.{setOf}
-use Rattle.even_scheme.specs.Even.{numberAt, evenKeyGood, evenQuery, symbolAt, rowAnswer, rowAnswers, evenAnswer, answeredRow, evenScheme}
+use Rattle.even_scheme.specs.Even.{numberAt, evenQuery, symbolAt, rowAnswer, rowAnswers, evenAnswer, answeredRow, evenScheme}
 use Rattle.even_scheme.proofs.Symbols.{number-below, symbol-symbol}
 
 -- a row has a cell for each message of its set
@@ -85,7 +85,7 @@ pub record Fetch (sum : Sum) (N K S k : ℕ) (store key : List ℕ) : Type 0 whe
   pub known : k < K
   pub bytes : Below 256 store
   pub long : length store ≡ K * (N ^ K * S)
-  pub good : evenKeyGood N K key ≡ true
+  pub valid : Valid (evenScheme sum N K S) key
 
 module _ (sum : Sum) (N K S k : ℕ) (store key : List ℕ) (fetch : Fetch sum N K S k store key) where
   pub cell-symbols : {cs : List (ℕ × ℕ)} → All (λ cell. cell .0 < K) cs → Symbols S (map (cellSymbol sum N K S store key) cs)
@@ -94,7 +94,7 @@ module _ (sum : Sum) (N K S k : ℕ) (store key : List ℕ) (fetch : Fetch sum N
   cell-symbols (allCons {x = cell} h a) =
       more
       (symbol-symbol sum N K S store (fetch .long) (cell .0) (numberAt N K key (cell .0) (cell .1)) h
-      (number-below N K key (cell .0) (cell .1) (fetch .good) h (one-le-pow K N (let w : 0 < N = omega (arith, fetch .wide) in w))) (fetch .bytes))
+      (number-below sum N K S key (fetch .valid) (cell .0) h (one-le-pow K N (let w : 0 < N = omega (arith, fetch .wide) in w)) (cell .1)) (fetch .bytes))
       (cell-symbols a)
 
   pub row-symbols : (r : Row) → length r ≡ K → Symbols S (map (cellSymbol sum N K S store key) (cells 0 r))
@@ -106,7 +106,7 @@ module _ (sum : Sum) (N K S k : ℕ) (store key : List ℕ) (fetch : Fetch sum N
       ≡ rowTotal sum N K S store key (getD (setRows N K k n A) i [])
   unfolding answeredRow honestAnswers rowTotal
   honest-row n l A i set-good h =
-      ap (cut ((firstRow A (layout N K) + i) * S) S) (mapped-at (λ m. evenAnswer sum N K S store (evenQuery N K k m key)) [] N n l ∙ answer-rows sum N K S store key k n (fetch .wide) (fetch .known) l)
+      ap (cut ((firstRow A (layout N K) + i) * S) S) (map-range-at (λ m. evenAnswer sum N K S store (evenQuery N K k m key)) N n [] l ∙ answer-rows sum N K S store key k n (fetch .wide) (fetch .known) l)
       ∙ flatMap-cut (rowTotal sum N K S store key) S []
       (All-imp (λ r e. total-symbol sum S (fetch .group) (row-symbols r e) .long) (rows-long N K k (fetch .wide) (fetch .known) n))
       (firstRow A (layout N K) + i) (number .0)

@@ -35,7 +35,7 @@ module _ (sum : Sum) (N K S k : ℕ) (store key : List ℕ) (fetch : Fetch sum N
   message-long = cut-length (k * (N ^ K * S)) (N ^ K * S) store (omega (arith, fetch .long, suc-mul k (N ^ K * S), mul-le-mul-right (N ^ K * S) (fetch .known)))
 
   number-small : (place : ℕ) → numberAt N K key k place < N ^ K
-  number-small place = number-below N K key k place (fetch .good) (fetch .known) (one-le-pow K N (let w : 0 < N = omega (arith, fetch .wide) in w))
+  number-small place = number-below sum N K S key (fetch .valid) k (fetch .known) (one-le-pow K N (let w : 0 < N = omega (arith, fetch .wide) in w)) place
 
   whole : Whole sum N K S k answers
   unfolding answers
@@ -59,7 +59,7 @@ module _ (sum : Sum) (N K S k : ℕ) (store key : List ℕ) (fetch : Fetch sum N
   message-recovered : 0 < S → evenScheme sum N K S .recover k key answers ≡ message
   message-recovered sized =
       assemble-message message (recoveredParts sum N K S k key answers) parts-of
-      (λ j h. parts-cover sum N K S k key answers (fetch .wide) (fetch .known) (fetch .good) whole sized j (omega (arith, message-long)))
+      (λ j h. parts-cover sum N K S k key answers (fetch .wide) (fetch .known) (fetch .valid) whole sized j (omega (arith, message-long)))
       (zeros (N ^ K * S))
       (length-replicate (N ^ K * S) 0 ∙ sym message-long)
 
@@ -70,5 +70,5 @@ unfolding evenSizes answers message
 even-recovers sum N K S group fits store wanted key bytes long known valid =
     let bounds = even-bounds N K S fits in
     message-recovered sum N K S wanted store key
-    (record { group = group; wide = bounds .servers-low; known = known; bytes = bytes; long = long; good = valid .good })
+    (record { group = group; wide = bounds .servers-low; known = known; bytes = bytes; long = long; valid = valid })
     (bounds .symbol-low)

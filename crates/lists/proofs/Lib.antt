@@ -1,10 +1,12 @@
 pub mod Below
 pub mod Parts
 pub mod Sums
+pub mod Distinct
+pub mod Ranges
+pub mod Arranged
+pub mod Pairs
+pub mod Cuts
+pub mod Each
 pub mod Any
-pub mod Every
 pub mod Flat
-pub mod Mapped
 pub mod PartsAt
-pub mod Permutations
-pub mod Tests

@@ -4,3 +4,5 @@ pub mod Below
 pub mod Sums
 pub mod Distinct
 pub mod Any
+pub mod Arranged
+pub mod Pairs
