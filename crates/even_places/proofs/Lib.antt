@@ -11,5 +11,6 @@ pub mod Hide
 pub mod Bytes
 pub mod Found
 pub mod Closed
+pub mod SetRuns
 pub mod RowNumbers
 pub mod SourceRows

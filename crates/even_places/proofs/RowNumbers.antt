@@ -17,6 +17,7 @@ use Rattle.lists.proofs.Flat.{flatMap-flatMap, flatMap-find}
 use Rattle.lists.proofs.Sums.{All-imp, All-flatMap, All-every}
 use Rattle.even_places.specs.Sets.{has, ones, sets, allSets, alike}
 use Rattle.even_places.specs.Rule.{Row, isSome, same, ofSet, bySet, block, rows, layout, firstRow}
+use Rattle.even_places.proofs.SetRuns.{Numbered, numbered}
 use Rattle.even_places.proofs.SetLaws.{setOf, setOf-has, alike-eq, alike-one, keep-sets, flatMap-all}
 use Rattle.even_places.proofs.Counts.{sets-fit}
 use Rattle.even_places.proofs.Joined.{group-size}
@@ -50,7 +51,7 @@ alike-same A B h = go (alike A B) refl h
     go true e l = alike-eq A B e
     go false e l = absurd (let w : ⊥ = omega arith in w)
 
-pub good-stands : (K : ℕ) (A : List Bool) → Good K A → Any (λ B. A ≡ B) (allSets K)
+good-stands : (K : ℕ) (A : List Bool) → Good K A → Any (λ B. A ≡ B) (allSets K)
 unfolding allSets
 good-stands K A good = Any-flatMap (λ b. sets K (suc b)) (Any-range K (ones A - 1) (omega (arith, ones-most A, good .long, good .some-ones)) here)
   where
@@ -61,66 +62,6 @@ good-stands K A good = Any-flatMap (λ b. sets K (suc b)) (Any-range K (ones A -
     here =
         Any-imp (alike-same A)
         (Any-sum (λ B. bit (alike A B)) (sets K (suc (ones A - 1))) (omega (arith, alike-one A K (suc (ones A - 1)) (good .long) one-less)))
-
--- ---- Rows by set, where set B has q B of them
-
-alike-self : (A : List Bool) → alike A A ≡ true
-unfolding alike
-alike-self [] = refl
-alike-self (true ∷ A) = alike-self A
-alike-self (false ∷ A) = alike-self A
-
-first-here : (A B : List Bool) (n : ℕ) (L : List (List Bool)) → 0 < n → alike A B ≡ true → firstRow A (replicate n B ++ L) ≡ 0
-unfolding firstRow
-first-here A B zero L h e = absurd (not-suc-le-zero h)
-first-here A B (suc n) L h e = rw e
-
-first-later : (A B : List Bool) (n : ℕ) (L : List (List Bool)) → alike A B ≡ false → firstRow A (replicate n B ++ L) ≡ n + firstRow A L
-unfolding firstRow
-first-later A B zero L e = sym (zero-add (firstRow A L))
-first-later A B (suc n) L e = rw e (omega (arith, first-later A B n L e))
-
-module _ {R : Type 0} (q : List Bool → ℕ) (g : List Bool → List R) (d : R) where
-  -- row i of set A is row `first + i` of all
-  pub record Numbered (L : List (List Bool)) (A : List Bool) (i : ℕ) : Type 0 where
-    pub number-below : firstRow A (flatMap (λ B. replicate (q B) B) L) + i < length (flatMap g L)
-    pub number-row : getD (flatMap g L) (firstRow A (flatMap (λ B. replicate (q B) B) L) + i) d ≡ getD (g A) i d
-
-  numbered-here : (A B : List Bool) (L : List (List Bool)) (i : ℕ) → 0 < q B → length (g B) ≡ q B → alike A B ≡ true → i < q A → Numbered (B ∷ L) A i
-  unfolding flatMap
-  numbered-here A B L i s e t h =
-      let first : firstRow A (replicate (q B) B ++ flatMap (λ C. replicate (q C) C) L) + i ≡ i =
-      ap (λ (n : ℕ). n + i) (first-here A B (q B) (flatMap (λ C. replicate (q C) C) L) s t) ∙ zero-add i in
-      let within : i < length (g B) = omega (arith, ap q (alike-eq A B t)) in
-      record {
-        number-below = omega (arith, length-append (g B) (flatMap g L));
-        number-row =
-            ap (λ (n : ℕ). getD (g B ++ flatMap g L) n d) first
-            ∙ List·getD-append (g B) (flatMap g L) d i within
-            ∙ ap (λ (C : List Bool). getD (g C) i d) (sym (alike-eq A B t));
-      }
-
-  numbered-later : (A B : List Bool) (L : List (List Bool)) (i : ℕ) → length (g B) ≡ q B → alike A B ≡ false → Numbered L A i → Numbered (B ∷ L) A i
-  unfolding flatMap
-  numbered-later A B L i e t r =
-      let F = flatMap (λ C. replicate (q C) C) L in
-      let first : firstRow A (replicate (q B) B ++ F) + i ≡ length (g B) + (firstRow A F + i) = omega (arith, first-later A B (q B) F t) in
-      record {
-        number-below = omega (arith, length-append (g B) (flatMap g L), r .number-below);
-        number-row =
-            ap (λ (n : ℕ). getD (g B ++ flatMap g L) n d) first
-            ∙ getD-append-add (g B) (flatMap g L) (firstRow A F + i) d
-            ∙ r .number-row;
-      }
-
-  pub numbered : (A : List Bool) (i : ℕ) → i < q A → {L : List (List Bool)} → All (λ B. (0 < q B) × (length (g B) ≡ q B)) L → Any (λ B. A ≡ B) L
-      → Numbered L A i
-  numbered A i h (allCons {x = B} {xs = L} s a) (anyHere e) = numbered-here A B L i (s .0) (s .1) (ap (alike A) (sym e) ∙ alike-self A) h
-  numbered A i h (allCons {x = B} {xs = L} s a) (anyLater t) = go (alike A B) refl (numbered A i h a t)
-    where
-      go : (u : Bool) → alike A B ≡ u → Numbered L A i → Numbered (B ∷ L) A i
-      go true f r = numbered-here A B L i (s .0) (s .1) f h
-      go false f r = numbered-later A B L i (s .1) f r
 
 -- ---- The rows of a query
 
@@ -178,17 +119,18 @@ module _ (N K k : ℕ) (wide : 1 < N) (known : k < K) (n : ℕ) (l : n < N) wher
       R : List Row
       R = block N K k (ones A - 1) n
 
--- set A has k, and one of its rows at server n has place v of k
-pub record Gives (N K k n v : ℕ) (A : List Bool) : Type 0 where
+-- row i of set A at server n, where A has k
+pub record WantedRow (N K k n : ℕ) (A : List Bool) (i : ℕ) : Type 0 where
+  pub server-below : n < N
+  pub set-good : Good K A
   pub in-set : has k A ≡ true
-  pub row : ℕ
-  pub row-below : row < (N - 1) ^ (ones A - 1)
-  pub row-place : getD (getD (setRows N K k n A) row []) k none ≡ some v
+  pub row-below : i < (N - 1) ^ (ones A - 1)
 
--- every place of the wanted message stands in a row of a set with it
-pub place-found : (N K k v : ℕ) → 1 < N → k < K → v < N ^ K → (n : ℕ) × (n < N) × Any (Gives N K k n v) (allSets K)
+-- every place of the wanted message stands in such a row
+pub place-found : (N K k v : ℕ) → 1 < N → k < K → v < N ^ K
+    → (n : ℕ) × (n < N) × Any (λ A. (i : ℕ) × WantedRow N K k n A i × (getD (getD (setRows N K k n A) i []) k none ≡ some v)) (allSets K)
 unfolding isSome
-place-found N K k v wide known h = (n, l, Any-imp given (Any-all (allSets-good K) in-some))
+place-found N K k v wide known h = (n, l, Any-imp in-wanted (Any-all (allSets-good K) in-some))
   where
     f : (m : ℕ) × (m < N) × (j : ℕ) × (j < length (rows N K k m)) × (getD (getD (rows N K k m) j []) k none ≡ some v)
     f = found N K k v wide known h
@@ -208,16 +150,15 @@ place-found N K k v wide known h = (n, l, Any-imp given (Any-all (allSets-good K
         (rw rows-by-set at (f .3))
         (ap (λ (rs : List Row). getD rs (f .2) []) (sym (rows-by-set N K k n)))
 
-    given : (A : List Bool) → Good K A × ((i : ℕ) × (i < length (setRows N K k n A)) × (getD (setRows N K k n A) i [] ≡ row)) → Gives N K k n v A
-    given A (good, (i, below, e)) = record {
-      in-set = ap (has k) (sym (row-set N K k wide known n l A i good small)) ∙ setOf-has (getD (setRows N K k n A) i []) k ∙ ap isSome place;
-      row = i;
-      row-below = small;
-      row-place = place;
-    }
+    in-wanted : (A : List Bool) → Good K A × ((i : ℕ) × (i < length (setRows N K k n A)) × (getD (setRows N K k n A) i [] ≡ row))
+        → (i : ℕ) × WantedRow N K k n A i × (getD (getD (setRows N K k n A) i []) k none ≡ some v)
+    in-wanted A (good, (i, below, e)) = (i, record { server-below = l; set-good = good; in-set = in-set; row-below = row-below }, place)
       where
-        small : i < (N - 1) ^ (ones A - 1)
-        small = omega (arith, below, setRows-length N K k wide known n l A good)
+        row-below : i < (N - 1) ^ (ones A - 1)
+        row-below = omega (arith, below, setRows-length N K k wide known n l A good)
 
         place : getD (getD (setRows N K k n A) i []) k none ≡ some v
         place = ap (λ (r : Row). getD r k none) e ∙ f .4
+
+        in-set : has k A ≡ true
+        in-set = ap (has k) (sym (row-set N K k wide known n l A i good row-below)) ∙ setOf-has (getD (setRows N K k n A) i []) k ∙ ap isSome place
