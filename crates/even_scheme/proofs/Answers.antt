@@ -5,21 +5,15 @@ use mathlib.Core.List.{List, [], _∷_, _++_, map, zipWith}
 use Prim.Native.Nat.{ℕ, zero, suc, _+_, _-_, _*_, _^_, _≤_, _<_}
 use native.Mathlib.Nat.{suc-mul, zero-mul}
 use native.Mathlib.Omega.{arith}
-use lib.Dec.{eqb}
 use lib.ListN.{length, drop, length-append, length-map, replicate, length-replicate}
 use Rattle.lists.specs.Below.{allBelow, Below}
-use Rattle.lists.specs.Distinct.{distinct}
-use Rattle.lists.specs.Ranges.{every}
 use Rattle.lists.specs.Sums.{All, allNil, allCons}
 use Rattle.lists.proofs.Below.{allBelow-below, below-drop}
-use Rattle.lists.proofs.Distinct.{and-both}
 use Rattle.lists.proofs.Sums.{All-imp, All-flatMap, All-replicate}
 use Rattle.parameters.specs.Bounds.{evenFits}
 use Rattle.parameters.specs.Measures.{evenSizes, evenRows}
 use Rattle.parameters.proofs.Bounds.{EvenBounds, even-bounds}
 use Rattle.symbol.specs.Sum.{Sum, zeros, total, totalFrom}
-use Rattle.symbol.specs.Xor.{xor}
-use Rattle.symbol.proofs.XorBytes.{xor-length}
 use Rattle.even_places.specs.Sets.{ones, members}
 use Rattle.even_places.specs.Rule.{rows, layout}
 use Rattle.even_places.proofs.Counts.{rows-length}
@@ -28,15 +22,12 @@ use Rattle.even_places.proofs.RowNumbers.{allSets-good, layout-by-set}
 use Rattle.even_places.proofs.SetLaws.{setOf}
 use Rattle.even_scheme.specs.Even.{numbersOf, evenAdmits, symbolAt, rowAnswer, rowAnswers, evenAnswer, evenScheme}
 use Rattle.even_scheme.proofs.Measures.{rows-counted}
+use Rattle.even_scheme.proofs.Reach.{Admitted, admitted}
 use Rattle.even_scheme.proofs.Symbols.{symbol-long}
 
--- Sums and differences of strings of this length have it, also where a string is no symbol: its elements may be no bytes
-pub record KeepsLength (sum : Sum) (size : ℕ) : Type 0 where
-  pub plus-long : (a b : List ℕ) → length a ≡ size → length b ≡ size → length (sum .plus a b) ≡ size
-  pub minus-long : (a b : List ℕ) → length a ≡ size → length b ≡ size → length (sum .minus a b) ≡ size
-
-pub xor-keeps-length : (size : ℕ) → KeepsLength xor size
-xor-keeps-length size = record { plus-long = λ a b e f. xor-length a b ∙ e; minus-long = λ a b e f. xor-length a b ∙ e }
+-- The operation on strings of this length gives strings of that length, also where a string is no symbol as its elements are no bytes
+abbrev pub KeepsLength : (List ℕ → List ℕ → List ℕ) → ℕ → Type 0
+KeepsLength operation size = (a b : List ℕ) → length a ≡ size → length b ≡ size → length (operation a b) ≡ size
 
 -- ---- The length of an answer
 
@@ -58,14 +49,14 @@ members-below K q [] h = allNil
 members-below K q (true ∷ A) h = allCons {x = q} (omega arith) (members-below K (suc q) A (omega arith))
 members-below K q (false ∷ A) h = members-below K (suc q) A (omega arith)
 
-module _ (sum : Sum) (N K S : ℕ) (keeps : KeepsLength sum S) where
+module _ (sum : Sum) (N K S : ℕ) (keeps : KeepsLength (sum .plus) S) where
   total-long : {xs : List (List ℕ)} → All (λ x. length x ≡ S) xs → length (total sum S xs) ≡ S
   unfolding total totalFrom
   total-long a = from (zeros S) (length-replicate S 0) a
     where
       from : (start : List ℕ) → length start ≡ S → {xs : List (List ℕ)} → All (λ x. length x ≡ S) xs → length (totalFrom sum start xs) ≡ S
       from start e allNil = e
-      from start e (allCons {x = x} f b) = from (sum .plus start x) (keeps .plus-long start x e f) b
+      from start e (allCons {x = x} f b) = from (sum .plus start x) (keeps start x e f) b
 
   module _ (store : List ℕ) (long : length store ≡ K * (N ^ K * S)) where
     named-long : {ps : List ℕ} → All (λ p. p < K) ps → (numbers : List ℕ) → Below (N ^ K) numbers
@@ -89,25 +80,17 @@ module _ (sum : Sum) (N K S : ℕ) (keeps : KeepsLength sum S) where
           suc-mul (length sets) S,
         )
 
--- an admitted query has numbers of symbols only
-pub admits-below : (N K server : ℕ) (query : List ℕ) → evenAdmits N K server query ≡ true → Below (N ^ K) query
-unfolding evenAdmits
-admits-below N K server query e =
-    let rest = allBelow (N ^ K) query && every K (λ p. distinct (numbersOf N K p query)) in
-    allBelow-below (N ^ K) query
-    (and-both (allBelow (N ^ K) query) (every K (λ p. distinct (numbersOf N K p query))) (and-both (eqb (length query) (K * N ^ (K - 1))) rest e .1) .0)
-
-module _ (sum : Sum) (N K S : ℕ) (keeps : KeepsLength sum S) (fits : evenFits N K S ≡ true) where
-  pub even-answer-length : (server : ℕ) (store query : List ℕ) → length store ≡ evenScheme sum N K S .sizes .store
+module _ (sum : Sum) (N K S : ℕ) (keeps : KeepsLength (sum .plus) S) (fits : evenFits N K S ≡ true) where
+  pub answer-length : (server : ℕ) (store query : List ℕ) → length store ≡ evenScheme sum N K S .sizes .store
       → evenScheme sum N K S .admits server query ≡ true
       → length (evenScheme sum N K S .answer store query) ≡ evenScheme sum N K S .answerLength query
   unfolding evenAnswer evenSizes
-  even-answer-length server store query long admitted =
+  answer-length server store query long admits =
       let bounds = even-bounds N K S fits in
-      rows-long sum N K S keeps store long (layout-sets N K) query (admits-below N K server query admitted)
+      rows-long sum N K S keeps store long (layout-sets N K) query (admitted N K server query admits .low)
       ∙ ap (λ (rows : ℕ). rows * S) (layout-length N K (bounds .servers-low) (bounds .messages-low))
 
-pub even-answer-fits : (sum : Sum) (N K S server : ℕ) (query : List ℕ) → evenScheme sum N K S .admits server query ≡ true
+pub answer-fits : (sum : Sum) (N K S server : ℕ) (query : List ℕ) → evenScheme sum N K S .admits server query ≡ true
     → evenScheme sum N K S .answerLength query ≤ evenScheme sum N K S .sizes .slot
 unfolding evenSizes
-even-answer-fits sum N K S server query admitted = omega arith
+answer-fits sum N K S server query admits = omega arith

@@ -73,22 +73,23 @@ abbrev pub Covers : ℕ → List Part → Type 0
 Covers size parts = (j : ℕ) → j < size → Any (In j) parts
 
 module _ (size : ℕ) where
+  -- one part written, the buffer is still long enough
+  still : (part : Part) (a : List ℕ) → Within size part → size ≤ length a → size ≤ length (put (part .0) (part .1) a)
+  still part a h l = omega (arith, put-length (part .0) (part .1) a (let w : part .0 + length (part .1) ≤ length a = omega arith in w))
+
   pub assemble-length : {parts : List Part} → All (Within size) parts → (a : List ℕ) → size ≤ length a → length (assemble parts a) ≡ length a
   unfolding assemble
   assemble-length allNil a l = refl
   assemble-length (allCons {x = part} h hs) a l =
-      let e : length (put (part .0) (part .1) a) ≡ length a = put-length (part .0) (part .1) a (omega arith) in
-      assemble-length hs (put (part .0) (part .1) a) (omega arith) ∙ e
+      assemble-length hs (put (part .0) (part .1) a) (still part a h l) ∙ put-length (part .0) (part .1) a (omega arith)
 
   -- bytes that are the same stay the same
   assemble-same : {parts : List Part} → All (Within size) parts → (j : ℕ) (a b : List ℕ) → size ≤ length a → size ≤ length b → getD a j 0 ≡ getD b j 0
       → getD (assemble parts a) j 0 ≡ getD (assemble parts b) j 0
   unfolding assemble
   assemble-same allNil j a b la lb e = e
-  assemble-same (allCons {x = part} {xs = parts} h hs) j a b la lb e =
-      let wa : length (put (part .0) (part .1) a) ≡ length a = put-length (part .0) (part .1) a (omega arith) in
-      let wb : length (put (part .0) (part .1) b) ≡ length b = put-length (part .0) (part .1) b (omega arith) in
-      assemble-same hs j (put (part .0) (part .1) a) (put (part .0) (part .1) b) (omega arith) (omega arith) (step (in-part part j))
+  assemble-same (allCons {x = part} h hs) j a b la lb e =
+      assemble-same hs j (put (part .0) (part .1) a) (put (part .0) (part .1) b) (still part a h la) (still part b h lb) (step (in-part part j))
     where
       step : Dec (In j part) → getD (put (part .0) (part .1) a) j 0 ≡ getD (put (part .0) (part .1) b) j 0
       step (yes i) = put-in part j a b (omega arith) (omega arith) i
@@ -99,21 +100,16 @@ module _ (size : ℕ) where
       → getD (assemble parts a) j 0 ≡ getD (assemble parts b) j 0
   unfolding assemble
   assemble-in (allCons {x = part} h hs) j a b la lb (anyHere i) =
-      let wa : length (put (part .0) (part .1) a) ≡ length a = put-length (part .0) (part .1) a (omega arith) in
-      let wb : length (put (part .0) (part .1) b) ≡ length b = put-length (part .0) (part .1) b (omega arith) in
-      assemble-same hs j (put (part .0) (part .1) a) (put (part .0) (part .1) b) (omega arith) (omega arith) (put-in part j a b (omega arith) (omega arith) i)
+      assemble-same hs j (put (part .0) (part .1) a) (put (part .0) (part .1) b) (still part a h la) (still part b h lb) (put-in part j a b (omega arith) (omega arith) i)
   assemble-in (allCons {x = part} h hs) j a b la lb (anyLater i) =
-      let wa : length (put (part .0) (part .1) a) ≡ length a = put-length (part .0) (part .1) a (omega arith) in
-      let wb : length (put (part .0) (part .1) b) ≡ length b = put-length (part .0) (part .1) b (omega arith) in
-      assemble-in hs j (put (part .0) (part .1) a) (put (part .0) (part .1) b) (omega arith) (omega arith) i
+      assemble-in hs j (put (part .0) (part .1) a) (put (part .0) (part .1) b) (still part a h la) (still part b h lb) i
 
   -- bytes behind the parts stay
   assemble-out : {parts : List Part} → All (Within size) parts → (j : ℕ) (a : List ℕ) → size ≤ length a → size ≤ j → getD (assemble parts a) j 0 ≡ getD a j 0
   unfolding assemble
   assemble-out allNil j a l h = refl
   assemble-out (allCons {x = part} w ws) j a l h =
-      let e : length (put (part .0) (part .1) a) ≡ length a = put-length (part .0) (part .1) a (omega arith) in
-      assemble-out ws j (put (part .0) (part .1) a) (omega arith) h ∙ put-out part j a (omega arith) (λ i. let x : ⊥ = omega (arith, i .1) in x)
+      assemble-out ws j (put (part .0) (part .1) a) (still part a w l) h ∙ put-out part j a (omega arith) (λ i. let x : ⊥ = omega (arith, i .1) in x)
 
   -- what stood in the buffer does not matter, and nothing behind the parts changes
   pub assemble-anywhere : (parts : List Part) (fresh buffer : List ℕ) → All (Within size) parts → Covers size parts → length fresh ≡ size → size ≤ length buffer

@@ -76,10 +76,10 @@ module _ (sum : Sum) (N K S : ℕ) (store key : List ℕ) where
       ap (λ (L : List (List Bool)). rowAnswers sum N K S store L (map cellNumber (flatMap (cells 0) (rows N K k n)))) (sym (same-layout N K k wide known n l))
       ∙ rows-answered (rows N K k n)
 
--- ---- The honest answers of one fetch
+-- ---- The honest answers of one retrieval
 
 -- what is known of it: the wanted message k, the store and the key
-pub record Fetch (sum : Sum) (N K S k : ℕ) (store key : List ℕ) : Type 0 where
+pub record Retrieval (sum : Sum) (N K S k : ℕ) (store key : List ℕ) : Type 0 where
   pub group : AbelianGroup sum S
   pub wide : 1 < N
   pub known : k < K
@@ -87,14 +87,14 @@ pub record Fetch (sum : Sum) (N K S k : ℕ) (store key : List ℕ) : Type 0 whe
   pub long : length store ≡ K * (N ^ K * S)
   pub valid : Valid (evenScheme sum N K S) key
 
-module _ (sum : Sum) (N K S k : ℕ) (store key : List ℕ) (fetch : Fetch sum N K S k store key) where
+module _ (sum : Sum) (N K S k : ℕ) (store key : List ℕ) (run : Retrieval sum N K S k store key) where
   pub cell-symbols : {cs : List (ℕ × ℕ)} → All (λ cell. cell .0 < K) cs → Symbols S (map (cellSymbol sum N K S store key) cs)
   unfolding cellSymbol cellNumber
   cell-symbols allNil = none
   cell-symbols (allCons {x = cell} h a) =
       more
-      (symbol-symbol sum N K S store (fetch .long) (cell .0) (numberAt N K key (cell .0) (cell .1)) h
-      (number-below sum N K S key (fetch .valid) (cell .0) h (one-le-pow K N (let w : 0 < N = omega (arith, fetch .wide) in w)) (cell .1)) (fetch .bytes))
+      (symbol-symbol sum N K S store (run .long) (cell .0) (numberAt N K key (cell .0) (cell .1)) h
+      (number-below sum N K S key (run .valid) (cell .0) h (one-le-pow K N (let w : 0 < N = omega (arith, run .wide) in w)) (cell .1)) (run .bytes))
       (cell-symbols a)
 
   pub row-symbols : (r : Row) → length r ≡ K → Symbols S (map (cellSymbol sum N K S store key) (cells 0 r))
@@ -106,11 +106,11 @@ module _ (sum : Sum) (N K S k : ℕ) (store key : List ℕ) (fetch : Fetch sum N
       ≡ rowTotal sum N K S store key (getD (setRows N K k n A) i [])
   unfolding answeredRow honestAnswers rowTotal
   honest-row n l A i set-good h =
-      ap (cut ((firstRow A (layout N K) + i) * S) S) (map-range-at (λ m. evenAnswer sum N K S store (evenQuery N K k m key)) N n [] l ∙ answer-rows sum N K S store key k n (fetch .wide) (fetch .known) l)
+      ap (cut ((firstRow A (layout N K) + i) * S) S) (map-range-at (λ m. evenAnswer sum N K S store (evenQuery N K k m key)) N n [] l ∙ answer-rows sum N K S store key k n (run .wide) (run .known) l)
       ∙ flatMap-cut (rowTotal sum N K S store key) S []
-      (All-imp (λ r e. total-symbol sum S (fetch .group) (row-symbols r e) .long) (rows-long N K k (fetch .wide) (fetch .known) n))
+      (All-imp (λ r e. total-symbol sum S (run .group) (row-symbols r e) .long) (rows-long N K k (run .wide) (run .known) n))
       (firstRow A (layout N K) + i) (number .0)
       ∙ ap (rowTotal sum N K S store key) (number .1)
     where
       number : (firstRow A (layout N K) + i < length (rows N K k n)) × (getD (rows N K k n) (firstRow A (layout N K) + i) [] ≡ getD (setRows N K k n A) i [])
-      number = row-number N K k (fetch .wide) (fetch .known) n l A i set-good h
+      number = row-number N K k (run .wide) (run .known) n l A i set-good h

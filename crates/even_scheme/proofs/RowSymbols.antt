@@ -14,7 +14,7 @@ use Rattle.even_places.specs.Sets.{ones}
 use Rattle.even_places.specs.Rule.{Row, cells}
 use Rattle.even_places.proofs.SetLaws.{setOf}
 use Rattle.even_scheme.specs.Even.{numberAt, symbolAt}
-use Rattle.even_scheme.proofs.HonestRows.{cells-count, cellNumber, cellSymbol, rowTotal, Fetch, row-symbols}
+use Rattle.even_scheme.proofs.HonestRows.{cells-count, cellNumber, cellSymbol, rowTotal, Retrieval, row-symbols}
 
 nothing : {x : ℕ} → none ≡ some x → ⊥
 nothing e = let z : _≡_ {A = ℕ} 0 1 = cc in omega arith
@@ -60,7 +60,7 @@ symbols-split : {size : ℕ} (xs : List (List ℕ)) {x : List ℕ} {ys : List (L
 symbols-split [] (more p ps) = (none, p, ps)
 symbols-split (y ∷ xs) (more p ps) = let rest = symbols-split xs ps in (more p (rest .0), rest .1, rest .2)
 
-module _ (sum : Sum) (N K S k : ℕ) (store key : List ℕ) (fetch : Fetch sum N K S k store key) (r : Row) (x : ℕ) (long : length r ≡ K) (place : getD r k none ≡ some x) where
+module _ (sum : Sum) (N K S k : ℕ) (store key : List ℕ) (run : Retrieval sum N K S k store key) (r : Row) (x : ℕ) (long : length r ≡ K) (place : getD r k none ≡ some x) where
   around-wanted : Around 0 k x r
   around-wanted = around 0 k x r place
 
@@ -79,7 +79,7 @@ module _ (sum : Sum) (N K S k : ℕ) (store key : List ℕ) (fetch : Fetch sum N
 
   parts : Symbols S before × Symbol S (named (0 + k, x)) × Symbols S after
   unfolding named
-  parts = symbols-split before (rw whole at (row-symbols sum N K S k store key fetch r long))
+  parts = symbols-split before (rw whole at (row-symbols sum N K S k store key run r long))
 
   wanted-cell : named (0 + k, x) ≡ symbolAt sum N K S store k (numberAt N K key k x)
   unfolding named cellSymbol cellNumber
@@ -90,7 +90,7 @@ module _ (sum : Sum) (N K S k : ℕ) (store key : List ℕ) (fetch : Fetch sum N
   unfolding rowTotal named before after
   row-more =
       rw (whole, ap (map named) (around-wanted .without) ∙ map-append named (around-wanted .before) (around-wanted .after))
-      (total-found sum S (fetch .group) (parts .1) (parts .0) (parts .2))
+      (total-found sum S (run .group) (parts .1) (parts .0) (parts .2))
       ∙ wanted-cell
 
   -- a row with the wanted message alone is its symbol
@@ -99,6 +99,6 @@ module _ (sum : Sum) (N K S k : ℕ) (store key : List ℕ) (fetch : Fetch sum N
   row-alone one = ap (total sum S) whole ∙ go before after (sym (ap length whole) ∙ length-map (cells 0 r) named ∙ cells-count 0 r ∙ one) ∙ wanted-cell
     where
       go : (xs ys : List (List ℕ)) → length (xs ++ named (0 + k, x) ∷ ys) ≡ 1 → total sum S (xs ++ named (0 + k, x) ∷ ys) ≡ named (0 + k, x)
-      go [] [] e = fetch .group .zero-plus (parts .1)
+      go [] [] e = run .group .zero-plus (parts .1)
       go [] (y ∷ ys) e = absurd (let w : ⊥ = omega arith in w)
       go (y ∷ xs) ys e = absurd (let w : ⊥ = omega (arith, length-append xs (named (0 + k, x) ∷ ys)) in w)
