@@ -14,3 +14,4 @@ pub mod Recovery
 pub mod Covers
 pub mod Recovers
 pub mod Written
+pub mod Promises
