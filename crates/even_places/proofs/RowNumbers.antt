@@ -1,17 +1,16 @@
 -- A query's rows by their numbers: row i of set A is row `firstRow A (layout N K) + i` of each server's query, and every place of
 -- the wanted message stands in a row of some set with it.
-use Prim.Native.Nat.{ℕ, zero, suc, _+_, _-_, _^_, _≤_, _<_}
-use native.Mathlib.Nat.{zero-add, not-suc-le-zero, one-le-pow}
+use Prim.Native.Nat.{ℕ, suc, _+_, _-_, _^_, _≤_, _<_}
+use native.Mathlib.Nat.{one-le-pow}
 use native.Mathlib.Omega.{arith}
 use mathlib.Core.Path.{_≡_, refl, sym, ap, _∙_, fun-ext}
-use mathlib.Core.List.{List, [], _∷_, _++_, map, flatMap}
-use mathlib.Core.Bool.{Bool, true, false, cond, true≢false}
+use mathlib.Core.List.{List, [], _∷_, flatMap}
+use mathlib.Core.Bool.{Bool, true, false}
 use mathlib.Core.Option.{none, some}
-use lib.ListN.{length, getD, replicate, length-append, length-replicate, length-map, getD-replicate, List·getD-append, List·getD-map}
-use lib.Seq.{getD-append-add}
-use Rattle.lists.specs.Any.{Any, anyHere, anyLater}
+use lib.ListN.{length, getD, replicate, getD-replicate, List·getD-map}
+use Rattle.lists.specs.Any.{Any}
 use Rattle.lists.specs.Ranges.{range}
-use Rattle.lists.specs.Sums.{bit, sum, All, allNil, allCons}
+use Rattle.lists.specs.Sums.{bit, sum, All}
 use Rattle.lists.proofs.Any.{Any-imp, Any-all, Any-sum, Any-flatMap, Any-range}
 use Rattle.lists.proofs.Flat.{flatMap-flatMap, flatMap-find}
 use Rattle.lists.proofs.Sums.{All-imp, All-flatMap, All-every}

@@ -1,16 +1,16 @@
 -- The row that a wanted row is joined from, by number: row i of set A at server n, where A has k and another message, is without k
 -- the row i % q of the set without k at the other server whose turn is i / q, where q = (N-1)^(b-1) and A's block is b, counted from 0.
-use Prim.Native.Nat.{ℕ, zero, suc, _+_, _-_, _*_, _/_, _%_, _^_, _<_}
+use Prim.Native.Nat.{ℕ, suc, _-_, _/_, _%_, _^_, _<_}
 use native.Mathlib.Nat.{mod-lt, div-add-mod', div-lt-iff-lt-mul, pow-succ', one-le-pow}
 use native.Mathlib.Omega.{arith}
 use mathlib.Core.Path.{_≡_, sym, ap, _∙_}
 use mathlib.Core.List.{List, []}
 use mathlib.Core.Bool.{Bool, true, false}
 use mathlib.Core.Option.{none}
-use lib.ListN.{length, getD, set, length-set}
+use lib.ListN.{getD, set, length-set}
 use Rattle.lists.proofs.Any.{All-at}
 use Rattle.even_places.specs.Sets.{has, ones}
-use Rattle.even_places.specs.Rule.{Row, ofSet, block, others}
+use Rattle.even_places.specs.Rule.{ofSet, block, others}
 use Rattle.even_places.proofs.SetLaws.{ones-drop}
 use Rattle.even_places.proofs.Positions.{others-below, others-length, joined-at}
 use Rattle.even_places.proofs.RowNumbers.{Good, setRows, WantedRow}

@@ -1,18 +1,18 @@
 -- An answer has one symbol for each row of the query, so it fills its slot.
-use mathlib.Core.Path.{_≡_, refl, sym, ap, _∙_}
-use mathlib.Core.Bool.{Bool, true, false, _&&_}
-use mathlib.Core.List.{List, [], _∷_, _++_, map, zipWith}
-use Prim.Native.Nat.{ℕ, zero, suc, _+_, _-_, _*_, _^_, _≤_, _<_}
+use mathlib.Core.Path.{_≡_, sym, ap, _∙_}
+use mathlib.Core.Bool.{Bool, true, false}
+use mathlib.Core.List.{List, [], _∷_, zipWith}
+use Prim.Native.Nat.{ℕ, suc, _+_, _-_, _*_, _^_, _≤_, _<_}
 use native.Mathlib.Nat.{suc-mul, zero-mul}
 use native.Mathlib.Omega.{arith}
 use lib.ListN.{length, drop, length-append, length-map, replicate, length-replicate}
-use Rattle.lists.specs.Below.{allBelow, Below}
+use Rattle.lists.specs.Below.{Below}
 use Rattle.lists.specs.Sums.{All, allNil, allCons}
-use Rattle.lists.proofs.Below.{allBelow-below, below-drop}
+use Rattle.lists.proofs.Below.{below-drop}
 use Rattle.lists.proofs.Sums.{All-imp, All-flatMap, All-replicate}
 use Rattle.parameters.specs.Bounds.{evenFits}
 use Rattle.parameters.specs.Measures.{evenSizes, evenRows}
-use Rattle.parameters.proofs.Bounds.{EvenBounds, even-bounds}
+use Rattle.parameters.proofs.Bounds.{even-bounds}
 use Rattle.symbol.specs.Sum.{Sum, zeros, total, totalFrom}
 use Rattle.even_places.specs.Sets.{ones, members}
 use Rattle.even_places.specs.Rule.{rows, layout}
@@ -20,9 +20,9 @@ use Rattle.even_places.proofs.Counts.{rows-length}
 use Rattle.even_places.proofs.Joined.{same-layout}
 use Rattle.even_places.proofs.RowNumbers.{allSets-good, layout-by-set}
 use Rattle.even_places.proofs.SetLaws.{setOf}
-use Rattle.even_scheme.specs.Even.{numbersOf, evenAdmits, symbolAt, rowAnswer, rowAnswers, evenAnswer, evenScheme}
+use Rattle.even_scheme.specs.Even.{symbolAt, rowAnswer, rowAnswers, evenAnswer, evenScheme}
 use Rattle.even_scheme.proofs.Measures.{rows-counted}
-use Rattle.even_scheme.proofs.Reach.{Admitted, admitted}
+use Rattle.even_scheme.proofs.Reach.{admitted}
 use Rattle.even_scheme.proofs.Symbols.{symbol-long}
 
 -- The operation on strings of this length gives strings of that length, also where a string is no symbol as its elements are no bytes

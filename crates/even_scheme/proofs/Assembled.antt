@@ -1,7 +1,7 @@
 -- Laws of `assemble`. Parts that lie within the first `size` bytes of a buffer and cover them leave nothing of what stood there, and
 -- leave the rest alone; parts that are cut from one message and cover it give that message.
 use mathlib.Core.Path.{_≡_, refl, sym, ap, _∙_}
-use mathlib.Core.List.{List, [], _∷_, _++_}
+use mathlib.Core.List.{List}
 use Prim.Native.Nat.{ℕ, _+_, _-_, _≤_, _<_}
 use native.Mathlib.Nat.{zero-add}
 use native.Mathlib.Decide.{decLt}

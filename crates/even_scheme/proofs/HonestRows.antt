@@ -1,9 +1,9 @@
 -- What the honest servers answer: for each row of the query the total of the symbols that its places name through the key.
 use mathlib.Core.Path.{_≡_, refl, sym, ap, _∙_}
-use mathlib.Core.Bool.{Bool, true, false}
+use mathlib.Core.Bool.{Bool}
 use mathlib.Core.List.{List, [], _∷_, _++_, map, map-append, flatMap, zipWith}
 use mathlib.Core.Option.{none, some}
-use Prim.Native.Nat.{ℕ, zero, suc, _+_, _-_, _*_, _^_, _≤_, _<_}
+use Prim.Native.Nat.{ℕ, suc, _+_, _-_, _*_, _^_, _≤_, _<_}
 use native.Mathlib.Nat.{one-le-pow}
 use native.Mathlib.Omega.{arith}
 use lib.ListN.{length, getD, drop, length-map}
@@ -15,7 +15,7 @@ use Rattle.lists.proofs.Flat.{flatMap-cut}
 use Rattle.lists.proofs.Ranges.{map-range-at}
 use Rattle.lists.proofs.Sums.{All-imp}
 use Rattle.symbol.specs.Group.{AbelianGroup, Symbols, none, more}
-use Rattle.symbol.specs.Sum.{Symbol, Sum, total}
+use Rattle.symbol.specs.Sum.{Sum, total}
 use Rattle.symbol.proofs.Totals.{total-symbol}
 use Rattle.scheme.specs.Scheme.{Valid, honestAnswers}
 use Rattle.even_places.specs.Sets.{ones, members}

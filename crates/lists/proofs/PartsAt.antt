@@ -1,10 +1,9 @@
 -- What stands where after `put`; a part of a part; and a part written back where it was read.
 use mathlib.Core.Path.{_≡_, refl, sym, ap, _∙_}
 use mathlib.Core.List.{List, [], _∷_, _++_}
-use Prim.Native.Nat.{ℕ, zero, suc, _+_, _-_, _≤_, _<_}
-use native.Mathlib.Nat.{not-suc-le-zero}
+use Prim.Native.Nat.{ℕ, zero, suc, _+_, _≤_, _<_}
 use native.Mathlib.Omega.{arith}
-use lib.ListN.{length, getD, take, drop, take-append-drop, length-append, List·getD-append}
+use lib.ListN.{length, getD, take, drop, take-append-drop, List·getD-append}
 use lib.Seq.{length-take-le, take-take, drop-drop, getD-take, getD-drop, getD-append-add}
 use Rattle.lists.specs.Parts.{cut, put}
 use Rattle.lists.proofs.Parts.{cut-length}
