@@ -8,7 +8,7 @@ use mathlib.Core.List.{List, []}
 use mathlib.Core.Bool.{Bool, true, false}
 use mathlib.Core.Option.{none}
 use lib.ListN.{getD, set, length-set}
-use Rattle.lists.proofs.Any.{All-at}
+use Rattle.lists.proofs.Each.{All-get}
 use Rattle.even_places.specs.Sets.{has, ones}
 use Rattle.even_places.specs.Rule.{ofSet, block, others}
 use Rattle.even_places.proofs.SetLaws.{ones-drop}
@@ -27,7 +27,7 @@ pub source-row : (N K k : ℕ) → 1 < N → k < K → (n : ℕ) (A : List Bool)
     → Source N K k n A i (getD (others N n) (i / (N - 1) ^ (ones A - 2)) 0) (i % (N - 1) ^ (ones A - 2))
 unfolding setRows
 source-row N K k wide known n A i wanted many = record {
-  server-below = All-at 0 (others-below N K k wide known n l) (i / q) (omega (arith, turn, others-length N n l));
+  server-below = All-get 0 (others-below N K k wide known n l) (i / q) (omega (arith, turn, others-length N n l));
   set-good = record { long = length-set A k false ∙ good .long; some-ones = omega (arith, ones-drop A k e) };
   row-below = rw less (mod-lt i some);
   without =

@@ -4,7 +4,6 @@ use mathlib.Core.Bool.{Bool}
 use mathlib.Core.List.{List, [], _∷_, _++_, map, map-append, flatMap, zipWith}
 use mathlib.Core.Option.{none, some}
 use Prim.Native.Nat.{ℕ, suc, _+_, _-_, _*_, _^_, _≤_, _<_}
-use native.Mathlib.Nat.{one-le-pow}
 use native.Mathlib.Omega.{arith}
 use lib.ListN.{length, getD, drop, length-map}
 use lib.Seq.{drop-at}
@@ -94,7 +93,7 @@ module _ (sum : Sum) (N K S k : ℕ) (store key : List ℕ) (run : Retrieval sum
   cell-symbols (allCons {x = cell} h a) =
       more
       (symbol-symbol sum N K S store (run .long) (cell .0) (numberAt N K key (cell .0) (cell .1)) h
-      (number-below sum N K S key (run .valid) (cell .0) h (one-le-pow K N (let w : 0 < N = omega (arith, run .wide) in w)) (cell .1)) (run .bytes))
+      (number-below sum N K S key (run .valid) (run .wide) (cell .0) h (cell .1)) (run .bytes))
       (cell-symbols a)
 
   pub row-symbols : (r : Row) → length r ≡ K → Symbols S (map (cellSymbol sum N K S store key) (cells 0 r))

@@ -3,7 +3,7 @@ use mathlib.Core.Path.{_≡_, sym, ap, _∙_}
 use mathlib.Core.Bool.{true}
 use mathlib.Core.List.{List}
 use Prim.Native.Nat.{ℕ, _*_, _^_, _<_}
-use native.Mathlib.Nat.{suc-mul, mul-le-mul-right, one-le-pow}
+use native.Mathlib.Nat.{suc-mul, mul-le-mul-right}
 use native.Mathlib.Omega.{arith}
 use lib.ListN.{length, length-replicate}
 use Rattle.lists.specs.Below.{Below}
@@ -35,7 +35,7 @@ module _ (sum : Sum) (N K S k : ℕ) (store key : List ℕ) (run : Retrieval sum
   message-long = cut-length (k * (N ^ K * S)) (N ^ K * S) store (omega (arith, run .long, suc-mul k (N ^ K * S), mul-le-mul-right (N ^ K * S) (run .known)))
 
   number-small : (place : ℕ) → numberAt N K key k place < N ^ K
-  number-small place = number-below sum N K S key (run .valid) k (run .known) (one-le-pow K N (let w : 0 < N = omega (arith, run .wide) in w)) place
+  number-small place = number-below sum N K S key (run .valid) (run .wide) k (run .known) place
 
   whole : Whole sum N K S k answers
   unfolding answers

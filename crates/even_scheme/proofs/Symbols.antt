@@ -2,7 +2,7 @@
 use mathlib.Core.Path.{_≡_, sym, ap, _∙_}
 use mathlib.Core.List.{List}
 use Prim.Native.Nat.{ℕ, _+_, _*_, _^_, _≤_, _<_}
-use native.Mathlib.Nat.{mul-assoc, add-mul, suc-mul, mul-le-mul-right}
+use native.Mathlib.Nat.{mul-assoc, add-mul, suc-mul, mul-le-mul-right, one-le-pow}
 use native.Mathlib.Decide.{decLt}
 use native.Mathlib.Omega.{arith}
 use lib.ListN.{length, getD, List·getD-eq-default, drop}
@@ -19,16 +19,16 @@ use Rattle.even_scheme.proofs.Keys.{key-permutation}
 
 -- ---- The key's numbers
 
-pub number-below : (sum : Sum) (N K S : ℕ) (key : List ℕ) → Valid (evenScheme sum N K S) key → (p : ℕ) → p < K → 0 < N ^ K → (place : ℕ) → numberAt N K key p place < N ^ K
+pub number-below : (sum : Sum) (N K S : ℕ) (key : List ℕ) → Valid (evenScheme sum N K S) key → 1 < N → (p : ℕ) → p < K → (place : ℕ) → numberAt N K key p place < N ^ K
 unfolding numberAt
-number-below sum N K S key valid p h some place = go (decLt place (N ^ K))
+number-below sum N K S key valid wide p h place = go (decLt place (N ^ K))
   where
     numbers : Permutation (N ^ K) (permutation N K key p)
     numbers = key-permutation sum N K S key valid p h
 
     go : Dec (place < N ^ K) → getD (permutation N K key p) place 0 < N ^ K
     go (yes l) = numbers .low place l
-    go (no l) = rw (List·getD-eq-default (permutation N K key p) 0 {n = place} (omega (arith, numbers .long))) some
+    go (no l) = rw (List·getD-eq-default (permutation N K key p) 0 {n = place} (omega (arith, numbers .long))) (one-le-pow K N (omega arith))
 
 -- ---- The symbols of a store of K messages
 

@@ -30,10 +30,10 @@ use Rattle.even_scheme.proofs.Covers.{Whole, parts-within, parts-cover}
 use Rattle.even_scheme.proofs.Measures.{rows-counted}
 
 -- an answer of one symbol for each row from each server
-abbrev pub Answers : ℕ → ℕ → ℕ → List (List ℕ) → Type 0
-Answers N K S answers = (n : ℕ) → n < N → length (getD answers n []) ≡ evenRows N K * S
+abbrev pub FullAnswers : ℕ → ℕ → ℕ → List (List ℕ) → Type 0
+FullAnswers N K S answers = (n : ℕ) → n < N → length (getD answers n []) ≡ evenRows N K * S
 
-module _ (sum : Sum) (N K S k : ℕ) (keeps : KeepsLength (sum .minus) S) (wide : 1 < N) (known : k < K) (answers : List (List ℕ)) (long : Answers N K S answers) where
+module _ (sum : Sum) (N K S k : ℕ) (keeps : KeepsLength (sum .minus) S) (wide : 1 < N) (known : k < K) (answers : List (List ℕ)) (long : FullAnswers N K S answers) where
   -- row i of set A lies whole in a server's answer
   answered-long : (n : ℕ) → n < N → (A : List Bool) → Good K A → (i : ℕ) → i < (N - 1) ^ (ones A - 1)
       → length (answeredRow sum N K S k answers n (firstRow A (layout N K) + i)) ≡ S
@@ -75,7 +75,7 @@ module _ (sum : Sum) (N K S : ℕ) (keeps : KeepsLength (sum .minus) S) (fits : 
   bounds : EvenBounds N K S
   bounds = even-bounds N K S fits
 
-  module _ (answers : List (List ℕ)) (long : Answers N K S answers) where
+  module _ (answers : List (List ℕ)) (long : FullAnswers N K S answers) where
     whole : Whole sum N K S wanted answers
     whole = recovered-whole sum N K S wanted keeps (bounds .servers-low) known answers long
 
@@ -100,7 +100,7 @@ module _ (sum : Sum) (N K S : ℕ) (keeps : KeepsLength (sum .minus) S) (fits : 
 
   -- and so from the slots of an answer buffer of any contents
   module _ (slots : List ℕ) (enough : N * evenScheme sum N K S .sizes .slot ≤ length slots) where
-    slots-long : Answers N K S (answersIn (evenScheme sum N K S) N wanted key slots)
+    slots-long : FullAnswers N K S (answersIn (evenScheme sum N K S) N wanted key slots)
     unfolding answersIn evenSizes
     slots-long n l =
         let slot = evenRows N K * S in

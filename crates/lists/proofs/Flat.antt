@@ -42,14 +42,8 @@ module _ {A B C : Type 0} where
   flatMap-flatMap f g [] = refl
   flatMap-flatMap f g (x ∷ xs) = flatMap-append f (g x) (flatMap g xs) ∙ ap (λ (l : List C). flatMap f (g x) ++ l) (flatMap-flatMap f g xs)
 
--- lists of bytes of one size
+-- lists of bytes of one size: each is its part of them joined
 module _ {A : Type 0} (f : A → List ℕ) (size : ℕ) where
-  pub flatMap-length : {xs : List A} → All (λ x. length (f x) ≡ size) xs → length (flatMap f xs) ≡ length xs * size
-  unfolding flatMap
-  flatMap-length allNil = sym (zero-mul size)
-  flatMap-length (allCons {x = x} {xs = xs} e a) =
-      length-append (f x) (flatMap f xs) ∙ omega (arith, flatMap-length a, suc-mul (length xs) size)
-
   pub flatMap-cut : (d : A) {xs : List A} → All (λ x. length (f x) ≡ size) xs → (i : ℕ) → i < length xs
       → cut (i * size) size (flatMap f xs) ≡ f (getD xs i d)
   unfolding flatMap
