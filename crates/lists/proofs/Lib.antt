@@ -7,3 +7,4 @@ pub mod Arranged
 pub mod Pairs
 pub mod Cuts
 pub mod Each
+pub mod Marks

@@ -5,3 +5,4 @@ pub mod Sums
 pub mod Distinct
 pub mod Arranged
 pub mod Pairs
+pub mod Marks
