@@ -6,12 +6,12 @@ use native.Mathlib.Omega.{arith}
 use mathlib.Core.Path.{_≡_, refl, sym, ap, _∙_}
 use mathlib.Core.Bool.{Bool, true, false, cond, not, _&&_, _||_, and-false, and-true}
 use mathlib.Core.List.{List, [], _∷_}
-use borrow.Author.Tests.{lt-ltb, le-ltb, ltb-true, eqb-true, eqb-false}
+use borrow.Author.Tests.{lt-ltb, le-ltb, ltb-true, eqb-true, eqb-false, eq-eqb}
 use lib.Dec.{ltb, eqb}
 use lib.ListN.{length, getD, set, drop, replicate, length-set, length-replicate}
 use lib.Seq.{drop-cons, drop-length, getD-set-same, getD-set-other}
 use Rattle.lists.specs.Below.{allBelow}
-use Rattle.lists.specs.Distinct.{stands, distinct}
+use Rattle.lists.specs.Distinct.{stands, distinct, isPermutation}
 use Rattle.lists.specs.Marks.{unmarked}
 
 -- ---- from place i on
@@ -97,3 +97,8 @@ unmarked-distinct size n xs h =
     parts size (replicate n false) xs (let e = length-replicate {A = Bool} n false in omega arith)
     ∙ ap (λ t. allBelow size xs && (distinct xs && t)) (clear-none n xs)
     ∙ ap (λ t. allBelow size xs && t) (and-true (distinct xs))
+
+-- so as many numbers as the size are a permutation exactly if the pass finds no mark
+pub permutation-marks : (size n : ℕ) (xs : List ℕ) → length xs ≡ size → size ≤ n → isPermutation size xs ≡ unmarked size (replicate n false) xs
+unfolding isPermutation
+permutation-marks size n xs e h = rw (eq-eqb (length xs) size e) (sym (unmarked-distinct size n xs h))
