@@ -1,3 +1,5 @@
 pub mod Below
 pub mod Parts
 pub mod Sums
+pub mod Writing
+pub mod Flat
