@@ -3,3 +3,4 @@ pub mod Parts
 pub mod Sums
 pub mod Writing
 pub mod Flat
+pub mod Elements
