@@ -30,7 +30,7 @@ fn permutation_good(size: usize, bytes: &[u8]) -> bool
 
 // Whether each of the key's k parts is a permutation.
 fn permutations_good(size: usize, k: usize, key: &[u8]) -> bool
-    requires { ⌜ (length (now key) ≡ k * size) × (size ≤ 256) × (k ≤ 8) ⌝ }
+    requires { ⌜ (length (now key) ≡ k * size) × (size ≤ 256) ⌝ }
     ensures { λ r. ⌜ r ≡ every k (λ p. isPermutation size (cut (p * size) size (now (key .entry)))) ⌝ }
 {
     let mut p = 0;
@@ -41,4 +41,12 @@ fn permutations_good(size: usize, k: usize, key: &[u8]) -> bool
         p += 1;
     }
     true
+}
+
+// Whether a key of the right length is good (no refusal 6).
+pub fn key_good(n: usize, k: usize, key: &[u8]) -> bool
+    requires { ⌜ (length (now key) ≡ k * n ^ k) × (n ^ k ≤ 256) ⌝ }
+    ensures { λ r. ⌜ r ≡ evenKeyGood n k (now (key .entry)) ⌝ }
+{
+    permutations_good(even_layout::power(n, k), k, key)
 }

@@ -8,3 +8,6 @@ pub mod Pairs
 pub mod Cuts
 pub mod Each
 pub mod Marks
+pub mod Writing
+pub mod Flat
+pub mod Elements

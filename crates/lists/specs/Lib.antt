@@ -6,3 +6,4 @@ pub mod Distinct
 pub mod Arranged
 pub mod Pairs
 pub mod Marks
+pub mod Padded
