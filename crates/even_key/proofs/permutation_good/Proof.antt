@@ -1,9 +1,9 @@
 -- `even_key::permutation_good` meets its contract: what is left of the bytes decides, with the marks so far.
 use mathlib.Core.Path.{_≡_, refl, sym, _∙_}
 use mathlib.Core.Bool.{Bool, false}
-use Prim.Native.Nat.{_-_, _≤_, _<_}
+use Prim.Native.Nat.{_-_, _≤_}
 use native.Mathlib.Omega.{arith}
-use lib.ListN.{length, drop, getD, length-set, length-replicate}
+use lib.ListN.{length, drop, length-set, length-replicate}
 use Rattle.lists.specs.Distinct.{isPermutation}
 use Rattle.lists.specs.Marks.{unmarked}
 use Rattle.lists.proofs.Marks.{marks-high, marks-seen, marks-more, marks-end, permutation-marks}
@@ -32,7 +32,7 @@ cast-entry c = omega (arith, c .shared-slice-known .given (c .before .before .lo
 returns : tie.Need-returns Inv-loop μ-loop
 returns c =
     let at = c .before .before .before in
-    sym (at .loop .inv .2 ∙ marks-high (at .before .args .size) (at .loop .seen) (at .before .args .bytes .now) (at .loop .i) _ (omega arith) refl (c .if1 .taken))
+    sym (at .loop .inv .2 ∙ marks-high (at .before .args .size) (at .loop .seen) (at .before .args .bytes .now) (at .loop .i) _ (omega arith) refl (omega arith))
 
 array-read-if2 : tie.Need-array-read-if2 Inv-loop μ-loop
 array-read-if2 c = omega (arith, c .before .shared-slice-known .given (c .before .before .before .loop .i))
