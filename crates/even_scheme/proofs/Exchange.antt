@@ -80,5 +80,5 @@ module _ (sum : Sum) (N K S : ℕ) (fits : evenFits N K S ≡ true) (server want
   pub exchange-shown : evenScheme sum N K S .query other server (evenExchange N K server wanted other key) ≡ evenScheme sum N K S .query wanted server key
   unfolding evenQuery
   exchange-shown =
-            same-under (numberAt N K (evenExchange N K server wanted other key)) (numberAt N K key) K (queryCells N K wanted server)
+      same-under (numberAt N K (evenExchange N K server wanted other key)) (numberAt N K key) K (queryCells N K wanted server)
       (All-imp (λ cell h. h .0) (cells-inside N K other server wide known′ there)) same-labels shown

@@ -1,6 +1,6 @@
 -- Any two admitted queries are given by equally many valid keys: renaming the numbers of a key takes those that give one to those that
 -- give the other (`renamed-gives`), and the opposite renaming takes them back (`renamed-once`).
-use Prim.Native.Nat.{ℕ, _-_, _^_, _<_}
+use Prim.Native.Nat.{ℕ, _^_, _<_}
 use mathlib.Core.Path.{_≡_, sym, ap, _∙_, subst}
 use mathlib.Core.Bool.{true}
 use mathlib.Core.List.{List}

@@ -117,9 +117,9 @@ module _ (size : ℕ) (A B : List ℕ) (a : Permutation size A) where
         long = arranged-length;
         low = λ v h. subst (λ (x : ℕ). x < size) (sym (entry v h)) (b .low (placeIn v A) (covers size A a v h .0));
         apart = λ u v h k q.
-          let c = covers size A a u h in
-          let d = covers size A a v k in
-          sym (c .1) ∙ ap (λ i. getD A i 0) (b .apart (placeIn u A) (placeIn v A) (c .0) (d .0) (sym (entry u h) ∙ q ∙ entry v k)) ∙ d .1;
+            let c = covers size A a u h in
+            let d = covers size A a v k in
+            sym (c .1) ∙ ap (λ i. getD A i 0) (b .apart (placeIn u A) (placeIn v A) (c .0) (d .0) (sym (entry u h) ∙ q ∙ entry v k)) ∙ d .1;
       }
 
 pub picked-at : (list places : List ℕ) (i : ℕ) → i < length places → getD (picked list places) i 0 ≡ getD list (getD places i 0) 0

@@ -1,6 +1,6 @@
 -- Parts of one size, joined: each is the cut at its own place (`cut-joined`), and a list is its cuts joined (`joined-cuts`).
-use Prim.Native.Nat.{ℕ, zero, suc, _+_, _*_, _<_}
-use native.Mathlib.Nat.{zero-add, add-zero, add-suc, suc-add, zero-mul, suc-mul, not-suc-le-zero}
+use Prim.Native.Nat.{ℕ, zero, suc, _+_, _*_, _≤_, _<_}
+use native.Mathlib.Nat.{zero-add, add-zero, add-suc, suc-add, zero-mul, suc-mul, not-suc-le-zero, mul-le-mul-right}
 use native.Mathlib.Omega.{arith}
 use mathlib.Core.Path.{_≡_, sym, ap, _∙_}
 use mathlib.Core.List.{List, _++_, flatMap}
@@ -54,3 +54,7 @@ cuts-from size a (suc n) l =
 
 pub joined-cuts : (size n : ℕ) (l : List ℕ) → length l ≡ n * size → flatMap (λ i. cut (i * size) size l) (range 0 n) ≡ l
 joined-cuts size n l e = cuts-from size 0 n l ∙ rw (zero-mul size) (take-all (n * size) l (omega arith))
+
+-- a part ends where the whole does, or before
+pub part-within : (i n size : ℕ) → i < n → i * size + size ≤ n * size
+part-within i n size h = let e = suc-mul i size in let most : suc i * size ≤ n * size = mul-le-mul-right size h in omega arith

@@ -7,6 +7,10 @@ pub mod Arranged
 pub mod Pairs
 pub mod Cuts
 pub mod Each
-pub mod Any
+pub mod Marks
+pub mod Writing
 pub mod Flat
+pub mod Elements
+pub mod Any
+pub mod FlatParts
 pub mod PartsAt

@@ -1,6 +1,7 @@
 -- Laws of ranges: their length, their entries, and a range in two parts.
 use Prim.Native.Nat.{ℕ, zero, suc, _+_, _≤_, _<_}
 use native.Mathlib.Nat.{zero-add, add-zero, add-suc, suc-add, not-suc-le-zero}
+use native.Mathlib.Numerals.{add-one}
 use native.Mathlib.Omega.{arith}
 use mathlib.Core.Path.{_≡_, refl, sym, ap, _∙_}
 use mathlib.Core.Bool.{Bool, true, false}
@@ -60,3 +61,14 @@ pub at-every : (count : ℕ) (test : ℕ → Bool) → ((i : ℕ) → i < count 
 unfolding every
 at-every zero test h = refl
 at-every (suc count) test h = rw (at-every count test (λ i l. h i (omega arith)), h count (omega arith))
+
+pub every-more : (count : ℕ) (test : ℕ → Bool) → every count test ≡ true → test count ≡ true → every (count + 1) test ≡ true
+unfolding every
+every-more count test e f = rw (add-one count, e, f)
+
+pub every-not : (count : ℕ) (test : ℕ → Bool) (i : ℕ) → i < count → test i ≡ false → every count test ≡ false
+every-not count test i h e = go (every count test) refl
+  where
+    go : (t : Bool) → every count test ≡ t → t ≡ false
+    go true all = sym (every-at count test all i h) ∙ e
+    go false some = refl
