@@ -13,18 +13,18 @@ use Rattle.even_places.specs.Sets.{alike}
 use Rattle.even_places.specs.Rule.{firstRow}
 use Rattle.even_places.proofs.SetLaws.{alike-eq}
 
-alike-self : (A : List Bool) → alike A A ≡ true
+pub alike-self : (A : List Bool) → alike A A ≡ true
 unfolding alike
 alike-self [] = refl
 alike-self (true ∷ A) = alike-self A
 alike-self (false ∷ A) = alike-self A
 
-first-here : (A B : List Bool) (n : ℕ) (L : List (List Bool)) → 0 < n → alike A B ≡ true → firstRow A (replicate n B ++ L) ≡ 0
+pub first-here : (A B : List Bool) (n : ℕ) (L : List (List Bool)) → 0 < n → alike A B ≡ true → firstRow A (replicate n B ++ L) ≡ 0
 unfolding firstRow
 first-here A B zero L h e = absurd (not-suc-le-zero h)
 first-here A B (suc n) L h e = rw e
 
-first-later : (A B : List Bool) (n : ℕ) (L : List (List Bool)) → alike A B ≡ false → firstRow A (replicate n B ++ L) ≡ n + firstRow A L
+pub first-later : (A B : List Bool) (n : ℕ) (L : List (List Bool)) → alike A B ≡ false → firstRow A (replicate n B ++ L) ≡ n + firstRow A L
 unfolding firstRow
 first-later A B zero L e = sym (zero-add (firstRow A L))
 first-later A B (suc n) L e = rw e (omega (arith, first-later A B n L e))

@@ -13,7 +13,7 @@ use Rattle.even_places.specs.Sets.{has, ones}
 use Rattle.even_places.specs.Rule.{ofSet, block, others}
 use Rattle.even_places.proofs.SetLaws.{ones-drop}
 use Rattle.even_places.proofs.Positions.{others-below, others-length, joined-at}
-use Rattle.even_places.proofs.RowNumbers.{Good, setRows, WantedRow}
+use Rattle.even_places.proofs.RowNumbers.{Good, setRows}
 
 module _ (N K k : ℕ) where
   -- server m's row j of the set without k is server n's row i of set A without k
@@ -23,10 +23,10 @@ module _ (N K k : ℕ) where
     pub row-below : j < (N - 1) ^ (ones (set A k false) - 1)
     pub without : set (getD (setRows N K k n A) i []) k none ≡ getD (setRows N K k m (set A k false)) j []
 
-pub source-row : (N K k : ℕ) → 1 < N → k < K → (n : ℕ) (A : List Bool) (i : ℕ) → WantedRow N K k n A i → 1 < ones A
+pub source-row : (N K k : ℕ) → 1 < N → k < K → (n : ℕ) → n < N → (A : List Bool) (i : ℕ) → Good K A → has k A ≡ true → 1 < ones A → i < (N - 1) ^ (ones A - 1)
     → Source N K k n A i (getD (others N n) (i / (N - 1) ^ (ones A - 2)) 0) (i % (N - 1) ^ (ones A - 2))
 unfolding setRows
-source-row N K k wide known n A i wanted many = record {
+source-row N K k wide known n l A i good e many h = record {
   server-below = All-get 0 (others-below N K k wide known n l) (i / q) (omega (arith, turn, others-length N n l));
   set-good = record { long = length-set A k false ∙ good .long; some-ones = omega (arith, ones-drop A k e) };
   row-below = rw less (mod-lt i some);
@@ -37,18 +37,6 @@ source-row N K k wide known n A i wanted many = record {
       ∙ ap (λ (b : ℕ). getD (ofSet (set A k false) (block N K k b (getD (others N n) (i / q) 0))) (i % q) []) (sym less);
 }
   where
-    l : n < N
-    l = wanted .server-below
-
-    e : has k A ≡ true
-    e = wanted .in-set
-
-    good : Good K A
-    good = wanted .set-good
-
-    h : i < (N - 1) ^ (ones A - 1)
-    h = wanted .row-below
-
     q : ℕ
     q = (N - 1) ^ (ones A - 2)
 

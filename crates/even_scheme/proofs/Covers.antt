@@ -5,7 +5,7 @@ use mathlib.Core.Bool.{Bool, true}
 use mathlib.Core.List.{List, [], map}
 use mathlib.Core.Option.{none, some}
 use Prim.Native.Nat.{ℕ, _+_, _-_, _*_, _/_, _%_, _^_, _<_}
-use native.Mathlib.Nat.{suc-mul, mul-le-mul-right, mod-lt, div-add-mod', div-lt-iff-lt-mul}
+use native.Mathlib.Nat.{suc-mul, mul-le-mul-right, mod-lt, div-add-mod', div-lt-iff-lt-mul, one-le-pow}
 use native.Mathlib.Omega.{arith}
 use lib.ListN.{length, getD}
 use Rattle.lists.specs.Any.{Any}
@@ -63,7 +63,7 @@ module _ (sum : Sum) (N K S k : ℕ) (key : List ℕ) (answers : List (List ℕ)
   unfolding recoveredPart
   parts-within = each-part sum N K S k key answers (λ n A i wanted.
       let number = numberAt N K key k (wantedPlace sum N K S k n A i) in
-      let below : number < N ^ K = number-below sum N K S key valid wide k known (wantedPlace sum N K S k n A i) in
+      let below : number < N ^ K = number-below N K key k (wantedPlace sum N K S k n A i) (valid .good) known (one-le-pow K N (omega arith)) in
       omega (arith, whole n A i wanted, suc-mul number S, mul-le-mul-right S below))
 
   pub parts-cover : 0 < S → Covers (N ^ K * S) (recoveredParts sum N K S k key answers)

@@ -4,6 +4,7 @@ use mathlib.Core.Bool.{Bool}
 use mathlib.Core.List.{List, [], _∷_, _++_, map, map-append, flatMap, zipWith}
 use mathlib.Core.Option.{none, some}
 use Prim.Native.Nat.{ℕ, suc, _+_, _-_, _*_, _^_, _≤_, _<_}
+use native.Mathlib.Nat.{one-le-pow}
 use native.Mathlib.Omega.{arith}
 use lib.ListN.{length, getD, drop, length-map}
 use lib.Seq.{drop-at}
@@ -87,13 +88,16 @@ pub record Retrieval (sum : Sum) (N K S k : ℕ) (store key : List ℕ) : Type 0
   pub valid : Valid (evenScheme sum N K S) key
 
 module _ (sum : Sum) (N K S k : ℕ) (store key : List ℕ) (run : Retrieval sum N K S k store key) where
-  pub cell-symbols : {cs : List (ℕ × ℕ)} → All (λ cell. cell .0 < K) cs → Symbols S (map (cellSymbol sum N K S store key) cs)
+  -- the numbers of its queries name symbols
+  pub number-small : (p place : ℕ) → p < K → numberAt N K key p place < N ^ K
+  number-small p place h = number-below N K key p place (run .valid .good) h (one-le-pow K N (let w : 0 < N = omega (arith, run .wide) in w))
+
+  cell-symbols : {cs : List (ℕ × ℕ)} → All (λ cell. cell .0 < K) cs → Symbols S (map (cellSymbol sum N K S store key) cs)
   unfolding cellSymbol cellNumber
   cell-symbols allNil = none
   cell-symbols (allCons {x = cell} h a) =
       more
-      (symbol-symbol sum N K S store (run .long) (cell .0) (numberAt N K key (cell .0) (cell .1)) h
-      (number-below sum N K S key (run .valid) (run .wide) (cell .0) h (cell .1)) (run .bytes))
+      (symbol-symbol sum N K S store (run .long) (cell .0) (numberAt N K key (cell .0) (cell .1)) h (number-small (cell .0) (cell .1) h) (run .bytes))
       (cell-symbols a)
 
   pub row-symbols : (r : Row) → length r ≡ K → Symbols S (map (cellSymbol sum N K S store key) (cells 0 r))

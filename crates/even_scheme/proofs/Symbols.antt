@@ -1,34 +1,35 @@
 -- The symbols that a valid key's numbers name: each lies whole in the store, and in its message at its number.
 use mathlib.Core.Path.{_≡_, sym, ap, _∙_}
+use mathlib.Core.Bool.{true}
 use mathlib.Core.List.{List}
 use Prim.Native.Nat.{ℕ, _+_, _*_, _^_, _≤_, _<_}
-use native.Mathlib.Nat.{mul-assoc, add-mul, suc-mul, mul-le-mul-right, one-le-pow}
+use native.Mathlib.Nat.{mul-assoc, add-mul, suc-mul, mul-le-mul-right}
 use native.Mathlib.Decide.{decLt}
 use native.Mathlib.Omega.{arith}
 use lib.ListN.{length, getD, List·getD-eq-default, drop}
 use Rattle.lists.specs.Below.{Below}
+use Rattle.lists.specs.Distinct.{isPermutation}
 use Rattle.lists.specs.Parts.{cut}
-use Rattle.lists.proofs.Arranged.{Permutation}
+use Rattle.lists.proofs.Arranged.{Permutation, permutation-facts}
 use Rattle.lists.proofs.Below.{below-take, below-drop}
 use Rattle.lists.proofs.Parts.{cut-length}
 use Rattle.lists.proofs.PartsAt.{cut-cut}
+use Rattle.lists.proofs.Ranges.{every-at}
 use Rattle.symbol.specs.Sum.{Symbol, Sum}
-use Rattle.scheme.specs.Scheme.{Valid}
-use Rattle.even_scheme.specs.Even.{permutation, numberAt, symbolAt, evenScheme}
-use Rattle.even_scheme.proofs.Keys.{key-permutation}
+use Rattle.even_scheme.specs.Even.{permutation, numberAt, evenKeyGood, symbolAt}
 
 -- ---- The key's numbers
 
-pub number-below : (sum : Sum) (N K S : ℕ) (key : List ℕ) → Valid (evenScheme sum N K S) key → 1 < N → (p : ℕ) → p < K → (place : ℕ) → numberAt N K key p place < N ^ K
-unfolding numberAt
-number-below sum N K S key valid wide p h place = go (decLt place (N ^ K))
+pub number-below : (N K : ℕ) (key : List ℕ) (p place : ℕ) → evenKeyGood N K key ≡ true → p < K → 0 < N ^ K → numberAt N K key p place < N ^ K
+unfolding evenKeyGood numberAt
+number-below N K key p place good h some = go (decLt place (N ^ K))
   where
     numbers : Permutation (N ^ K) (permutation N K key p)
-    numbers = key-permutation sum N K S key valid p h
+    numbers = permutation-facts (N ^ K) (permutation N K key p) (every-at K (λ q. isPermutation (N ^ K) (permutation N K key q)) good p h)
 
     go : Dec (place < N ^ K) → getD (permutation N K key p) place 0 < N ^ K
     go (yes l) = numbers .low place l
-    go (no l) = rw (List·getD-eq-default (permutation N K key p) 0 {n = place} (omega (arith, numbers .long))) (one-le-pow K N (omega arith))
+    go (no l) = rw (List·getD-eq-default (permutation N K key p) 0 {n = place} (omega (arith, numbers .long))) some
 
 -- ---- The symbols of a store of K messages
 

@@ -67,7 +67,7 @@ module _ (sum : Sum) (N K S k : ℕ) (keeps : KeepsLength (sum .minus) S) (wide 
       go true e = here-long
       go false e =
           let many : 1 < ones A = omega (arith, eqb-false (ones A) 1 e, wanted .set-good .some-ones) in
-          let source = source-row N K k wide known n A i wanted many in
+          let source = source-row N K k wide known n (wanted .server-below) A i (wanted .set-good) (wanted .in-set) many (wanted .row-below) in
           keeps here there here-long (answered-long m (source .server-below) (set A k false) (source .set-good) j (source .row-below))
 
 module _ (sum : Sum) (N K S : ℕ) (keeps : KeepsLength (sum .minus) S) (fits : evenFits N K S ≡ true) (wanted : ℕ) (known : wanted < K)
