@@ -119,6 +119,10 @@ module _ (N K k : ℕ) (wide : 1 < N) (known : k < K) (n : ℕ) (l : n < N) wher
       R : List Row
       R = block N K k (ones A - 1) n
 
+  -- so it has a place of p if A has p, and else none
+  pub row-has : (A : List Bool) (i p : ℕ) → Good K A → i < (N - 1) ^ (ones A - 1) → isSome (getD (getD (setRows N K k n A) i []) p none) ≡ has p A
+  row-has A i p good h = sym (setOf-has (getD (setRows N K k n A) i []) p) ∙ ap (has p) (row-set A i good h)
+
 -- row i of set A at server n, where A has k
 pub record WantedRow (N K k n : ℕ) (A : List Bool) (i : ℕ) : Type 0 where
   pub server-below : n < N
@@ -161,4 +165,4 @@ place-found N K k v wide known h = (n, l, Any-imp in-wanted (Any-all (allSets-go
         place = ap (λ (r : Row). getD r k none) e ∙ f .4
 
         in-set : has k A ≡ true
-        in-set = ap (has k) (sym (row-set N K k wide known n l A i good row-below)) ∙ setOf-has (getD (setRows N K k n A) i []) k ∙ ap isSome place
+        in-set = sym (row-has N K k wide known n l A i k good row-below) ∙ ap isSome place

@@ -11,16 +11,16 @@ use lib.Dec.{eqb}
 use lib.ListN.{length, getD, set, length-map}
 use Rattle.symbol.specs.Sum.{Sum}
 use Rattle.scheme.specs.Scheme.{honestAnswers}
-use Rattle.even_places.specs.Sets.{has, ones}
+use Rattle.even_places.specs.Sets.{ones}
 use Rattle.even_places.specs.Rule.{Row, isSome, others, firstRow, layout}
-use Rattle.even_places.proofs.RowNumbers.{setRows, row-number, row-set, WantedRow}
-use Rattle.even_places.proofs.SetLaws.{setOf, setOf-has}
+use Rattle.even_places.proofs.RowNumbers.{setRows, row-number, row-set, row-has, WantedRow}
+use Rattle.even_places.proofs.SetLaws.{setOf}
 use Rattle.even_places.proofs.SourceRows.{source-row}
 use Rattle.even_scheme.specs.Even.{numberAt, symbolAt, answeredRow, sourceServer, sourceRow, recoveredSymbol, wantedPlace, evenScheme}
 use Rattle.even_scheme.proofs.HonestRows.{rowTotal, Retrieval, honest-row}
 use Rattle.even_scheme.proofs.RowSymbols.{row-more, row-alone}
 
-some-place : (o : Option ℕ) → isSome o ≡ true → (x : ℕ) × (o ≡ some x)
+pub some-place : (o : Option ℕ) → isSome o ≡ true → (x : ℕ) × (o ≡ some x)
 unfolding isSome
 some-place none e = absurd (false≢true e)
 some-place (some x) e = (x, refl)
@@ -44,7 +44,8 @@ module _ (sum : Sum) (N K S k : ℕ) (store key : List ℕ) (run : Retrieval sum
   long = sym (length-map row isSome) ∙ ap length its-set ∙ wanted .set-good .long
 
   place : (x : ℕ) × (getD row k none ≡ some x)
-  place = some-place (getD row k none) (sym (setOf-has row k) ∙ ap (has k) its-set ∙ wanted .in-set)
+  unfolding row
+  place = some-place (getD row k none) (row-has N K k (run .wide) (run .known) n (wanted .server-below) A i k (wanted .set-good) (wanted .row-below) ∙ wanted .in-set)
 
   pub recovered : recoveredSymbol sum N K S k (honestAnswers (evenScheme sum N K S) N store k key) n A i
       ≡ symbolAt sum N K S store k (numberAt N K key k (wantedPlace sum N K S k n A i))
