@@ -1,19 +1,17 @@
--- A query's rows by their numbers: row i of set A is row `firstRow A (layout N K) + i` of each server's query, and every place of
--- the wanted message stands in a row of some set with it.
+-- A query's rows by their numbers: row i of set A is row `firstRow A (layout N K) + i` of each server's query.
 use Prim.Native.Nat.{ℕ, suc, _+_, _-_, _^_, _≤_, _<_}
 use native.Mathlib.Nat.{one-le-pow}
 use native.Mathlib.Omega.{arith}
 use mathlib.Core.Path.{_≡_, refl, sym, ap, _∙_, fun-ext}
 use mathlib.Core.List.{List, [], _∷_, flatMap}
 use mathlib.Core.Bool.{Bool, true, false}
-use mathlib.Core.Option.{none, some}
+use mathlib.Core.Option.{none}
 use lib.ListN.{length, getD, replicate, getD-replicate, List·getD-map}
 use Rattle.lists.specs.Any.{Any}
 use Rattle.lists.specs.Ranges.{range}
 use Rattle.lists.specs.Sums.{bit, sum, All}
-use Rattle.lists.proofs.Any.{Any-imp, Any-all, Any-sum, Any-flatMap, Any-range}
+use Rattle.lists.proofs.Any.{Any-imp, Any-sum, Any-flatMap, Any-range}
 use Rattle.lists.proofs.Flat.{flatMap-flatMap}
-use Rattle.lists.proofs.FlatParts.{flatMap-find}
 use Rattle.lists.proofs.Sums.{All-imp, All-flatMap, All-every}
 use Rattle.even_places.specs.Sets.{has, ones, sets, allSets, alike}
 use Rattle.even_places.specs.Rule.{Row, isSome, same, ofSet, bySet, block, rows, layout, firstRow}
@@ -22,7 +20,6 @@ use Rattle.even_places.proofs.SetLaws.{setOf, setOf-has, alike-eq, alik
 use Rattle.even_places.proofs.Counts.{sets-fit}
 use Rattle.even_places.proofs.Joined.{group-size}
 use Rattle.even_places.proofs.Positions.{group-length}
-use Rattle.even_places.proofs.Found.{found}
 
 -- ---- The sets of a query
 
@@ -129,40 +126,3 @@ pub record WantedRow (N K k n : ℕ) (A : List Bool) (i : ℕ) : Type 0 where
   pub set-good : Good K A
   pub in-set : has k A ≡ true
   pub row-below : i < (N - 1) ^ (ones A - 1)
-
--- every place of the wanted message stands in such a row
-pub place-found : (N K k v : ℕ) → 1 < N → k < K → v < N ^ K
-    → (n : ℕ) × (n < N) × Any (λ A. (i : ℕ) × WantedRow N K k n A i × (getD (getD (setRows N K k n A) i []) k none ≡ some v)) (allSets K)
-unfolding isSome
-place-found N K k v wide known h = (n, l, Any-imp in-wanted (Any-all (allSets-good K) in-some))
-  where
-    f : (m : ℕ) × (m < N) × (j : ℕ) × (j < length (rows N K k m)) × (getD (getD (rows N K k m) j []) k none ≡ some v)
-    f = found N K k v wide known h
-
-    n : ℕ
-    n = f .0
-
-    l : n < N
-    l = f .1
-
-    row : Row
-    row = getD (rows N K k n) (f .2) []
-
-    in-some : Any (λ A. (i : ℕ) × (i < length (setRows N K k n A)) × (getD (setRows N K k n A) i [] ≡ row)) (allSets K)
-    in-some =
-        flatMap-find (setRows N K k n) [] row (allSets K) (f .2)
-        (rw rows-by-set at (f .3))
-        (ap (λ (rs : List Row). getD rs (f .2) []) (sym (rows-by-set N K k n)))
-
-    in-wanted : (A : List Bool) → Good K A × ((i : ℕ) × (i < length (setRows N K k n A)) × (getD (setRows N K k n A) i [] ≡ row))
-        → (i : ℕ) × WantedRow N K k n A i × (getD (getD (setRows N K k n A) i []) k none ≡ some v)
-    in-wanted A (good, (i, below, e)) = (i, record { server-below = l; set-good = good; in-set = in-set; row-below = row-below }, place)
-      where
-        row-below : i < (N - 1) ^ (ones A - 1)
-        row-below = omega (arith, below, setRows-length N K k wide known n l A good)
-
-        place : getD (getD (setRows N K k n A) i []) k none ≡ some v
-        place = ap (λ (r : Row). getD r k none) e ∙ f .4
-
-        in-set : has k A ≡ true
-        in-set = sym (row-has N K k wide known n l A i k good row-below) ∙ ap isSome place

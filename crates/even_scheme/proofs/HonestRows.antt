@@ -11,7 +11,7 @@ use lib.Seq.{drop-at}
 use Rattle.lists.specs.Below.{Below}
 use Rattle.lists.specs.Parts.{cut}
 use Rattle.lists.specs.Sums.{All, allNil, allCons, bit, sum}
-use Rattle.lists.proofs.FlatParts.{flatMap-cut}
+use Rattle.lists.proofs.PartsAt.{flatMap-cut}
 use Rattle.lists.proofs.Ranges.{map-range-at}
 use Rattle.lists.proofs.Sums.{All-imp}
 use Rattle.symbol.specs.Group.{AbelianGroup, Symbols, none, more}

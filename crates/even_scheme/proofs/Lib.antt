@@ -5,14 +5,14 @@ pub mod Exchange
 pub mod Reach
 pub mod Renaming
 pub mod Examples
-pub mod Assembled
 pub mod Symbols
 pub mod Answers
 pub mod HonestRows
 pub mod RowSymbols
 pub mod Recovery
+pub mod Once
+pub mod Assembled
 pub mod Covers
 pub mod Recovers
 pub mod Written
 pub mod Promises
-pub mod Once

@@ -1,14 +1,14 @@
--- Laws of `Any`: where an element with a property stands in a list that is made from others; and `Any` and `All` of a range.
+-- Laws of `Any`: an element with a property by its place, in joined lists, and in a range; and `All` of a range.
 use mathlib.Core.Path.{_≡_, subst}
-use mathlib.Core.Bool.{Bool, true, false}
-use mathlib.Core.List.{List, [], _∷_, _++_, map, flatMap}
+use mathlib.Core.List.{List, [], _∷_, _++_, flatMap}
 use Prim.Native.Nat.{ℕ, zero, suc, _+_, _<_}
 use native.Mathlib.Nat.{not-suc-le-zero}
 use native.Mathlib.Decide.{decLt}
 use native.Mathlib.Omega.{arith}
+use lib.ListN.{length, getD}
 use Rattle.lists.specs.Any.{Any, anyHere, anyLater}
 use Rattle.lists.specs.Ranges.{range}
-use Rattle.lists.specs.Sums.{All, allNil, allCons, keep, keepIf, sum}
+use Rattle.lists.specs.Sums.{All, allNil, allCons, sum}
 
 module _ {A : Type 0} where
   pub Any-left : {P : A → Type 0} {xs : List A} (ys : List A) → Any P xs → Any P (xs ++ ys)
@@ -23,19 +23,10 @@ module _ {A : Type 0} where
   Any-imp h (anyHere {x = x} p) = anyHere (h x p)
   Any-imp h (anyLater a) = anyLater (Any-imp h a)
 
-  -- what each element has, that one has too
-  pub Any-all : {P Q : A → Type 0} {xs : List A} → All P xs → Any Q xs → Any (λ x. P x × Q x) xs
-  Any-all (allCons p ps) (anyHere q) = anyHere (p, q)
-  Any-all (allCons p ps) (anyLater a) = anyLater (Any-all ps a)
-
-  pub Any-keep : {P : A → Type 0} (t : A → Bool) {xs : List A} → Any (λ x. P x × (t x ≡ true)) xs → Any P (keep t xs)
-  unfolding keep keepIf
-  Any-keep t (anyHere {x = x} p) = rw (p .1) (anyHere (p .0))
-  Any-keep {P} t (anyLater {x = x} {xs = xs} a) = go (t x) (Any-keep t a)
-    where
-      go : (b : Bool) → Any P (keep t xs) → Any P (keepIf b x (keep t xs))
-      go true r = anyLater r
-      go false r = r
+  pub Any-at : {P : A → Type 0} (d : A) (xs : List A) (i : ℕ) → i < length xs → P (getD xs i d) → Any P xs
+  Any-at d [] i h p = absurd (not-suc-le-zero h)
+  Any-at d (x ∷ xs) zero h p = anyHere p
+  Any-at d (x ∷ xs) (suc i) h p = anyLater (Any-at d xs i (omega arith) p)
 
   -- where a sum is not 0, some term is not
   pub Any-sum : (w : A → ℕ) (xs : List A) → 0 < sum w xs → Any (λ x. 0 < w x) xs
@@ -48,10 +39,6 @@ module _ {A : Type 0} where
       go (no p) f = anyLater (f (omega arith))
 
 module _ {A B : Type 0} where
-  pub Any-map : {P : A → Type 0} (g : B → A) {xs : List B} → Any (λ x. P (g x)) xs → Any P (map g xs)
-  Any-map g (anyHere p) = anyHere p
-  Any-map g (anyLater a) = anyLater (Any-map g a)
-
   pub Any-flatMap : {P : A → Type 0} (g : B → List A) {xs : List B} → Any (λ x. Any P (g x)) xs → Any P (flatMap g xs)
   unfolding flatMap
   Any-flatMap g (anyHere {x = x} {xs = xs} a) = Any-left (flatMap g xs) a

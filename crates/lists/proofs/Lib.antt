@@ -12,5 +12,4 @@ pub mod Writing
 pub mod Flat
 pub mod Elements
 pub mod Any
-pub mod FlatParts
 pub mod PartsAt

@@ -1,11 +1,13 @@
--- What stands where after `put`; a part of a part; and a part written back where it was read.
+-- What stands where after `put`; a part of a part; a part written back where it was read; and parts of one size, joined.
 use mathlib.Core.Path.{_≡_, refl, sym, ap, _∙_}
-use mathlib.Core.List.{List, [], _∷_, _++_}
-use Prim.Native.Nat.{ℕ, zero, suc, _+_, _≤_, _<_}
+use mathlib.Core.List.{List, [], _∷_, _++_, flatMap}
+use Prim.Native.Nat.{ℕ, zero, suc, _+_, _*_, _≤_, _<_}
+use native.Mathlib.Nat.{not-suc-le-zero, suc-mul, zero-mul}
 use native.Mathlib.Omega.{arith}
 use lib.ListN.{length, getD, take, drop, take-append-drop, List·getD-append}
-use lib.Seq.{length-take-le, take-take, drop-drop, getD-take, getD-drop, getD-append-add}
+use lib.Seq.{take-at, drop-append-add, length-take-le, take-take, drop-drop, getD-take, getD-drop, getD-append-add}
 use Rattle.lists.specs.Parts.{cut, put}
+use Rattle.lists.specs.Sums.{All, allNil, allCons}
 use Rattle.lists.proofs.Parts.{cut-length}
 
 module _ (at : ℕ) (bytes buffer : List ℕ) (fits : at + length bytes ≤ length buffer) where
@@ -53,3 +55,16 @@ cut-front (suc at) size (suc whole) (x ∷ buffer) h = cut-front at size whole b
 -- a part of a part
 pub cut-cut : (at size from whole : ℕ) (buffer : List ℕ) → at + size ≤ whole → cut at size (cut from whole buffer) ≡ cut (from + at) size buffer
 cut-cut at size from whole buffer h = cut-front at size whole (drop from buffer) h ∙ ap (take size) (drop-drop at from buffer)
+
+-- lists of bytes of one size: each is its part of them joined
+module _ {A : Type 0} (f : A → List ℕ) (size : ℕ) where
+  pub flatMap-cut : (d : A) {xs : List A} → All (λ x. length (f x) ≡ size) xs → (i : ℕ) → i < length xs
+      → cut (i * size) size (flatMap f xs) ≡ f (getD xs i d)
+  unfolding flatMap
+  flatMap-cut d allNil i h = absurd (not-suc-le-zero h)
+  flatMap-cut d (allCons {x = x} {xs = xs} e a) zero h =
+      ap (λ (n : ℕ). cut n size (f x ++ flatMap f xs)) (zero-mul size) ∙ take-at (f x) (flatMap f xs) size e
+  flatMap-cut d (allCons {x = x} {xs = xs} e a) (suc i) h =
+      ap (λ (n : ℕ). cut n size (f x ++ flatMap f xs)) (let s : suc i * size ≡ length (f x) + i * size = omega (arith, suc-mul i size) in s)
+      ∙ ap (λ (l : List ℕ). cut 0 size l) (drop-append-add (f x) (flatMap f xs) (i * size))
+      ∙ flatMap-cut d a i (omega arith)
