@@ -11,3 +11,4 @@ pub mod Marks
 pub mod Writing
 pub mod Flat
 pub mod Elements
+pub mod Ordered

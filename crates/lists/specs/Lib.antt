@@ -7,3 +7,4 @@ pub mod Arranged
 pub mod Pairs
 pub mod Marks
 pub mod Padded
+pub mod Lexicographic
