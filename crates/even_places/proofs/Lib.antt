@@ -3,12 +3,10 @@ pub mod Rows
 pub mod SetLaws
 pub mod Counts
 pub mod Joined
-pub mod Flat
 pub mod Order
 pub mod Positions
-pub mod Shuffle
-pub mod Hide
 pub mod Bytes
 pub mod Found
 pub mod Closed
 pub mod Lexicographic
+pub mod Places

@@ -5,8 +5,10 @@ use native.Mathlib.Omega.{arith}
 use mathlib.Core.Path.{_≡_, refl, sym, ap, _∙_}
 use mathlib.Core.Logic.{_≢_}
 use mathlib.Core.List.{List, [], _∷_, _++_, append-assoc, append-nil, flatMap}
-use mathlib.Core.Bool.{Bool, true, false}
+use mathlib.Core.Bool.{Bool, true, false, cond}
 use mathlib.Core.Option.{Option, none, some}
+use borrow.Author.Tests.{eqb-true, eqb-false}
+use lib.Dec.{eqb}
 use lib.ListN.{length, getD}
 use lib.Seq.{getD-set-same}
 use Rattle.lists.specs.Sums.{bit, sum, All, allNil, allCons}
@@ -79,8 +81,14 @@ module _ (N : ℕ) (f : ℕ → ℕ) (g : ℕ → ℕ → List ℕ) (turn : (b n
       ∙ range-append 0 (N * sum f (range 0 B)) (N * f B)
       ∙ ap (range 0) (sym (mul-add N (sum f (range 0 B)) (f B)) ∙ ap (λ s. N * s) (sym (sum-next f B)))
 
+module _ (N K k : ℕ) where
+  -- the places of message p that server n's rows of block b take anew, in the order made: of the wanted message those of its wanted
+  -- rows, of another those of its side rows
+  unfoldable pub newPlaces : ℕ → ℕ → ℕ → List ℕ
+  newPlaces p b n = placesOf p (cond (eqb p k) (wantedRows N K k b n) (sideRows N K k b n))
+
 module _ (N K k : ℕ) (wide : 1 < N) (known : k < K) where
-  pub other-order : (p : ℕ) → p < K → p ≢ k → flatMap (λ b. flatMap (λ n. placesOf p (sideRows N K k b n)) (range 0 N)) (range 0 K) ≡ range 0 (N ^ (K - 1))
+  other-order : (p : ℕ) → p < K → p ≢ k → flatMap (λ b. flatMap (λ n. placesOf p (sideRows N K k b n)) (range 0 N)) (range 0 K) ≡ range 0 (N ^ (K - 1))
   unfolding fresh
   other-order p hp d = in-order N (fresh N K k wide known p) (λ b n. placesOf p (sideRows N K k b n)) turn K ∙ ap (range 0) (other-total N K k wide known p hp d)
     where
@@ -90,7 +98,7 @@ module _ (N K k : ℕ) (wide : 1 < N) (known : k < K) where
           ∙ number-order K p (starts N K k wide known b n) (starts-length N K k wide known b n) (All-imp (λ A h. h .long) (sideSets-lack N K k wide known b))
           ∙ ap (λ s. range s (with p (sideSets N K k b))) (starts-at N K k wide known p b n hp)
 
-  pub wanted-order : flatMap (λ b. flatMap (λ n. placesOf k (wantedRows N K k b n)) (range 0 N)) (range 0 K) ≡ range 0 (N ^ K)
+  wanted-order : flatMap (λ b. flatMap (λ n. placesOf k (wantedRows N K k b n)) (range 0 N)) (range 0 K) ≡ range 0 (N ^ K)
   unfolding wantedRows
   wanted-order =
       in-order N (joins N K k) (λ b n. placesOf k (wantedRows N K k b n)) (λ b n l. join-order k (used N (joins N K k) b n) (sources-long N K k wide known b n) ∙ ap (range (used N (joins N K k) b n)) (sources-length N K k wide known b n l)) K
@@ -98,3 +106,13 @@ module _ (N K k : ℕ) (wide : 1 < N) (known : k < K) where
     where
       one-less : suc (K - 1) ≡ K
       one-less = omega arith
+
+  -- block by block, and server by server in each, the places that a message gives are 0, 1, 2, and so on: all N^K of the wanted message, N^(K-1) of another
+  pub places-in-order : (p : ℕ) → p < K → flatMap (λ b. flatMap (newPlaces N K k p b) (range 0 N)) (range 0 K) ≡ range 0 (cond (eqb p k) (N ^ K) (N ^ (K - 1)))
+  unfolding newPlaces
+  places-in-order p hp = go (eqb p k) refl
+    where
+      go : (t : Bool) → eqb p k ≡ t
+          → flatMap (λ b. flatMap (λ n. placesOf p (cond t (wantedRows N K k b n) (sideRows N K k b n))) (range 0 N)) (range 0 K) ≡ range 0 (cond t (N ^ K) (N ^ (K - 1)))
+      go true e = ap (λ q. flatMap (λ b. flatMap (λ n. placesOf q (wantedRows N K k b n)) (range 0 N)) (range 0 K)) (eqb-true p k e) ∙ wanted-order
+      go false e = other-order p hp (eqb-false p k e)

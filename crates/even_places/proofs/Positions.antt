@@ -7,6 +7,7 @@ use mathlib.Core.Logic.{_≢_}
 use mathlib.Core.List.{List, [], _∷_, _++_, map, flatMap}
 use mathlib.Core.Bool.{Bool, true, false, not}
 use mathlib.Core.Option.{none, some}
+use borrow.Author.Tests.{eq-eqb, ne-eqb}
 use lib.ListN.{length, getD, set, length-replicate, length-set, length-map, length-append, List·getD-append, List·getD-map}
 use lib.Seq.{getD-append-add}
 use lib.Dec.{eqb}
@@ -18,7 +19,7 @@ use Rattle.even_places.specs.Rule.{Row, isSome, same, ofSet, others, blo
 use Rattle.even_places.proofs.SetLaws.{setOf, map-flatMap, keep-append, keep-sets, ones-drop}
 use Rattle.even_places.proofs.Joined.{same-layout, group-size, joined}
 use Rattle.even_places.proofs.Order.{range-append}
-use Rattle.even_places.proofs.Flat.{eqb-self, eqb-not, query-length}
+use Rattle.even_places.proofs.Places.{query-length}
 use Rattle.even_places.proofs.Counts.{range-length}
 
 cells-packs : (q : ℕ) (r : Row) → map (λ e. e .0) (cells q r) ≡ members q (setOf r)
@@ -61,14 +62,14 @@ module _ {A B : Type 0} (g : B → List A) (q : ℕ) (d : A) (e : B) where
 keep-apart : (n a M : ℕ) → ((i : ℕ) → i < M → a + i ≢ n) → keep (λ m. not (eqb m n)) (range a M) ≡ range a M
 unfolding keep keepIf range
 keep-apart n a zero h = refl
-keep-apart n a (suc M) h = rw (eqb-not a n (λ q. h 0 (omega arith) (omega arith))) (ap (λ l. a ∷ l) (keep-apart n (suc a) M (λ i l q. h (suc i) (omega arith) (omega arith))))
+keep-apart n a (suc M) h = rw (ne-eqb a n (λ q. h 0 (omega arith) (omega arith))) (ap (λ l. a ∷ l) (keep-apart n (suc a) M (λ i l q. h (suc i) (omega arith) (omega arith))))
 
 pub others-is : (N n : ℕ) → n < N → others N n ≡ range 0 n ++ range (suc n) (N - suc n)
 unfolding others keep keepIf range
 others-is N n l =
     ap (keep t) whole
     ∙ keep-append t (range 0 n) (n ∷ range (suc n) (N - suc n))
-    ∙ rw (keep-apart n 0 n (λ i h q. absurd (omega arith)), eqb-self n, keep-apart n (suc n) (N - suc n) (λ i h q. absurd (omega arith)))
+    ∙ rw (keep-apart n 0 n (λ i h q. absurd (omega arith)), eq-eqb n n refl, keep-apart n (suc n) (N - suc n) (λ i h q. absurd (omega arith)))
   where
     t : ℕ → Bool
     t m = not (eqb m n)
