@@ -11,6 +11,8 @@ use lib.ListN.{length, getD, set, replicate, length-replicate, getD-replicate, l
 use lib.Seq.{getD-set-other}
 use Rattle.lists.specs.Sums.{bit, keep, keepIf, sum, All, allNil, allCons}
 use Rattle.lists.specs.Ranges.{range}
+pub use Rattle.lists.proofs.Ranges.{range-length}
+use Rattle.lists.proofs.Ranges.{map-range-length, map-range-at}
 use Rattle.lists.proofs.Sums.{sum-append, sum-add, sum-mul, sum-ext, sum-all, sum-zero, sum-one, sum-flatMap, sum-keep, sum-swap, sum-next, sum-replicate, All-append, All-map, All-imp, All-flatMap, All-every, All-replicate, All-keep}
 use Rattle.even_places.specs.Sets.{has, sets, with, ones}
 use Rattle.even_places.specs.Rule.{Row, isSome, number, bySet, others, block, used, sideSets, sideRows, sources, joins, wantedRows, rows, rowCount}
@@ -31,17 +33,6 @@ sets-fit (suc K) (suc b) =
 not-true : (t : Bool) → not t ≡ true → t ≡ false
 not-true true e = sym e
 not-true false e = refl
-
-pub range-length : (a n : ℕ) → length (range a n) ≡ n
-unfolding range
-range-length a zero = refl
-range-length a (suc n) = ap suc (range-length (suc a) n)
-
-range-at : (f : ℕ → ℕ) (a n i : ℕ) → i < n → getD (map f (range a n)) i 0 ≡ f (a + i)
-unfolding range
-range-at f a zero i h = absurd (not-suc-le-zero h)
-range-at f a (suc n) zero h = ap f (sym (add-zero a))
-range-at f a (suc n) (suc i) h = range-at f (suc a) n i (omega arith) ∙ ap f (omega arith)
 
 keep-none : (t : List Bool → Bool) (L : List (List Bool)) → sum (λ A. bit (t A)) L ≡ 0 → keep t L ≡ []
 unfolding keep keepIf sum bit
@@ -122,11 +113,11 @@ module _ (N K k : ℕ) (wide : 1 < N) (known : k < K) where
 
   pub starts-length : (b n : ℕ) → length (starts b n) ≡ K
   unfolding starts
-  starts-length b n = length-map (range 0 K) (λ p. used N (fresh p) b n) ∙ range-length 0 K
+  starts-length b n = map-range-length (λ p. used N (fresh p) b n) K
 
   pub starts-at : (p b n : ℕ) → p < K → getD (starts b n) p 0 ≡ used N (fresh p) b n
   unfolding starts
-  starts-at p b n h = range-at (λ q. used N (fresh q) b n) 0 K p h ∙ ap (λ q. used N (fresh q) b n) (zero-add p)
+  starts-at p b n h = map-range-at (λ q. used N (fresh q) b n) K p 0 h
 
   pub side-is : (b n : ℕ) → sideRows N K k b n ≡ number (starts b n) (sideSets N K k b)
   unfolding sideRows starts fresh

@@ -9,4 +9,4 @@ pub mod Bytes
 pub mod Found
 pub mod Closed
 pub mod Lexicographic
-pub mod Places
+pub mod Flat

@@ -13,6 +13,7 @@ use lib.ListN.{length, getD}
 use lib.Seq.{getD-set-same}
 use Rattle.lists.specs.Sums.{bit, sum, All, allNil, allCons}
 use Rattle.lists.specs.Ranges.{range}
+pub use Rattle.lists.proofs.Ranges.{range-append}
 use Rattle.lists.proofs.Sums.{sum-next, All-imp}
 use Rattle.even_places.specs.Sets.{has, with}
 use Rattle.even_places.specs.Rule.{Row, give, after, number, join, used, sideSets, sideRows, joins, wantedRows}
@@ -27,11 +28,6 @@ held (some x) = x ∷ []
 unfoldable pub placesOf : ℕ → List Row → List ℕ
 unfolding held flatMap
 placesOf p rs = flatMap (λ r. held (getD r p none)) rs
-
-pub range-append : (a m n : ℕ) → range a m ++ range (a + m) n ≡ range a (m + n)
-unfolding range
-range-append a zero n = rw (add-zero a, zero-add n)
-range-append a (suc m) n = rw (add-suc a m, ← suc-add a m, suc-add m n) (ap (λ l. a ∷ l) (range-append (suc a) m n))
 
 each-last : (g : ℕ → List ℕ) (a n : ℕ) → flatMap g (range a (suc n)) ≡ flatMap g (range a n) ++ g (a + n)
 unfolding flatMap range

@@ -13,14 +13,13 @@ use lib.Seq.{getD-append-add}
 use lib.Dec.{eqb}
 use Rattle.lists.specs.Sums.{bit, keep, keepIf, sum, All, allNil, allCons}
 use Rattle.lists.specs.Ranges.{range}
+use Rattle.lists.proofs.Ranges.{range-append, range-at, range-below, range-length}
 use Rattle.lists.proofs.Sums.{All-imp, All-keep}
 use Rattle.even_places.specs.Sets.{has, ones, members}
 use Rattle.even_places.specs.Rule.{Row, isSome, same, ofSet, others, block, rows, cells, queryCells, layout, positions}
 use Rattle.even_places.proofs.SetLaws.{setOf, map-flatMap, keep-append, keep-sets, ones-drop}
 use Rattle.even_places.proofs.Joined.{same-layout, group-size, joined}
-use Rattle.even_places.proofs.Order.{range-append}
-use Rattle.even_places.proofs.Places.{query-length}
-use Rattle.even_places.proofs.Counts.{range-length}
+use Rattle.even_places.proofs.Flat.{query-length}
 
 cells-packs : (q : ℕ) (r : Row) → map (λ e. e .0) (cells q r) ≡ members q (setOf r)
 unfolding cells members setOf isSome
@@ -80,17 +79,6 @@ others-is N n l =
     whole : range 0 N ≡ range 0 n ++ (n ∷ range (suc n) (N - suc n))
     whole = ap (range 0) parts ∙ sym (range-append 0 n (suc (N - suc n))) ∙ ap (λ s. range 0 n ++ range s (suc (N - suc n))) (zero-add n)
 
-range-at : (a n i d : ℕ) → i < n → getD (range a n) i d ≡ a + i
-unfolding range
-range-at a zero i d h = absurd (not-suc-le-zero h)
-range-at a (suc n) zero d h = sym (add-zero a)
-range-at a (suc n) (suc i) d h = range-at (suc a) n i d (omega arith) ∙ omega arith
-
-upTo-below : (M a n : ℕ) → a + n ≤ M → All (λ m. m < M) (range a n)
-unfolding range
-upTo-below M a zero h = allNil
-upTo-below M a (suc n) h = allCons {x = a} (omega arith) (upTo-below M (suc a) n (omega arith))
-
 pub others-length : (N n : ℕ) → n < N → length (others N n) ≡ N - 1
 others-length N n l =
     ap length (others-is N n l) ∙ length-append (range 0 n) (range (suc n) (N - suc n)) ∙ omega (arith, range-length 0 n, range-length (suc n) (N - suc n))
@@ -120,7 +108,7 @@ module _ (N K k : ℕ) (wide : 1 < N) (known : k < K) where
 
   pub others-below : (n : ℕ) → n < N → All (λ m. m < N) (others N n)
   unfolding others
-  others-below n l = All-imp (λ m h. h .0) (All-keep (λ m. not (eqb m n)) (upTo-below N 0 N (omega arith)))
+  others-below n l = All-imp (λ m h. h .0) (All-keep (λ m. not (eqb m n)) (range-below N 0 N (omega arith)))
 
   -- (d) by position: of server n's rows of a set with k, number j (N-1)^b + r is joined from row r of the set without k at the j-th other server
   pub joined-at : (b n j r : ℕ) (A : List Bool) → n < N → has k A ≡ true → length A ≡ K → ones A ≡ suc (suc b) → j < N - 1 → r < (N - 1) ^ b

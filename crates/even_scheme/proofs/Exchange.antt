@@ -14,7 +14,7 @@ use Rattle.parameters.proofs.Bounds.{even-bounds}
 use Rattle.scheme.specs.Scheme.{Valid}
 use Rattle.symbol.specs.Sum.{Sum}
 use Rattle.even_places.specs.Rule.{queryCells}
-use Rattle.even_places.proofs.Places.{cells-inside, places-below, places-distinct}
+use Rattle.even_places.proofs.Flat.{cells-inside, places-below, places-distinct}
 use Rattle.even_scheme.specs.Even.{permutation, numberAt, evenQuery, evenScheme}
 use Rattle.even_scheme.proofs.Keys.{keyOf, key-permutation, key-whole, key-of, key-of-valid, key-same}
 use Rattle.even_scheme.proofs.Queries.{cells-labels}

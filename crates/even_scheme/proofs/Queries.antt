@@ -24,7 +24,7 @@ use Rattle.parameters.proofs.Bounds.{even-bounds}
 use Rattle.scheme.specs.Scheme.{Valid}
 use Rattle.symbol.specs.Sum.{Sum}
 use Rattle.even_places.specs.Rule.{queryCells, positions}
-use Rattle.even_places.proofs.Places.{cells-inside, places-below, places-distinct, query-length as cells-length}
+use Rattle.even_places.proofs.Flat.{cells-inside, places-below, places-distinct, query-length as cells-length}
 use Rattle.even_places.proofs.Positions.{same-members, positions-length}
 use Rattle.even_scheme.specs.Even.{permutation, numberAt, evenQuery, numbersOf, evenAdmits, evenScheme}
 use Rattle.even_scheme.proofs.Keys.{key-permutation}

@@ -13,7 +13,7 @@ use Rattle.parameters.proofs.Bounds.{even-bounds}
 use Rattle.scheme.specs.Scheme.{Valid}
 use Rattle.symbol.specs.Sum.{Sum}
 use Rattle.even_places.specs.Rule.{queryCells}
-use Rattle.even_places.proofs.Places.{places-below}
+use Rattle.even_places.proofs.Flat.{places-below}
 use Rattle.even_scheme.specs.Even.{permutation, numbersOf, evenScheme}
 use Rattle.even_scheme.proofs.Keys.{keyOf, key-permutation, key-whole, key-of, key-of-valid, key-same}
 use Rattle.even_scheme.proofs.Queries.{query-numbers, query-is, numbers-many}

@@ -12,3 +12,4 @@ pub mod Writing
 pub mod Flat
 pub mod Elements
 pub mod Ordered
+pub mod Kept

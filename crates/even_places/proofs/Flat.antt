@@ -1,4 +1,4 @@
--- The places in a server's query (003, Lemma 1). Those of one message, in query order, are different and below N^K (`places-distinct`,
+-- A query as its cells, each a message and a place (003, Lemma 1). The places of one message, in query order, are different and below N^K (`places-distinct`,
 -- `places-below`), and there are N^(K-1) (`places-many`); so a query has K N^(K-1) positions (`query-length`), each with a message and a
 -- place in bounds (`cells-inside`).
 use Prim.Native.Nat.{ℕ, suc, zero, _+_, _*_, _-_, _^_, _≤_, _<_}
@@ -101,7 +101,7 @@ below-one v n = go (decLt v n)
 -- ---- a server's query
 
 module _ (N K k : ℕ) (wide : 1 < N) (known : k < K) where
-  rows-long : (n : ℕ) → All (λ r. length r ≡ K) (rows N K k n)
+  pub rows-long : (n : ℕ) → All (λ r. length r ≡ K) (rows N K k n)
   unfolding rows bySet ofSet block
   rows-long n =
       All-flatMap (λ b. bySet (sets K (suc b)) (block N K k b n))
@@ -123,7 +123,7 @@ module _ (N K k : ℕ) (wide : 1 < N) (known : k < K) where
       go (no d) = other-many N K k wide known p n hp d l
 
   module _ (n : ℕ) (there : n < N) where
-    -- (a) each place of a message stands once at most in a query, and none from N^K on
+    --  each place of a message stands once at most in a query, and none from N^K on
     at-most : (p v : ℕ) → p < K → times v (under p (queryCells N K k n)) ≤ below v (N ^ K)
     at-most p v hp = rw (query-places p n) (go (ℕ-discrete p k))
       where
