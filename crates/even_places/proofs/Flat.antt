@@ -26,7 +26,8 @@ use Rattle.even_places.specs.Rule.{Row, isSome, same, ofSet, bySet, bloc
 use Rattle.even_places.specs.Sets.{sets}
 use Rattle.even_places.proofs.Rows.{below, below-lt, below-ge, is, hit, gives}
 use Rattle.even_places.proofs.SetLaws.{keep-flatMap, map-flatMap}
-use Rattle.even_places.proofs.Counts.{sum-const, block-fits, other-once, other-many, wanted-apart, wanted-many}
+use Rattle.even_places.proofs.Counts.{sum-const, block-fits}
+use Rattle.even_places.proofs.Totals.{other-once, other-many, wanted-apart, wanted-many}
 use Rattle.even_places.proofs.Order.{held, placesOf}
 
 -- ---- the cells of rows, message by message

@@ -1,13 +1,12 @@
 -- The sets of a block are in lexicographic order of their ascending lists of messages (`sets-ordered`).
 use Prim.Native.Nat.{ℕ, zero, suc, _<_}
 use native.Mathlib.Omega.{arith}
-use mathlib.Core.Path.{_≡_, refl, sym}
-use mathlib.Core.Bool.{Bool, true, false, _&&_, _||_}
-use mathlib.Core.List.{List, [], _∷_, map}
+use mathlib.Core.Path.{_≡_, refl}
+use mathlib.Core.Bool.{Bool, true, false}
+use mathlib.Core.List.{List, [], _∷_}
 use borrow.Author.Tests.{eq-eqb, lt-ltb, le-ltb}
-use lib.Dec.{eqb, ltb}
 use Rattle.lists.specs.Lexicographic.{precedes, Ordered, orderedNil, orderedCons}
-use Rattle.lists.specs.Sums.{All, allNil, allCons, bit, sum}
+use Rattle.lists.specs.Sums.{allNil, bit, sum}
 use Rattle.lists.proofs.Ordered.{Ordered-imp, Ordered-append, Ordered-map}
 use Rattle.lists.proofs.Sums.{All-imp, All-map, All-every}
 use Rattle.even_places.specs.Sets.{ones, members, sets}

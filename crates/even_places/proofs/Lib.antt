@@ -2,6 +2,7 @@ pub mod Choose
 pub mod Rows
 pub mod SetLaws
 pub mod Counts
+pub mod Totals
 pub mod Joined
 pub mod Order
 pub mod Positions

@@ -1,6 +1,6 @@
 -- Each message's places are used up in ascending order: those that rows take anew, in the order made, are 0, 1, 2, and so on.
 use Prim.Native.Nat.{ℕ, zero, suc, _+_, _*_, _-_, _^_, _≤_, _<_}
-use native.Mathlib.Nat.{zero-add, add-zero, add-suc, suc-add, mul-zero, zero-mul, mul-add, suc-mul, pow-succ'}
+use native.Mathlib.Nat.{zero-add, add-zero, mul-zero, zero-mul, mul-add, suc-mul, pow-succ'}
 use native.Mathlib.Omega.{arith}
 use mathlib.Core.Path.{_≡_, refl, sym, ap, _∙_}
 use mathlib.Core.Logic.{_≢_}
@@ -18,7 +18,8 @@ use Rattle.lists.proofs.Sums.{sum-next, All-imp}
 use Rattle.even_places.specs.Sets.{has, with}
 use Rattle.even_places.specs.Rule.{Row, give, after, number, join, used, sideSets, sideRows, joins, wantedRows}
 use Rattle.even_places.proofs.Rows.{next-at, after-at, after-length}
-use Rattle.even_places.proofs.Counts.{fresh, starts, starts-length, starts-at, side-is, sideSets-lack, sources-long, sources-length, other-total, wanted-total, used-all}
+use Rattle.even_places.proofs.Counts.{fresh, starts, starts-length, starts-at, side-is, sideSets-lack, sources-long, sources-length, used-all}
+use Rattle.even_places.proofs.Totals.{other-total, wanted-total}
 
 unfoldable pub held : Option ℕ → List ℕ
 held none = []

@@ -1,6 +1,6 @@
 -- Where the rows stand: the messages of a query by position, and the row that a wanted row is joined from.
 use Prim.Native.Nat.{ℕ, zero, suc, _+_, _*_, _-_, _^_, _≤_, _<_}
-use native.Mathlib.Nat.{zero-add, add-zero, zero-mul, suc-mul, not-suc-le-zero}
+use native.Mathlib.Nat.{zero-add, zero-mul, suc-mul, not-suc-le-zero}
 use native.Mathlib.Omega.{arith}
 use mathlib.Core.Path.{_≡_, refl, sym, ap, _∙_, fun-ext}
 use mathlib.Core.Logic.{_≢_}
