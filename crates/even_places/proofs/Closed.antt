@@ -1,6 +1,6 @@
 -- The places in closed form: by block, server, set, and number within the set.
 use Prim.Native.Nat.{ℕ, zero, suc, _+_, _*_, _-_, _^_, _<_}
-use native.Mathlib.Nat.{add-zero, add-suc, suc-add, mul-zero, zero-mul, mul-add, mul-one, suc-mul, mul-suc, not-suc-le-zero, pow-zero}
+use native.Mathlib.Nat.{add-zero, mul-zero, zero-mul, mul-add, mul-one, suc-mul, mul-suc, not-suc-le-zero, pow-zero}
 use native.Mathlib.Omega.{arith}
 use mathlib.Core.Path.{_≡_, refl, sym, ap, _∙_}
 use mathlib.Core.List.{List, [], _∷_, _++_, flatMap}
@@ -14,7 +14,7 @@ use Rattle.lists.proofs.Sums.{All-imp, All-replicate, sum-mul, sum-ext, sum-kee
 use Rattle.even_places.specs.Sets.{has, sets, with, ones, alike}
 use Rattle.even_places.specs.Rule.{Row, same, give, next, after, number, join, ofSet, block, used, sideSets, sideRows, wantedRows, joins, sources}
 use Rattle.even_places.proofs.Rows.{Lacks, SetLacks, number-lacks, next-at, after-at, after-length, number-length}
-use Rattle.even_places.proofs.SetLaws.{same-alike, alike-eq, alike-one, alike-carry, setOf-next, keep-append, keep-nothing, same-join, join-keep, ones-drop, has-drop}
+use Rattle.even_places.proofs.SetLaws.{same-alike, alike-eq, alike-one, alike-carry, setOf-next, keep-append, keep-nothing, join-keep, ones-drop, has-drop, join-append, join-length, join-at, join-same}
 use Rattle.even_places.proofs.Counts.{fresh, starts, starts-length, starts-at, side-is, side-length, side-lacks, lone-lacks}
 use Rattle.even_places.proofs.Joined.{with-k, without-k}
 use Rattle.even_places.proofs.Positions.{others-below, others-length, group-length}
@@ -127,29 +127,7 @@ module _ (N K k : ℕ) (wide : 1 < N) (known : k < K) where
       ∙ run-of-set K A p ((N - 1) ^ b) r (starts N K k wide known b n) (starts-length N K k wide known b n) (All-imp (λ B h. h .long) (lone-lacks N K k wide known b)) (omega (arith, lone-once b A long many lack)) g l
       ∙ ap (λ s. some (s + (N - 1) ^ b * with p (before A (keep (λ B. not (has k B)) (sets K (suc b)))) + r)) (starts-at N K k wide known p b n hp)
 
--- joined rows: the i-th has the i-th next place of k
-join-append : (k x : ℕ) (R S : List Row) → join k x (R ++ S) ≡ join k x R ++ join k (x + length R) S
-unfolding join
-join-append k x [] S = ap (λ s. join k s S) (sym (add-zero x))
-join-append k x (r ∷ R) S = ap (λ l. set r k (some x) ∷ l) (join-append k (suc x) R S ∙ ap (λ s. join k (suc x) R ++ join k s S) (suc-add x (length R) ∙ sym (add-suc x (length R))))
-
-join-length : (k x : ℕ) (R : List Row) → length (join k x R) ≡ length R
-unfolding join
-join-length k x [] = refl
-join-length k x (r ∷ R) = ap suc (join-length k (suc x) R)
-
 module _ (K k b : ℕ) (known : k < K) where
-  join-at : (x i : ℕ) {R : List Row} → All (Lacks K k b) R → i < length R → getD (getD (join k x R) i []) k none ≡ some (x + i)
-  unfolding join
-  join-at x i allNil h = absurd (not-suc-le-zero h)
-  join-at x zero (allCons {x = r} l a) h = getD-set-same r k (some x) none (omega (arith, l .long)) ∙ ap some (sym (add-zero x))
-  join-at x (suc i) (allCons l a) h = join-at (suc x) i a (omega arith) ∙ ap some (omega arith)
-
-  join-same : (A : List Bool) (t : Bool) (x : ℕ) {R : List Row} → has k A ≡ true → All (Lacks K k b) R → All (λ r. same (set A k false) r ≡ t) R → All (λ r. same A r ≡ t) (join k x R)
-  unfolding join
-  join-same A t x e allNil c = allNil
-  join-same A t x e (allCons {x = r} l a) (allCons d c) = allCons (same-join A r k x e (l .lack) (omega (arith, l .long)) ∙ d) (join-same A t (suc x) e a c)
-
   -- the place of k in the row numbered r of set A, joined from the rows of q times each set
   join-of-set : (A : List Bool) (x q r : ℕ) {L : List (List Bool)} (c : List ℕ) → length c ≡ K → All (SetLacks K k b) L → 0 < sum (λ B. bit (alike (set A k false) B)) L → has k A ≡ true → r < q
       → getD (getD (ofSet A (join k x (number c (flatMap (replicate q) L)))) r []) k none ≡ some (x + q * length (before (set A k false) L) + r)
@@ -184,7 +162,7 @@ module _ (K k b : ℕ) (known : k < K) where
       size = number-length c (replicate q B) ∙ length-replicate q B
 
       run : (t : Bool) → alike A′ B ≡ t → All (λ s. same A s ≡ t) (join k x R)
-      run t f = join-same A t x g lacks (All-imp (λ s d. d ∙ f) (same-run K A′ B q c (h .long) e))
+      run t f = join-same K k b known A t x g lacks (All-imp (λ s d. d ∙ f) (same-run K A′ B q c (h .long) e))
 
       go : (t : Bool) → alike A′ B ≡ t → 0 < bit t + sum (λ D. bit (alike A′ D)) L
           → (0 < sum (λ D. bit (alike A′ D)) L → getD (getD rest r []) k none ≡ some (x + length R + q * length (before A′ L) + r))
@@ -192,7 +170,7 @@ module _ (K k b : ℕ) (known : k < K) where
       go true f m′ ih =
           ap (λ s. getD (getD (s ++ rest) r []) k none) (keep-everything K A (run true f))
           ∙ ap (λ s. getD s k none) (List·getD-append (join k x R) rest [] r (omega (arith, join-length k x R, size)))
-          ∙ join-at x r lacks (omega (arith, size))
+          ∙ join-at K k b known x r lacks (omega (arith, size))
           ∙ ap some (omega (arith, mul-zero q))
       go false f m′ ih =
           ap (λ s. getD (getD (s ++ rest) r []) k none) (keep-nothing (same A) (run false f))

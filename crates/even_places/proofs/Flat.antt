@@ -19,7 +19,8 @@ use Rattle.lists.specs.Ranges.{range}
 use Rattle.lists.specs.Sums.{bit, keep, sum, All, allNil, allCons}
 use Rattle.lists.proofs.Below.{allBelow-below}
 use Rattle.lists.proofs.Distinct.{times, times-distinct, times-below}
-use Rattle.lists.proofs.Each.{All-at, All-both}
+use Rattle.lists.proofs.Each.{All-at, All-get}
+use Rattle.lists.proofs.Elements.{All-both}
 use Rattle.lists.proofs.Pairs.{under-cons, under-all}
 use Rattle.lists.proofs.Sums.{sum-append, sum-all, sum-one, sum-flatMap, sum-swap, sum-first, sum-range, All-imp, All-flatMap, All-every, All-keep}
 use Rattle.even_places.specs.Rule.{Row, isSome, same, ofSet, bySet, block, rows, cells, queryCells}
@@ -160,3 +161,7 @@ module _ (N K k : ℕ) (wide : 1 < N) (known : k < K) where
         ∙ sum-swap (λ r p. gives p r) (rows N K k n) (range 0 K)
         ∙ sum-range (λ p. sum (gives p) (rows N K k n)) (λ p. N ^ (K - 1)) K (λ p hp. gives-many p n hp there)
         ∙ sum-const (N ^ (K - 1)) K
+
+  -- by position
+  pub inside : (n i : ℕ) → n < N → i < length (queryCells N K k n) → (getD (queryCells N K k n) i (0, 0) .0 < K) × (getD (queryCells N K k n) i (0, 0) .1 < N ^ K)
+  inside n i l h = All-get {P = λ cell. (cell .0 < K) × (cell .1 < N ^ K)} (0, 0) (cells-inside n l) i h

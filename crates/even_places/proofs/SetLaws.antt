@@ -1,11 +1,11 @@
 -- Laws of sets of messages and of the rows of a set.
 use Prim.Native.Nat.{ℕ, zero, suc, _+_, _*_, _<_}
-use native.Mathlib.Nat.{zero-add, mul-zero, zero-mul, add-comm, not-suc-le-zero}
+use native.Mathlib.Nat.{zero-add, add-zero, add-suc, suc-add, mul-zero, zero-mul, add-comm, not-suc-le-zero}
 use native.Mathlib.Numerals.{add-one}
 use native.Mathlib.Omega.{arith}
 use mathlib.Core.Path.{_≡_, refl, sym, ap, _∙_, subst}
 use mathlib.Core.Logic.{_≢_}
-use mathlib.Core.List.{List, [], _∷_, map}
+use mathlib.Core.List.{List, [], _∷_, _++_, map}
 use mathlib.Core.Bool.{Bool, true, false, not, Bool·beq, _&&_, false≢true}
 use mathlib.Core.Option.{none, some}
 use lib.ListN.{length, getD, set, replicate}
@@ -172,3 +172,26 @@ has-drop [] zero = refl
 has-drop [] (suc k) = refl
 has-drop (a ∷ A) zero = refl
 has-drop (a ∷ A) (suc k) = has-drop A k
+
+-- joined rows: the i-th has the i-th next place of k
+pub join-append : (k x : ℕ) (R S : List Row) → join k x (R ++ S) ≡ join k x R ++ join k (x + length R) S
+unfolding join
+join-append k x [] S = ap (λ s. join k s S) (sym (add-zero x))
+join-append k x (r ∷ R) S = ap (λ l. set r k (some x) ∷ l) (join-append k (suc x) R S ∙ ap (λ s. join k (suc x) R ++ join k s S) (suc-add x (length R) ∙ sym (add-suc x (length R))))
+
+pub join-length : (k x : ℕ) (R : List Row) → length (join k x R) ≡ length R
+unfolding join
+join-length k x [] = refl
+join-length k x (r ∷ R) = ap suc (join-length k (suc x) R)
+
+module _ (K k b : ℕ) (known : k < K) where
+  pub join-at : (x i : ℕ) {R : List Row} → All (Lacks K k b) R → i < length R → getD (getD (join k x R) i []) k none ≡ some (x + i)
+  unfolding join
+  join-at x i allNil h = absurd (not-suc-le-zero h)
+  join-at x zero (allCons {x = r} l a) h = getD-set-same r k (some x) none (omega (arith, l .long)) ∙ ap some (sym (add-zero x))
+  join-at x (suc i) (allCons l a) h = join-at (suc x) i a (omega arith) ∙ ap some (omega arith)
+
+  pub join-same : (A : List Bool) (t : Bool) (x : ℕ) {R : List Row} → has k A ≡ true → All (Lacks K k b) R → All (λ r. same (set A k false) r ≡ t) R → All (λ r. same A r ≡ t) (join k x R)
+  unfolding join
+  join-same A t x e allNil c = allNil
+  join-same A t x e (allCons {x = r} l a) (allCons d c) = allCons (same-join A r k x e (l .lack) (omega (arith, l .long)) ∙ d) (join-same A t (suc x) e a c)

@@ -15,7 +15,3 @@ module _ {A : Type 0} {P : A → Type 0} (d : A) where
   All-get allNil i h = absurd (not-suc-le-zero h)
   All-get (allCons p a) zero h = p
   All-get (allCons p a) (suc i) h = All-get a i (omega arith)
-
-pub All-both : {A : Type 0} {P Q : A → Type 0} {l : List A} → All P l → All Q l → All (λ x. P x × Q x) l
-All-both allNil allNil = allNil
-All-both (allCons p a) (allCons q b) = allCons (p, q) (All-both a b)
