@@ -6,7 +6,8 @@ use mathlib.Core.Bool.{true}
 use mathlib.Core.List.{List, map}
 use Rattle.lists.specs.Arranged.{arranged, picked, completed}
 use Rattle.lists.specs.Pairs.{under}
-use Rattle.lists.proofs.Arranged.{Permutation, arranged-permutation, carried-shown, carried-back, picked-permutation, completed-permutation}
+use Rattle.lists.proofs.Arranged.{Permutation, arranged-permutation, carried-back, picked-permutation}
+use Rattle.lists.proofs.Completed.{carried-shown, completed-permutation}
 use Rattle.lists.proofs.Pairs.{under-length, same-under}
 use Rattle.lists.proofs.Sums.{All-imp}
 use Rattle.parameters.specs.Bounds.{evenFits}

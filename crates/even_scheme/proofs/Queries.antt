@@ -11,7 +11,6 @@ use Rattle.lists.specs.Arranged.{picked}
 use Rattle.lists.specs.Below.{allBelow}
 use Rattle.lists.specs.Distinct.{distinct}
 use Rattle.lists.specs.Pairs.{under}
-use Rattle.lists.specs.Sums.{sum}
 use Rattle.lists.proofs.Arranged.{picked-distinct}
 use Rattle.lists.proofs.Below.{below-allBelow}
 use Rattle.lists.proofs.Each.{All-get}

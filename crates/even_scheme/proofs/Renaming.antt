@@ -7,7 +7,8 @@ use mathlib.Core.List.{List}
 use lib.ListN.{length, getD}
 use Rattle.lists.specs.Arranged.{arranged, picked}
 use Rattle.lists.specs.Pairs.{under}
-use Rattle.lists.proofs.Arranged.{Permutation, arranged-permutation, completed-shown, picked-permutation, picked-picked, renamed-back, permutation-tests}
+use Rattle.lists.proofs.Arranged.{Permutation, arranged-permutation, picked-permutation, picked-picked, renamed-back, permutation-tests}
+use Rattle.lists.proofs.Completed.{completed-shown}
 use Rattle.parameters.specs.Bounds.{evenFits}
 use Rattle.parameters.proofs.Bounds.{even-bounds}
 use Rattle.scheme.specs.Scheme.{Valid}
