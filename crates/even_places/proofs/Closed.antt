@@ -12,8 +12,9 @@ use Rattle.lists.specs.Sums.{bit, keep, keepIf, sum, All, allNil, allCons}
 use Rattle.lists.specs.Ranges.{range}
 use Rattle.lists.proofs.Sums.{All-imp, All-replicate, sum-mul, sum-ext, sum-keep}
 use Rattle.even_places.specs.Sets.{has, sets, with, ones, alike}
+use Rattle.even_places.specs.Process.{afters}
 use Rattle.even_places.specs.Rule.{Row, same, give, next, after, number, join, ofSet, block, used, sideSets, sideRows, wantedRows, joins, sources}
-use Rattle.even_places.proofs.Rows.{Lacks, SetLacks, number-lacks, next-at, after-at, after-length, number-length}
+use Rattle.even_places.proofs.Rows.{Lacks, SetLacks, number-lacks, next-at, after-at, after-length, number-length, afters-length, afters-at}
 use Rattle.even_places.proofs.SetLaws.{same-alike, alike-eq, alike-one, alike-carry, setOf-next, keep-append, keep-nothing, join-keep, ones-drop, has-drop, join-append, join-length, join-at, join-same}
 use Rattle.even_places.proofs.Counts.{fresh, starts, starts-length, starts-at, side-is, side-length, side-lacks, lone-lacks}
 use Rattle.even_places.proofs.Joined.{with-k, without-k}
@@ -29,28 +30,12 @@ unfolding beforeIf alike
 before A [] = []
 before A (B ∷ L) = beforeIf (alike A B) B (before A L)
 
--- the counters after the rows of some sets
-afters : List (List Bool) → List ℕ → List ℕ
-afters [] c = c
-afters (A ∷ L) c = afters L (after A c)
-
 number-append : (L M : List (List Bool)) (c : List ℕ) → number c (L ++ M) ≡ number c L ++ number (afters L c) M
 unfolding number afters
 number-append [] M c = refl
 number-append (A ∷ L) M c = ap (λ l. next A c ∷ l) (number-append L M (after A c))
 
 module _ (K : ℕ) where
-  afters-length : {L : List (List Bool)} (c : List ℕ) → length c ≡ K → All (λ A. length A ≡ K) L → length (afters L c) ≡ K
-  unfolding afters
-  afters-length c e allNil = e
-  afters-length c e (allCons {x = A} h a) = afters-length (after A c) (after-length A c (h ∙ sym e) ∙ e) a
-
-  afters-at : (p : ℕ) {L : List (List Bool)} (c : List ℕ) → length c ≡ K → All (λ A. length A ≡ K) L → getD (afters L c) p 0 ≡ getD c p 0 + with p L
-  unfolding afters with sum
-  afters-at p c e allNil = sym (add-zero (getD c p 0))
-  afters-at p c e (allCons {x = A} h a) =
-      afters-at p (after A c) (after-length A c (h ∙ sym e) ∙ e) a ∙ omega (arith, after-at A c p (h ∙ sym e))
-
   -- the rows of q times one set: all of that set, the next place of p one more each time
   same-run : (A B : List Bool) (q : ℕ) (c : List ℕ) → length B ≡ K → length c ≡ K → All (λ r. same A r ≡ alike A B) (number c (replicate q B))
   unfolding number
@@ -87,7 +72,7 @@ module _ (K : ℕ) where
       c′ = afters (replicate q B) c
 
       e′ : length c′ ≡ K
-      e′ = afters-length c e (All-replicate q B h)
+      e′ = afters-length K c e (All-replicate q B h)
 
       rest : List Row
       rest = keep (same A) (number c′ (flatMap (replicate q) L))
@@ -106,7 +91,7 @@ module _ (K : ℕ) where
       go false f m′ ih =
           ap (λ s. getD (getD (s ++ rest) r []) p none) (keep-nothing (same A) (run f))
           ∙ ih (omega arith)
-          ∙ ap some (omega (arith, afters-at p c e (All-replicate q B h), with-replicate p q B, mul-add q (bit (has p B)) (with p (before A L))))
+          ∙ ap some (omega (arith, afters-at K p c e (All-replicate q B h), with-replicate p q B, mul-add q (bit (has p B)) (with p (before A L))))
 
 module _ (N K k : ℕ) (wide : 1 < N) (known : k < K) where
   lone-once : (b : ℕ) (A : List Bool) → length A ≡ K → ones A ≡ suc b → has k A ≡ false → sum (λ B. bit (alike A B)) (keep (λ B. not (has k B)) (sets K (suc b))) ≡ 1

@@ -67,6 +67,10 @@ module _ (N : ℕ) (f : ℕ → ℕ) where
   unfolding used
   used-all b = omega (arith, zero-mul (f b))
 
+  pub used-over : (b : ℕ) → used N f (suc b) 0 ≡ used N f b N
+  unfolding used
+  used-over b = omega (arith, zero-mul (f (suc b)), ap (λ s. N * s) (sum-next f b), mul-add N (sum f (range 0 b)) (f b))
+
 module _ (N K k : ℕ) (wide : 1 < N) (known : k < K) where
   pub lone-lacks : (b : ℕ) → All (SetLacks K k (suc b)) (keep (λ A. not (has k A)) (sets K (suc b)))
   lone-lacks b = All-imp (λ A h. record { long = h .0 .0; many = h .0 .1; lack = not-true (has k A) (h .1) }) (All-keep (λ A. not (has k A)) (sets-fit K (suc b)))

@@ -11,3 +11,4 @@ pub mod Found
 pub mod Closed
 pub mod Lexicographic
 pub mod Flat
+pub mod Process

@@ -14,6 +14,7 @@ use lib.Dec.{lt→ltb, eqb, ltb, T, eqb→eq, eqb·suc-suc, eqb·suc-zero, eqb·
 use Rattle.lists.specs.Sums.{bit, keep, sum, All, allNil, allCons}
 use Rattle.lists.specs.Ranges.{range}
 use Rattle.even_places.specs.Sets.{has, sets, with, ones}
+use Rattle.even_places.specs.Process.{afters}
 use Rattle.even_places.specs.Rule.{Row, isSome, same, give, next, after, number, join, bySet, ofSet, others}
 use Rattle.lists.proofs.Sums.{sum-mul, sum-ext, sum-all, sum-zero, sum-flatMap, sum-keep, sum-swap, sum-next, All-imp}
 use Rattle.even_places.proofs.Choose.{sets-none, sets-some}
@@ -157,6 +158,19 @@ pub number-length : (c : List ℕ) (L : List (List Bool)) → length (number c L
 unfolding number
 number-length c [] = refl
 number-length c (A ∷ L) = ap suc (number-length (after A c) L)
+
+-- and what follows it is the next place after them
+module _ (K : ℕ) where
+  pub afters-length : {L : List (List Bool)} (c : List ℕ) → length c ≡ K → All (λ A. length A ≡ K) L → length (afters L c) ≡ K
+  unfolding afters
+  afters-length c e allNil = e
+  afters-length c e (allCons {x = A} h a) = afters-length (after A c) (after-length A c (h ∙ sym e) ∙ e) a
+
+  pub afters-at : (p : ℕ) {L : List (List Bool)} (c : List ℕ) → length c ≡ K → All (λ A. length A ≡ K) L → getD (afters L c) p 0 ≡ getD c p 0 + with p L
+  unfolding afters with sum
+  afters-at p c e allNil = sym (add-zero (getD c p 0))
+  afters-at p c e (allCons {x = A} h a) =
+      afters-at p (after A c) (after-length A c (h ∙ sym e) ∙ e) a ∙ omega (arith, after-at A c p (h ∙ sym e))
 
 -- joining leaves alone what does not look at k, and gives k's places one after another
 pub join-sum : (h g : Row → ℕ) (k : ℕ) → ((r : Row) (x : ℕ) → h (set r k (some x)) ≡ g r) → (x : ℕ) (rs : List Row) → sum h (join k x rs) ≡ sum g rs

@@ -1,7 +1,7 @@
 -- How often each place stands in the queries, for every N, K and wanted message k: of another message than k each place below N^(K-1)
 -- stands once in each query (`other-once`), of k each place below N^K once in all queries together (`wanted-once`).
 use Prim.Native.Nat.{ℕ, zero, suc, _+_, _*_, _-_, _^_, _≤_, _<_}
-use native.Mathlib.Nat.{mul-zero, zero-mul, mul-add, not-suc-le-zero, pow-succ', eq-of-mul-eq-mul-left}
+use native.Mathlib.Nat.{mul-zero, not-suc-le-zero, pow-succ', eq-of-mul-eq-mul-left}
 use native.Mathlib.Omega.{arith}
 use mathlib.Core.Path.{_≡_, refl, sym, ap, _∙_, subst}
 use mathlib.Core.Logic.{_≢_}
@@ -17,7 +17,7 @@ use Rattle.even_places.specs.Sets.{has, sets, with}
 use Rattle.even_places.specs.Rule.{Row, isSome, number, others, used, sideSets, sideRows, sources, joins, wantedRows, rows}
 use Rattle.even_places.proofs.Choose.{gen, tail, gen-tail, gen-not, gen-both, full-has}
 use Rattle.even_places.proofs.Rows.{below, hit, is, gives, below-zero, number-hit, number-gives, join-sum, join-hit, join-gives, others-sum}
-use Rattle.even_places.proofs.Counts.{sets-zero, has-none, sum-const, used-next, used-all, up, fresh, starts, starts-length, starts-at, side-is, sideSets-lack, side-lacks, rows-sum, sideSets-sum, joins-is, sources-length, sources-long}
+use Rattle.even_places.proofs.Counts.{sets-zero, has-none, sum-const, used-next, used-all, used-over, up, fresh, starts, starts-length, starts-at, side-is, sideSets-lack, side-lacks, rows-sum, sideSets-sum, joins-is, sources-length, sources-long}
 
 keep-none : (t : List Bool → Bool) (L : List (List Bool)) → sum (λ A. bit (t A)) L ≡ 0 → keep t L ≡ []
 unfolding keep keepIf sum bit
@@ -30,10 +30,6 @@ keep-none t (A ∷ L) e = go (t A) e (keep-none t L (omega arith))
 
 sum-part : (f : ℕ → ℕ) (M n : ℕ) → n < M → f n ≤ sum f (range 0 M)
 sum-part f M n l = omega (arith, others-sum f M n l)
-
-used-over : (N : ℕ) (f : ℕ → ℕ) (b : ℕ) → used N f (suc b) 0 ≡ used N f b N
-unfolding used
-used-over N f b = omega (arith, zero-mul (f (suc b)), ap (λ s. N * s) (sum-next f b), mul-add N (sum f (range 0 b)) (f b))
 
 -- places that are handed out in turn, g b n of them v: over all servers and blocks each place below the last once
 module _ (N v : ℕ) (f : ℕ → ℕ) (g : ℕ → ℕ → ℕ) (turn : (b n : ℕ) → n < N → g b n + below v (used N f b n) ≡ below v (used N f b n + f b)) where

@@ -1,7 +1,7 @@
 -- Laws of `Ordered`: weaker relations, mapped and joined lists.
 use mathlib.Core.List.{List, _++_, map}
 use Rattle.lists.specs.Lexicographic.{Ordered, orderedNil, orderedCons}
-use Rattle.lists.specs.Sums.{All, allNil, allCons}
+use Rattle.lists.specs.Sums.{All, allCons}
 use Rattle.lists.proofs.Sums.{All-imp, All-append, All-map}
 
 module _ {A : Type 0} where
