@@ -1,4 +1,5 @@
--- The places in closed form: by block, server, set, and number within the set.
+-- The places in closed form, by block, server, set, and number within the set: in rows without the wanted message (`side-at`), and the
+-- wanted message's own (`wanted-at`, `wanted-first`).
 use Prim.Native.Nat.{ℕ, zero, suc, _+_, _*_, _-_, _^_, _<_}
 use native.Mathlib.Nat.{add-zero, mul-zero, zero-mul, mul-add, mul-one, suc-mul, mul-suc, not-suc-le-zero, pow-zero}
 use native.Mathlib.Omega.{arith}
@@ -10,12 +11,13 @@ use lib.ListN.{length, getD, set, replicate, length-replicate, List·getD-append
 use lib.Seq.{getD-append-add, getD-set-same}
 use Rattle.lists.specs.Sums.{bit, keep, keepIf, sum, All, allNil, allCons}
 use Rattle.lists.specs.Ranges.{range}
+use Rattle.lists.proofs.Kept.{keep-append, keep-nothing}
 use Rattle.lists.proofs.Sums.{All-imp, All-replicate, sum-mul, sum-ext, sum-keep}
 use Rattle.even_places.specs.Sets.{has, sets, with, ones, alike}
 use Rattle.even_places.specs.Process.{afters}
 use Rattle.even_places.specs.Rule.{Row, same, give, next, after, number, join, ofSet, block, used, sideSets, sideRows, wantedRows, joins, sources}
 use Rattle.even_places.proofs.Rows.{Lacks, SetLacks, number-lacks, next-at, after-at, after-length, number-length, afters-length, afters-at}
-use Rattle.even_places.proofs.SetLaws.{same-alike, alike-eq, alike-one, alike-carry, setOf-next, keep-append, keep-nothing, join-keep, ones-drop, has-drop, join-append, join-length, join-at, join-same}
+use Rattle.even_places.proofs.SetLaws.{same-alike, alike-eq, alike-one, alike-carry, setOf-next, join-keep, ones-drop, has-drop, join-append, join-length, join-at, join-same}
 use Rattle.even_places.proofs.Counts.{fresh, starts, starts-length, starts-at, side-is, side-length, side-lacks, lone-lacks}
 use Rattle.even_places.proofs.Joined.{with-k, without-k}
 use Rattle.even_places.proofs.Positions.{others-below, others-length, group-length}

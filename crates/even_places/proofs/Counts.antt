@@ -111,7 +111,7 @@ module _ (N K k : ℕ) (wide : 1 < N) (known : k < K) where
       empty = sum-replicate (λ o. bit (isSome o)) K none ∙ mul-zero K
   sources-lack (suc b) n = All-flatMap (sideRows N K k b) (All-every (side-lacks b) (others N n))
 
-  pub wanted-fits : (b n : ℕ) → All (Fits K (suc b)) (wantedRows N K k b n)
+  wanted-fits : (b n : ℕ) → All (Fits K (suc b)) (wantedRows N K k b n)
   unfolding wantedRows
   wanted-fits b n = join-fits K k b (used N (joins N K k) b n) known (sources-lack b n)
 

@@ -1,6 +1,6 @@
--- A query as its cells, each a message and a place (003, Lemma 1). The places of one message, in query order, are different and below N^K (`places-distinct`,
--- `places-below`), and there are N^(K-1) (`places-many`); so a query has K N^(K-1) positions (`query-length`), each with a message and a
--- place in bounds (`cells-inside`).
+-- A query as its cells, each a message and a place (003, Lemma 1). The places of one message, in query order, are different and below
+-- N^K (`places-distinct`, `places-below`), and there are N^(K-1) (`places-many`); so a query has K N^(K-1) positions (`query-length`),
+-- each with a message and a place in bounds (`cells-inside`).
 use Prim.Native.Nat.{ℕ, suc, zero, _+_, _*_, _-_, _^_, _≤_, _<_}
 use native.Mathlib.Nat.{zero-add, add-zero, pow-le-pow-right}
 use native.Mathlib.Omega.{arith}
@@ -17,6 +17,7 @@ use Rattle.lists.specs.Distinct.{distinct}
 use Rattle.lists.specs.Pairs.{under}
 use Rattle.lists.specs.Ranges.{range}
 use Rattle.lists.specs.Sums.{bit, keep, sum, All, allNil, allCons}
+use Rattle.lists.proofs.Kept.{keep-flatMap, map-flatMap}
 use Rattle.lists.proofs.Below.{allBelow-below}
 use Rattle.lists.proofs.Distinct.{times, times-distinct, times-below}
 use Rattle.lists.proofs.Each.{All-at, All-get}
@@ -26,7 +27,6 @@ use Rattle.lists.proofs.Sums.{sum-append, sum-all, sum-one, sum-flatMap, sum-sw
 use Rattle.even_places.specs.Rule.{Row, isSome, same, ofSet, bySet, block, rows, cells, queryCells}
 use Rattle.even_places.specs.Sets.{sets}
 use Rattle.even_places.proofs.Rows.{below, below-lt, below-ge, is, hit, gives}
-use Rattle.even_places.proofs.SetLaws.{keep-flatMap, map-flatMap}
 use Rattle.even_places.proofs.Counts.{sum-const, block-fits}
 use Rattle.even_places.proofs.Totals.{other-once, other-many, wanted-apart, wanted-many}
 use Rattle.even_places.proofs.Order.{held, placesOf}

@@ -1,4 +1,4 @@
--- Every place of the wanted message stands in some row of some server's query.
+-- Every place of the wanted message stands in some row of some server's query (`found`).
 use Prim.Native.Nat.{ℕ, zero, suc, _^_, _<_}
 use native.Mathlib.Omega.{arith}
 use native.Mathlib.Decide.{decLt}

@@ -1,4 +1,5 @@
--- Each message's places are used up in ascending order: those that rows take anew, in the order made, are 0, 1, 2, and so on.
+-- Each message's places are used up in ascending order: those that rows take anew, in the order made, are 0, 1, 2, and so on
+-- (`places-in-order`).
 use Prim.Native.Nat.{ℕ, zero, suc, _+_, _*_, _-_, _^_, _≤_, _<_}
 use native.Mathlib.Nat.{zero-add, add-zero, mul-zero, zero-mul, mul-add, suc-mul, pow-succ'}
 use native.Mathlib.Omega.{arith}

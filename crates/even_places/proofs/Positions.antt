@@ -1,4 +1,5 @@
--- Where the rows stand: the messages of a query by position, and the row that a wanted row is joined from.
+-- Where things stand: the message at each position of a query, the same at every server and for every wanted message (`same-members`),
+-- how many positions there are (`positions-length`), and the row that a wanted row is joined from, by number (`joined-at`).
 use Prim.Native.Nat.{ℕ, zero, suc, _+_, _*_, _-_, _^_, _≤_, _<_}
 use native.Mathlib.Nat.{zero-add, zero-mul, suc-mul, not-suc-le-zero}
 use native.Mathlib.Omega.{arith}
@@ -13,31 +14,32 @@ use lib.Seq.{getD-append-add}
 use lib.Dec.{eqb}
 use Rattle.lists.specs.Sums.{bit, keep, keepIf, sum, All, allNil, allCons}
 use Rattle.lists.specs.Ranges.{range}
+use Rattle.lists.proofs.Kept.{map-flatMap, keep-append}
 use Rattle.lists.proofs.Ranges.{range-append, range-at, range-below, range-length}
 use Rattle.lists.proofs.Sums.{All-imp, All-keep}
 use Rattle.even_places.specs.Sets.{has, ones, members}
 use Rattle.even_places.specs.Rule.{Row, isSome, same, ofSet, others, block, rows, cells, queryCells, layout, positions}
-use Rattle.even_places.proofs.SetLaws.{setOf, map-flatMap, keep-append, keep-sets, ones-drop}
+use Rattle.even_places.proofs.SetLaws.{setOf, keep-sets, ones-drop}
 use Rattle.even_places.proofs.Joined.{same-layout, group-size, joined}
 use Rattle.even_places.proofs.Flat.{query-length}
 
-cells-packs : (q : ℕ) (r : Row) → map (λ e. e .0) (cells q r) ≡ members q (setOf r)
+cells-members : (q : ℕ) (r : Row) → map (λ e. e .0) (cells q r) ≡ members q (setOf r)
 unfolding cells members setOf isSome
-cells-packs q [] = refl
-cells-packs q (none ∷ r) = cells-packs (suc q) r
-cells-packs q (some x ∷ r) = ap (λ l. q ∷ l) (cells-packs (suc q) r)
+cells-members q [] = refl
+cells-members q (none ∷ r) = cells-members (suc q) r
+cells-members q (some x ∷ r) = ap (λ l. q ∷ l) (cells-members (suc q) r)
 
 each-map : (g : List Bool → List ℕ) (rs : List Row) → flatMap (λ r. g (setOf r)) rs ≡ flatMap g (map setOf rs)
 unfolding flatMap
 each-map g [] = refl
 each-map g (r ∷ rs) = ap (λ l. g (setOf r) ++ l) (each-map g rs)
 
--- (e) the message at each position of a query depends on N and K alone
+-- the message at each position of a query depends on N and K alone
 pub same-members : (N K k n : ℕ) → 1 < N → k < K → n < N → map (λ e. e .0) (queryCells N K k n) ≡ flatMap (members 0) (layout N K)
 unfolding queryCells
 same-members N K k n wide known l =
     map-flatMap (λ e. e .0) (cells 0) (rows N K k n)
-    ∙ ap (λ g. flatMap g (rows N K k n)) (fun-ext (cells-packs 0))
+    ∙ ap (λ g. flatMap g (rows N K k n)) (fun-ext (cells-members 0))
     ∙ each-map (members 0) (rows N K k n)
     ∙ ap (flatMap (members 0)) (same-layout N K k wide known n l)
 
@@ -63,7 +65,7 @@ unfolding keep keepIf range
 keep-apart n a zero h = refl
 keep-apart n a (suc M) h = rw (ne-eqb a n (λ q. h 0 (omega arith) (omega arith))) (ap (λ l. a ∷ l) (keep-apart n (suc a) M (λ i l q. h (suc i) (omega arith) (omega arith))))
 
-pub others-is : (N n : ℕ) → n < N → others N n ≡ range 0 n ++ range (suc n) (N - suc n)
+others-is : (N n : ℕ) → n < N → others N n ≡ range 0 n ++ range (suc n) (N - suc n)
 unfolding others keep keepIf range
 others-is N n l =
     ap (keep t) whole
@@ -110,7 +112,7 @@ module _ (N K k : ℕ) (wide : 1 < N) (known : k < K) where
   unfolding others
   others-below n l = All-imp (λ m h. h .0) (All-keep (λ m. not (eqb m n)) (range-below N 0 N (omega arith)))
 
-  -- (d) by position: of server n's rows of a set with k, number j (N-1)^b + r is joined from row r of the set without k at the j-th other server
+  -- by number: of server n's rows of a set with k, number j (N-1)^b + r is joined from row r of the set without k at the j-th other server
   pub joined-at : (b n j r : ℕ) (A : List Bool) → n < N → has k A ≡ true → length A ≡ K → ones A ≡ suc (suc b) → j < N - 1 → r < (N - 1) ^ b
       → set (getD (ofSet A (block N K k (suc b) n)) (j * (N - 1) ^ b + r) []) k none ≡ getD (ofSet (set A k false) (block N K k b (getD (others N n) j 0))) r []
   joined-at b n j r A l e long many hj hr =

@@ -96,7 +96,7 @@ unfolding give isSome
 give-some true x = refl
 give-some false x = refl
 
-pub next-somes : (A : List Bool) (c : List ℕ) → length A ≡ length c → somes (next A c) ≡ ones A
+next-somes : (A : List Bool) (c : List ℕ) → length A ≡ length c → somes (next A c) ≡ ones A
 unfolding next somes ones sum
 next-somes [] c e = refl
 next-somes (a ∷ A) [] e = absurd (omega arith)
@@ -193,7 +193,7 @@ join-gives k x (allCons {x = r} {xs = rs} l a) =
     let here : gives k (set r k (some x)) ≡ 1 = ap (λ o. bit (isSome o)) (getD-set-same r k (some x) none l) in
     omega (arith, here, join-gives k (suc x) a)
 
-pub somes-set : (r : Row) (k x : ℕ) → k < length r → getD r k none ≡ none → somes (set r k (some x)) ≡ suc (somes r)
+somes-set : (r : Row) (k x : ℕ) → k < length r → getD r k none ≡ none → somes (set r k (some x)) ≡ suc (somes r)
 unfolding somes sum isSome bit
 somes-set [] k x h e = absurd (not-suc-le-zero h)
 somes-set (y ∷ r) zero x h e = omega (arith, ap (λ o. bit (isSome o)) e)
@@ -213,7 +213,7 @@ join-fits K k b x h (allCons {x = r} f a) =
     (join-fits K k b (suc x) h a)
 
 -- a row's set stands once among the sets of its size
-pub same-once : (r : Row) → sum (λ A. bit (same A r)) (sets (length r) (somes r)) ≡ 1
+same-once : (r : Row) → sum (λ A. bit (same A r)) (sets (length r) (somes r)) ≡ 1
 unfolding somes sum isSome bit sets same
 same-once [] = refl
 same-once (none ∷ r) = rw (zero-add (somes r)) (go (somes r) (same-once r))

@@ -1,4 +1,5 @@
--- Laws of sets of messages and of the rows of a set.
+-- Laws of sets of messages, each of which stands once among the sets of its size (`alike-one`), of the rows of a set, and of the rows that
+-- are joined from them.
 use Prim.Native.Nat.{ℕ, zero, suc, _+_, _*_, _<_}
 use native.Mathlib.Nat.{zero-add, add-zero, add-suc, suc-add, mul-zero, zero-mul, add-comm, not-suc-le-zero}
 use native.Mathlib.Numerals.{add-one}
@@ -128,7 +129,7 @@ keep-sets A (r ∷ rs) = go (same A r) refl (keep-sets A rs)
     go false e ih = rw (zero-add n) ih
 
 -- a row of a set has k if the set does
-pub same-has : (A : List Bool) (r : Row) (k : ℕ) → same A r ≡ true → has k A ≡ isSome (getD r k none)
+same-has : (A : List Bool) (r : Row) (k : ℕ) → same A r ≡ true → has k A ≡ isSome (getD r k none)
 same-has A r k e = ap (has k) (alike-eq A (setOf r) (sym (same-alike A r) ∙ e)) ∙ setOf-has r k
 
 pub same-not : (A : List Bool) (r : Row) (k : ℕ) → has k A ≢ isSome (getD r k none) → same A r ≡ false

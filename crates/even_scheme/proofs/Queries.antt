@@ -58,7 +58,7 @@ module _ (N K wanted server : ℕ) (wide : 1 < N) (known : wanted < K) (there : 
       (cells-labels ∙ sym (zip-firsts (positions N K) query (whole query long))) (λ p h. numbers p h ∙ sym (map-id (numbersOf N K p query)))
       ∙ zip-seconds (positions N K) query (whole query long)
 
-  pub query-size : (key : List ℕ) → length (evenQuery N K wanted server key) ≡ K * N ^ (K - 1)
+  query-size : (key : List ℕ) → length (evenQuery N K wanted server key) ≡ K * N ^ (K - 1)
   unfolding evenQuery
   query-size key = length-map (queryCells N K wanted server) (λ cell. numberAt N K key (cell .0) (cell .1)) ∙ cells-length N K wanted wide known server there
 
