@@ -1,4 +1,5 @@
--- A set of messages as one byte, bit p for message p: its ones are the set's messages.
+-- A set of messages as one byte, bit p for message p (`byte-has`): its ones are as many as the set's messages, so that the ones of a
+-- block's bytes are the block's number (`block-ones`).
 use Prim.Native.Nat.{ℕ, zero, suc, _+_, _*_, _^_, _/_, _%_, _<_}
 use native.Mathlib.Nat.{div-div-eq-div-mul, pow-succ', pow-suc, zero-div, div-one}
 use native.Mathlib.Omega.{arith}
@@ -8,8 +9,10 @@ use mathlib.Core.Bool.{Bool, true, false}
 use lib.ListN.{length}
 use lib.Arith.{digits-lt, digits-div, digits-mod}
 use lib.Count.{ones-step, ones as count, onesIn}
-use Rattle.lists.specs.Sums.{bit, sum}
-use Rattle.even_places.specs.Sets.{has, ones, byteOf}
+use Rattle.lists.specs.Sums.{bit, sum, All}
+use Rattle.lists.proofs.Sums.{All-imp}
+use Rattle.even_places.specs.Sets.{has, ones, byteOf, sets}
+use Rattle.even_places.proofs.Counts.{sets-fit}
 
 bit-small : (a : Bool) → bit a < 2
 unfolding bit
@@ -20,6 +23,9 @@ pub byte-ones : (A : List Bool) → count (byteOf A) ≡ ones A
 unfolding byteOf ones sum count onesIn
 byte-ones [] = refl
 byte-ones (a ∷ A) = ones-step (byteOf A * 2 + bit a) ∙ rw (digits-mod (byteOf A) {m = 2} (bit-small a), digits-div (byteOf A) {m = 2} (bit-small a), byte-ones A)
+
+pub block-ones : (K b : ℕ) → All (λ A. count (byteOf A) ≡ b) (sets K b)
+block-ones K b = All-imp (λ A h. byte-ones A ∙ h .1) (sets-fit K b)
 
 pub byte-has : (A : List Bool) (p : ℕ) → byteOf A / 2 ^ p % 2 ≡ bit (has p A)
 unfolding byteOf has bit

@@ -1,4 +1,5 @@
--- How many sets of messages there are, weighed by x to the power of their size.
+-- How many sets of messages there are, weighed by x to the power of their size: all (`gen-one`), without a message (`gen-not`), and with
+-- one and without another (`gen-both`).
 use Prim.Native.Nat.{ℕ, zero, suc, _+_, _*_, _^_, _<_}
 use native.Mathlib.Nat.{mul-add, mul-zero, zero-mul, one-mul, mul-one, suc-mul, mul-assoc, pow-zero, pow-succ', not-suc-le-zero}
 use native.Mathlib.Omega.{arith}
@@ -12,7 +13,7 @@ use Rattle.even_places.specs.Sets.{has, sets}
 use Rattle.lists.proofs.Sums.{sum-append, sum-map, sum-add, sum-mul, sum-ext, sum-zero, sum-first, sum-next}
 
 -- no set has more messages than there are
-pub sets-over : (K b : ℕ) → K < b → sets K b ≡ []
+sets-over : (K b : ℕ) → K < b → sets K b ≡ []
 unfolding sets
 sets-over zero zero h = absurd (not-suc-le-zero h)
 sets-over zero (suc b) h = refl
@@ -52,7 +53,7 @@ module _ (x : ℕ) where
   unfolding gen tail
   gen-tail K w = powers (λ b. sum w (sets K b)) K
 
-  pub gen-step : (K : ℕ) (w : List Bool → ℕ) → gen x (suc K) w ≡ x * gen x K (λ A. w (true ∷ A)) + gen x K (λ A. w (false ∷ A))
+  gen-step : (K : ℕ) (w : List Bool → ℕ) → gen x (suc K) w ≡ x * gen x K (λ A. w (true ∷ A)) + gen x K (λ A. w (false ∷ A))
   unfolding gen sum
   gen-step K w =
       let T : ℕ → ℕ = λ b. sum (λ A. w (true ∷ A)) (sets K b) in
@@ -75,10 +76,10 @@ module _ (x : ℕ) where
       no-sets : sum (λ A. w (false ∷ A)) [] ≡ 0
       no-sets = refl
 
-  pub gen-ext : (K : ℕ) {w v : List Bool → ℕ} → ((A : List Bool) → w A ≡ v A) → gen x K w ≡ gen x K v
+  gen-ext : (K : ℕ) {w v : List Bool → ℕ} → ((A : List Bool) → w A ≡ v A) → gen x K w ≡ gen x K v
   gen-ext K e = ap (gen x K) (fun-ext e)
 
-  pub gen-zero : (K : ℕ) → gen x K (λ A. 0) ≡ 0
+  gen-zero : (K : ℕ) → gen x K (λ A. 0) ≡ 0
   unfolding gen
   gen-zero K =
       sum-ext (λ b. x ^ b * sum (λ A. 0) (sets K b)) (λ b. 0) (λ b. rw (sum-zero (sets K b)) (mul-zero (x ^ b))) (range 0 (suc K)) ∙ sum-zero (range 0 (suc K))
@@ -91,7 +92,7 @@ module _ (x : ℕ) where
   twice : (K : ℕ) → x * (x * suc x ^ K) + x * suc x ^ K ≡ x * suc x ^ suc K
   twice K = sym (mul-add x (x * suc x ^ K) (suc x ^ K)) ∙ ap (λ s. x * s) (sym (suc-mul x (suc x ^ K)) ∙ sym (pow-succ' (suc x) K))
 
-  pub gen-has : (K p : ℕ) → p < suc K → gen x (suc K) (λ A. bit (has p A)) ≡ x * suc x ^ K
+  gen-has : (K p : ℕ) → p < suc K → gen x (suc K) (λ A. bit (has p A)) ≡ x * suc x ^ K
   unfolding has bit
   gen-has K zero h = gen-step K (λ A. bit (has 0 A)) ∙ omega (arith, ap (λ s. x * s) (gen-one K), gen-zero K)
   gen-has zero (suc p) h = absurd (omega arith)
@@ -132,7 +133,7 @@ module _ (x : ℕ) where
       gen-step (suc (suc K)) (λ A. bit (not (has (suc k) A)) * bit (has (suc p) A)) ∙ omega (arith, ih, ap (λ s. x * s) ih, twice K)
 
 -- the empty set has no message
-pub none-has : (K p : ℕ) → sum (λ A. bit (has p A)) (sets K 0) ≡ 0
+none-has : (K p : ℕ) → sum (λ A. bit (has p A)) (sets K 0) ≡ 0
 unfolding has bit sets sum
 none-has zero zero = refl
 none-has zero (suc p) = refl

@@ -1,6 +1,7 @@
--- The places in closed form: by block, server, set, and number within the set.
+-- The places in closed form, by block, server, set, and number within the set: in rows without the wanted message (`side-at`), and the
+-- wanted message's own (`wanted-at`, `wanted-first`).
 use Prim.Native.Nat.{ℕ, zero, suc, _+_, _*_, _-_, _^_, _<_}
-use native.Mathlib.Nat.{add-zero, add-suc, suc-add, mul-zero, zero-mul, mul-add, mul-one, suc-mul, mul-suc, not-suc-le-zero, pow-zero}
+use native.Mathlib.Nat.{add-zero, mul-zero, zero-mul, mul-add, mul-one, suc-mul, mul-suc, not-suc-le-zero, pow-zero}
 use native.Mathlib.Omega.{arith}
 use mathlib.Core.Path.{_≡_, refl, sym, ap, _∙_}
 use mathlib.Core.List.{List, [], _∷_, _++_, flatMap}
@@ -10,11 +11,13 @@ use lib.ListN.{length, getD, set, replicate, length-replicate, List·getD-append
 use lib.Seq.{getD-append-add, getD-set-same}
 use Rattle.lists.specs.Sums.{bit, keep, keepIf, sum, All, allNil, allCons}
 use Rattle.lists.specs.Ranges.{range}
+use Rattle.lists.proofs.Kept.{keep-append, keep-nothing}
 use Rattle.lists.proofs.Sums.{All-imp, All-replicate, sum-mul, sum-ext, sum-keep}
 use Rattle.even_places.specs.Sets.{has, sets, with, ones, alike}
+use Rattle.even_places.specs.Process.{afters}
 use Rattle.even_places.specs.Rule.{Row, same, give, next, after, number, join, ofSet, block, used, sideSets, sideRows, wantedRows, joins, sources}
-use Rattle.even_places.proofs.Rows.{Lacks, SetLacks, number-lacks, next-at, after-at, after-length, number-length}
-use Rattle.even_places.proofs.SetLaws.{same-alike, alike-eq, alike-one, alike-carry, setOf-next, keep-append, keep-nothing, same-join, join-keep, ones-drop, has-drop}
+use Rattle.even_places.proofs.Rows.{Lacks, SetLacks, number-lacks, next-at, after-at, after-length, number-length, afters-length, afters-at}
+use Rattle.even_places.proofs.SetLaws.{same-alike, alike-eq, alike-one, alike-carry, setOf-next, join-keep, ones-drop, has-drop, join-append, join-length, join-at, join-same}
 use Rattle.even_places.proofs.Counts.{fresh, starts, starts-length, starts-at, side-is, side-length, side-lacks, lone-lacks}
 use Rattle.even_places.proofs.Joined.{with-k, without-k}
 use Rattle.even_places.proofs.Positions.{others-below, others-length, group-length}
@@ -29,28 +32,12 @@ unfolding beforeIf alike
 before A [] = []
 before A (B ∷ L) = beforeIf (alike A B) B (before A L)
 
--- the counters after the rows of some sets
-afters : List (List Bool) → List ℕ → List ℕ
-afters [] c = c
-afters (A ∷ L) c = afters L (after A c)
-
 number-append : (L M : List (List Bool)) (c : List ℕ) → number c (L ++ M) ≡ number c L ++ number (afters L c) M
 unfolding number afters
 number-append [] M c = refl
 number-append (A ∷ L) M c = ap (λ l. next A c ∷ l) (number-append L M (after A c))
 
 module _ (K : ℕ) where
-  afters-length : {L : List (List Bool)} (c : List ℕ) → length c ≡ K → All (λ A. length A ≡ K) L → length (afters L c) ≡ K
-  unfolding afters
-  afters-length c e allNil = e
-  afters-length c e (allCons {x = A} h a) = afters-length (after A c) (after-length A c (h ∙ sym e) ∙ e) a
-
-  afters-at : (p : ℕ) {L : List (List Bool)} (c : List ℕ) → length c ≡ K → All (λ A. length A ≡ K) L → getD (afters L c) p 0 ≡ getD c p 0 + with p L
-  unfolding afters with sum
-  afters-at p c e allNil = sym (add-zero (getD c p 0))
-  afters-at p c e (allCons {x = A} h a) =
-      afters-at p (after A c) (after-length A c (h ∙ sym e) ∙ e) a ∙ omega (arith, after-at A c p (h ∙ sym e))
-
   -- the rows of q times one set: all of that set, the next place of p one more each time
   same-run : (A B : List Bool) (q : ℕ) (c : List ℕ) → length B ≡ K → length c ≡ K → All (λ r. same A r ≡ alike A B) (number c (replicate q B))
   unfolding number
@@ -87,7 +74,7 @@ module _ (K : ℕ) where
       c′ = afters (replicate q B) c
 
       e′ : length c′ ≡ K
-      e′ = afters-length c e (All-replicate q B h)
+      e′ = afters-length K c e (All-replicate q B h)
 
       rest : List Row
       rest = keep (same A) (number c′ (flatMap (replicate q) L))
@@ -106,7 +93,7 @@ module _ (K : ℕ) where
       go false f m′ ih =
           ap (λ s. getD (getD (s ++ rest) r []) p none) (keep-nothing (same A) (run f))
           ∙ ih (omega arith)
-          ∙ ap some (omega (arith, afters-at p c e (All-replicate q B h), with-replicate p q B, mul-add q (bit (has p B)) (with p (before A L))))
+          ∙ ap some (omega (arith, afters-at K p c e (All-replicate q B h), with-replicate p q B, mul-add q (bit (has p B)) (with p (before A L))))
 
 module _ (N K k : ℕ) (wide : 1 < N) (known : k < K) where
   lone-once : (b : ℕ) (A : List Bool) → length A ≡ K → ones A ≡ suc b → has k A ≡ false → sum (λ B. bit (alike A B)) (keep (λ B. not (has k B)) (sets K (suc b))) ≡ 1
@@ -127,29 +114,7 @@ module _ (N K k : ℕ) (wide : 1 < N) (known : k < K) where
       ∙ run-of-set K A p ((N - 1) ^ b) r (starts N K k wide known b n) (starts-length N K k wide known b n) (All-imp (λ B h. h .long) (lone-lacks N K k wide known b)) (omega (arith, lone-once b A long many lack)) g l
       ∙ ap (λ s. some (s + (N - 1) ^ b * with p (before A (keep (λ B. not (has k B)) (sets K (suc b)))) + r)) (starts-at N K k wide known p b n hp)
 
--- joined rows: the i-th has the i-th next place of k
-join-append : (k x : ℕ) (R S : List Row) → join k x (R ++ S) ≡ join k x R ++ join k (x + length R) S
-unfolding join
-join-append k x [] S = ap (λ s. join k s S) (sym (add-zero x))
-join-append k x (r ∷ R) S = ap (λ l. set r k (some x) ∷ l) (join-append k (suc x) R S ∙ ap (λ s. join k (suc x) R ++ join k s S) (suc-add x (length R) ∙ sym (add-suc x (length R))))
-
-join-length : (k x : ℕ) (R : List Row) → length (join k x R) ≡ length R
-unfolding join
-join-length k x [] = refl
-join-length k x (r ∷ R) = ap suc (join-length k (suc x) R)
-
 module _ (K k b : ℕ) (known : k < K) where
-  join-at : (x i : ℕ) {R : List Row} → All (Lacks K k b) R → i < length R → getD (getD (join k x R) i []) k none ≡ some (x + i)
-  unfolding join
-  join-at x i allNil h = absurd (not-suc-le-zero h)
-  join-at x zero (allCons {x = r} l a) h = getD-set-same r k (some x) none (omega (arith, l .long)) ∙ ap some (sym (add-zero x))
-  join-at x (suc i) (allCons l a) h = join-at (suc x) i a (omega arith) ∙ ap some (omega arith)
-
-  join-same : (A : List Bool) (t : Bool) (x : ℕ) {R : List Row} → has k A ≡ true → All (Lacks K k b) R → All (λ r. same (set A k false) r ≡ t) R → All (λ r. same A r ≡ t) (join k x R)
-  unfolding join
-  join-same A t x e allNil c = allNil
-  join-same A t x e (allCons {x = r} l a) (allCons d c) = allCons (same-join A r k x e (l .lack) (omega (arith, l .long)) ∙ d) (join-same A t (suc x) e a c)
-
   -- the place of k in the row numbered r of set A, joined from the rows of q times each set
   join-of-set : (A : List Bool) (x q r : ℕ) {L : List (List Bool)} (c : List ℕ) → length c ≡ K → All (SetLacks K k b) L → 0 < sum (λ B. bit (alike (set A k false) B)) L → has k A ≡ true → r < q
       → getD (getD (ofSet A (join k x (number c (flatMap (replicate q) L)))) r []) k none ≡ some (x + q * length (before (set A k false) L) + r)
@@ -184,7 +149,7 @@ module _ (K k b : ℕ) (known : k < K) where
       size = number-length c (replicate q B) ∙ length-replicate q B
 
       run : (t : Bool) → alike A′ B ≡ t → All (λ s. same A s ≡ t) (join k x R)
-      run t f = join-same A t x g lacks (All-imp (λ s d. d ∙ f) (same-run K A′ B q c (h .long) e))
+      run t f = join-same K k b known A t x g lacks (All-imp (λ s d. d ∙ f) (same-run K A′ B q c (h .long) e))
 
       go : (t : Bool) → alike A′ B ≡ t → 0 < bit t + sum (λ D. bit (alike A′ D)) L
           → (0 < sum (λ D. bit (alike A′ D)) L → getD (getD rest r []) k none ≡ some (x + length R + q * length (before A′ L) + r))
@@ -192,7 +157,7 @@ module _ (K k b : ℕ) (known : k < K) where
       go true f m′ ih =
           ap (λ s. getD (getD (s ++ rest) r []) k none) (keep-everything K A (run true f))
           ∙ ap (λ s. getD s k none) (List·getD-append (join k x R) rest [] r (omega (arith, join-length k x R, size)))
-          ∙ join-at x r lacks (omega (arith, size))
+          ∙ join-at K k b known x r lacks (omega (arith, size))
           ∙ ap some (omega (arith, mul-zero q))
       go false f m′ ih =
           ap (λ s. getD (getD (s ++ rest) r []) k none) (keep-nothing (same A) (run false f))

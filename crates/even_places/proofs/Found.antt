@@ -1,4 +1,4 @@
--- Every place of the wanted message stands in some row of some server's query.
+-- Every place of the wanted message stands in some row of some server's query (`found`).
 use Prim.Native.Nat.{ℕ, zero, suc, _^_, _<_}
 use native.Mathlib.Omega.{arith}
 use native.Mathlib.Decide.{decLt}
@@ -13,7 +13,7 @@ use Rattle.lists.specs.Ranges.{range}
 use Rattle.lists.proofs.Sums.{sum-next}
 use Rattle.even_places.specs.Rule.{rows}
 use Rattle.even_places.proofs.Rows.{below-lt, is, hit}
-use Rattle.even_places.proofs.Counts.{wanted-once}
+use Rattle.even_places.proofs.Totals.{wanted-once}
 
 -- where a sum is not 0, some term is not
 in-list : {A : Type 0} (w : A → ℕ) (d : A) (l : List A) → 0 < sum w l → (i : ℕ) × (i < length l) × (0 < w (getD l i d))

@@ -1,4 +1,5 @@
--- The sets of a query's rows, and the rows that wanted rows are joined from.
+-- The sets of a query's rows are the same at every server and for every wanted message (`same-layout`), and the rows of a set with the
+-- wanted message are joined from the other servers' rows of the set without it (`joined`).
 use Prim.Native.Nat.{ℕ, zero, suc, _*_, _-_, _^_, _<_}
 use native.Mathlib.Nat.{zero-mul, one-mul, mul-one, mul-assoc, mul-add, suc-mul, pow-zero, pow-succ'}
 use native.Mathlib.Omega.{arith}
@@ -9,11 +10,12 @@ use mathlib.Core.Option.{none, some}
 use lib.ListN.{length, set, replicate, length-set}
 use Rattle.lists.specs.Sums.{bit, keep, sum}
 use Rattle.lists.specs.Ranges.{range}
+use Rattle.lists.proofs.Kept.{keep-append, keep-nothing, keep-flatMap, flatMap-all, map-flatMap}
 use Rattle.lists.proofs.Sums.{sum-append, sum-mul, sum-ext, sum-all, sum-flatMap, All-imp}
 use Rattle.even_places.specs.Sets.{has, sets, ones, alike}
 use Rattle.even_places.specs.Rule.{isSome, same, bySet, ofSet, others, block, used, sideRows, sources, joins, wantedRows, rows, layout}
 use Rattle.even_places.proofs.Rows.{join-sum, others-sum}
-use Rattle.even_places.proofs.SetLaws.{setOf, same-alike, alike-one, alike-carry, alike-join, ones-drop, setOf-set, number-sets, keep-sets, keep-append, keep-nothing, keep-flatMap, flatMap-all, map-flatMap, same-not, join-keep, join-have, has-drop}
+use Rattle.even_places.proofs.SetLaws.{setOf, same-alike, alike-one, alike-carry, alike-join, ones-drop, setOf-set, number-sets, keep-sets, same-not, join-keep, join-have, has-drop}
 use Rattle.even_places.proofs.Counts.{sets-fit, sets-zero, has-none, sum-const, either, starts, starts-length, sideSets-sum, side-is, sideSets-lack, side-lacks, sources-lack}
 
 setOf-none : (K : ℕ) → setOf (replicate K none) ≡ replicate K false
@@ -90,7 +92,7 @@ module _ (N K k : ℕ) (wide : 1 < N) (known : k < K) where
           ∙ sum-mul (bit (has k A)) (λ B. bit (alike (set A k false) B)) (sets K b)
           ∙ less (has k A) refl)
 
-  -- (e) the sets of a query's rows depend on N and K alone
+  -- the sets of a query's rows depend on N and K alone
   pub same-layout : (n : ℕ) → n < N → map setOf (rows N K k n) ≡ layout N K
   unfolding rows layout bySet
   same-layout n l =
@@ -116,7 +118,7 @@ module _ (N K k : ℕ) (wide : 1 < N) (known : k < K) where
       (keep-nothing (same A) (All-imp (λ r h. same-not A r k (λ q. false≢true (sym e ∙ q ∙ h))) (join-have K k b (used N (joins N K k) b n) known (sources-lack N K k wide known b n))))
       ∙ append-nil (keep (same A) (sideRows N K k b n))
 
-  -- (d) server n's rows of a set with k are, without k, the rows of the set without k at the other servers, in order
+  -- server n's rows of a set with k are, without k, the rows of the set without k at the other servers, in order
   pub joined : (b n : ℕ) (A : List Bool) → has k A ≡ true
       → map (λ r. set r k none) (ofSet A (block N K k (suc b) n)) ≡ flatMap (λ m. ofSet (set A k false) (block N K k b m)) (others N n)
   unfolding wantedRows ofSet sources

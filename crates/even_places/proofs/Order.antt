@@ -1,21 +1,26 @@
--- Each message's places are used up in ascending order: those that rows take anew, in the order made, are 0, 1, 2, and so on.
+-- Each message's places are used up in ascending order: those that rows take anew, in the order made, are 0, 1, 2, and so on
+-- (`places-in-order`).
 use Prim.Native.Nat.{ℕ, zero, suc, _+_, _*_, _-_, _^_, _≤_, _<_}
-use native.Mathlib.Nat.{zero-add, add-zero, add-suc, suc-add, mul-zero, zero-mul, mul-add, suc-mul, pow-succ'}
+use native.Mathlib.Nat.{zero-add, add-zero, mul-zero, zero-mul, mul-add, suc-mul, pow-succ'}
 use native.Mathlib.Omega.{arith}
 use mathlib.Core.Path.{_≡_, refl, sym, ap, _∙_}
 use mathlib.Core.Logic.{_≢_}
 use mathlib.Core.List.{List, [], _∷_, _++_, append-assoc, append-nil, flatMap}
-use mathlib.Core.Bool.{Bool, true, false}
+use mathlib.Core.Bool.{Bool, true, false, cond}
 use mathlib.Core.Option.{Option, none, some}
+use borrow.Author.Tests.{eqb-true, eqb-false}
+use lib.Dec.{eqb}
 use lib.ListN.{length, getD}
 use lib.Seq.{getD-set-same}
 use Rattle.lists.specs.Sums.{bit, sum, All, allNil, allCons}
 use Rattle.lists.specs.Ranges.{range}
+pub use Rattle.lists.proofs.Ranges.{range-append}
 use Rattle.lists.proofs.Sums.{sum-next, All-imp}
 use Rattle.even_places.specs.Sets.{has, with}
 use Rattle.even_places.specs.Rule.{Row, give, after, number, join, used, sideSets, sideRows, joins, wantedRows}
 use Rattle.even_places.proofs.Rows.{next-at, after-at, after-length}
-use Rattle.even_places.proofs.Counts.{fresh, starts, starts-length, starts-at, side-is, sideSets-lack, sources-long, sources-length, other-total, wanted-total, used-all}
+use Rattle.even_places.proofs.Counts.{fresh, starts, starts-length, starts-at, side-is, sideSets-lack, sources-long, sources-length, used-all}
+use Rattle.even_places.proofs.Totals.{other-total, wanted-total}
 
 unfoldable pub held : Option ℕ → List ℕ
 held none = []
@@ -25,11 +30,6 @@ held (some x) = x ∷ []
 unfoldable pub placesOf : ℕ → List Row → List ℕ
 unfolding held flatMap
 placesOf p rs = flatMap (λ r. held (getD r p none)) rs
-
-pub range-append : (a m n : ℕ) → range a m ++ range (a + m) n ≡ range a (m + n)
-unfolding range
-range-append a zero n = rw (add-zero a, zero-add n)
-range-append a (suc m) n = rw (add-suc a m, ← suc-add a m, suc-add m n) (ap (λ l. a ∷ l) (range-append (suc a) m n))
 
 each-last : (g : ℕ → List ℕ) (a n : ℕ) → flatMap g (range a (suc n)) ≡ flatMap g (range a n) ++ g (a + n)
 unfolding flatMap range
@@ -79,8 +79,14 @@ module _ (N : ℕ) (f : ℕ → ℕ) (g : ℕ → ℕ → List ℕ) (turn : (b n
       ∙ range-append 0 (N * sum f (range 0 B)) (N * f B)
       ∙ ap (range 0) (sym (mul-add N (sum f (range 0 B)) (f B)) ∙ ap (λ s. N * s) (sym (sum-next f B)))
 
+module _ (N K k : ℕ) where
+  -- the places of message p that server n's rows of block b take anew, in the order made: of the wanted message those of its wanted
+  -- rows, of another those of its side rows
+  unfoldable pub newPlaces : ℕ → ℕ → ℕ → List ℕ
+  newPlaces p b n = placesOf p (cond (eqb p k) (wantedRows N K k b n) (sideRows N K k b n))
+
 module _ (N K k : ℕ) (wide : 1 < N) (known : k < K) where
-  pub other-order : (p : ℕ) → p < K → p ≢ k → flatMap (λ b. flatMap (λ n. placesOf p (sideRows N K k b n)) (range 0 N)) (range 0 K) ≡ range 0 (N ^ (K - 1))
+  other-order : (p : ℕ) → p < K → p ≢ k → flatMap (λ b. flatMap (λ n. placesOf p (sideRows N K k b n)) (range 0 N)) (range 0 K) ≡ range 0 (N ^ (K - 1))
   unfolding fresh
   other-order p hp d = in-order N (fresh N K k wide known p) (λ b n. placesOf p (sideRows N K k b n)) turn K ∙ ap (range 0) (other-total N K k wide known p hp d)
     where
@@ -90,7 +96,7 @@ module _ (N K k : ℕ) (wide : 1 < N) (known : k < K) where
           ∙ number-order K p (starts N K k wide known b n) (starts-length N K k wide known b n) (All-imp (λ A h. h .long) (sideSets-lack N K k wide known b))
           ∙ ap (λ s. range s (with p (sideSets N K k b))) (starts-at N K k wide known p b n hp)
 
-  pub wanted-order : flatMap (λ b. flatMap (λ n. placesOf k (wantedRows N K k b n)) (range 0 N)) (range 0 K) ≡ range 0 (N ^ K)
+  wanted-order : flatMap (λ b. flatMap (λ n. placesOf k (wantedRows N K k b n)) (range 0 N)) (range 0 K) ≡ range 0 (N ^ K)
   unfolding wantedRows
   wanted-order =
       in-order N (joins N K k) (λ b n. placesOf k (wantedRows N K k b n)) (λ b n l. join-order k (used N (joins N K k) b n) (sources-long N K k wide known b n) ∙ ap (range (used N (joins N K k) b n)) (sources-length N K k wide known b n l)) K
@@ -98,3 +104,13 @@ module _ (N K k : ℕ) (wide : 1 < N) (known : k < K) where
     where
       one-less : suc (K - 1) ≡ K
       one-less = omega arith
+
+  -- block by block, and server by server in each, the places that a message gives are 0, 1, 2, and so on: all N^K of the wanted message, N^(K-1) of another
+  pub places-in-order : (p : ℕ) → p < K → flatMap (λ b. flatMap (newPlaces N K k p b) (range 0 N)) (range 0 K) ≡ range 0 (cond (eqb p k) (N ^ K) (N ^ (K - 1)))
+  unfolding newPlaces
+  places-in-order p hp = go (eqb p k) refl
+    where
+      go : (t : Bool) → eqb p k ≡ t
+          → flatMap (λ b. flatMap (λ n. placesOf p (cond t (wantedRows N K k b n) (sideRows N K k b n))) (range 0 N)) (range 0 K) ≡ range 0 (cond t (N ^ K) (N ^ (K - 1)))
+      go true e = ap (λ q. flatMap (λ b. flatMap (λ n. placesOf q (wantedRows N K k b n)) (range 0 N)) (range 0 K)) (eqb-true p k e) ∙ wanted-order
+      go false e = other-order p hp (eqb-false p k e)

@@ -1,43 +1,45 @@
--- Where the rows stand: the messages of a query by position, and the row that a wanted row is joined from.
+-- Where things stand: the message at each position of a query, the same at every server and for every wanted message (`same-members`),
+-- how many positions there are (`positions-length`), and the row that a wanted row is joined from, by number (`joined-at`).
 use Prim.Native.Nat.{ℕ, zero, suc, _+_, _*_, _-_, _^_, _≤_, _<_}
-use native.Mathlib.Nat.{zero-add, add-zero, zero-mul, suc-mul, not-suc-le-zero}
+use native.Mathlib.Nat.{zero-add, zero-mul, suc-mul, not-suc-le-zero}
 use native.Mathlib.Omega.{arith}
 use mathlib.Core.Path.{_≡_, refl, sym, ap, _∙_, fun-ext}
 use mathlib.Core.Logic.{_≢_}
 use mathlib.Core.List.{List, [], _∷_, _++_, map, flatMap}
 use mathlib.Core.Bool.{Bool, true, false, not}
 use mathlib.Core.Option.{none, some}
+use borrow.Author.Tests.{eq-eqb, ne-eqb}
 use lib.ListN.{length, getD, set, length-replicate, length-set, length-map, length-append, List·getD-append, List·getD-map}
 use lib.Seq.{getD-append-add}
 use lib.Dec.{eqb}
 use Rattle.lists.specs.Sums.{bit, keep, keepIf, sum, All, allNil, allCons}
 use Rattle.lists.specs.Ranges.{range}
+use Rattle.lists.proofs.Kept.{map-flatMap, keep-append}
+use Rattle.lists.proofs.Ranges.{range-append, range-at, range-below, range-length}
 use Rattle.lists.proofs.Sums.{All-imp, All-keep}
 use Rattle.even_places.specs.Sets.{has, ones, members}
 use Rattle.even_places.specs.Rule.{Row, isSome, same, ofSet, others, block, rows, cells, queryCells, layout, positions}
-use Rattle.even_places.proofs.SetLaws.{setOf, map-flatMap, keep-append, keep-sets, ones-drop}
+use Rattle.even_places.proofs.SetLaws.{setOf, keep-sets, ones-drop}
 use Rattle.even_places.proofs.Joined.{same-layout, group-size, joined}
-use Rattle.even_places.proofs.Order.{range-append}
-use Rattle.even_places.proofs.Flat.{eqb-self, eqb-not, query-length}
-use Rattle.even_places.proofs.Counts.{range-length}
+use Rattle.even_places.proofs.Flat.{query-length}
 
-cells-packs : (q : ℕ) (r : Row) → map (λ e. e .0) (cells q r) ≡ members q (setOf r)
+cells-members : (q : ℕ) (r : Row) → map (λ e. e .0) (cells q r) ≡ members q (setOf r)
 unfolding cells members setOf isSome
-cells-packs q [] = refl
-cells-packs q (none ∷ r) = cells-packs (suc q) r
-cells-packs q (some x ∷ r) = ap (λ l. q ∷ l) (cells-packs (suc q) r)
+cells-members q [] = refl
+cells-members q (none ∷ r) = cells-members (suc q) r
+cells-members q (some x ∷ r) = ap (λ l. q ∷ l) (cells-members (suc q) r)
 
 each-map : (g : List Bool → List ℕ) (rs : List Row) → flatMap (λ r. g (setOf r)) rs ≡ flatMap g (map setOf rs)
 unfolding flatMap
 each-map g [] = refl
 each-map g (r ∷ rs) = ap (λ l. g (setOf r) ++ l) (each-map g rs)
 
--- (e) the message at each position of a query depends on N and K alone
+-- the message at each position of a query depends on N and K alone
 pub same-members : (N K k n : ℕ) → 1 < N → k < K → n < N → map (λ e. e .0) (queryCells N K k n) ≡ flatMap (members 0) (layout N K)
 unfolding queryCells
 same-members N K k n wide known l =
     map-flatMap (λ e. e .0) (cells 0) (rows N K k n)
-    ∙ ap (λ g. flatMap g (rows N K k n)) (fun-ext (cells-packs 0))
+    ∙ ap (λ g. flatMap g (rows N K k n)) (fun-ext (cells-members 0))
     ∙ each-map (members 0) (rows N K k n)
     ∙ ap (flatMap (members 0)) (same-layout N K k wide known n l)
 
@@ -61,14 +63,14 @@ module _ {A B : Type 0} (g : B → List A) (q : ℕ) (d : A) (e : B) where
 keep-apart : (n a M : ℕ) → ((i : ℕ) → i < M → a + i ≢ n) → keep (λ m. not (eqb m n)) (range a M) ≡ range a M
 unfolding keep keepIf range
 keep-apart n a zero h = refl
-keep-apart n a (suc M) h = rw (eqb-not a n (λ q. h 0 (omega arith) (omega arith))) (ap (λ l. a ∷ l) (keep-apart n (suc a) M (λ i l q. h (suc i) (omega arith) (omega arith))))
+keep-apart n a (suc M) h = rw (ne-eqb a n (λ q. h 0 (omega arith) (omega arith))) (ap (λ l. a ∷ l) (keep-apart n (suc a) M (λ i l q. h (suc i) (omega arith) (omega arith))))
 
-pub others-is : (N n : ℕ) → n < N → others N n ≡ range 0 n ++ range (suc n) (N - suc n)
+others-is : (N n : ℕ) → n < N → others N n ≡ range 0 n ++ range (suc n) (N - suc n)
 unfolding others keep keepIf range
 others-is N n l =
     ap (keep t) whole
     ∙ keep-append t (range 0 n) (n ∷ range (suc n) (N - suc n))
-    ∙ rw (keep-apart n 0 n (λ i h q. absurd (omega arith)), eqb-self n, keep-apart n (suc n) (N - suc n) (λ i h q. absurd (omega arith)))
+    ∙ rw (keep-apart n 0 n (λ i h q. absurd (omega arith)), eq-eqb n n refl, keep-apart n (suc n) (N - suc n) (λ i h q. absurd (omega arith)))
   where
     t : ℕ → Bool
     t m = not (eqb m n)
@@ -78,17 +80,6 @@ others-is N n l =
 
     whole : range 0 N ≡ range 0 n ++ (n ∷ range (suc n) (N - suc n))
     whole = ap (range 0) parts ∙ sym (range-append 0 n (suc (N - suc n))) ∙ ap (λ s. range 0 n ++ range s (suc (N - suc n))) (zero-add n)
-
-range-at : (a n i d : ℕ) → i < n → getD (range a n) i d ≡ a + i
-unfolding range
-range-at a zero i d h = absurd (not-suc-le-zero h)
-range-at a (suc n) zero d h = sym (add-zero a)
-range-at a (suc n) (suc i) d h = range-at (suc a) n i d (omega arith) ∙ omega arith
-
-upTo-below : (M a n : ℕ) → a + n ≤ M → All (λ m. m < M) (range a n)
-unfolding range
-upTo-below M a zero h = allNil
-upTo-below M a (suc n) h = allCons {x = a} (omega arith) (upTo-below M (suc a) n (omega arith))
 
 pub others-length : (N n : ℕ) → n < N → length (others N n) ≡ N - 1
 others-length N n l =
@@ -119,9 +110,9 @@ module _ (N K k : ℕ) (wide : 1 < N) (known : k < K) where
 
   pub others-below : (n : ℕ) → n < N → All (λ m. m < N) (others N n)
   unfolding others
-  others-below n l = All-imp (λ m h. h .0) (All-keep (λ m. not (eqb m n)) (upTo-below N 0 N (omega arith)))
+  others-below n l = All-imp (λ m h. h .0) (All-keep (λ m. not (eqb m n)) (range-below N 0 N (omega arith)))
 
-  -- (d) by position: of server n's rows of a set with k, number j (N-1)^b + r is joined from row r of the set without k at the j-th other server
+  -- by number: of server n's rows of a set with k, number j (N-1)^b + r is joined from row r of the set without k at the j-th other server
   pub joined-at : (b n j r : ℕ) (A : List Bool) → n < N → has k A ≡ true → length A ≡ K → ones A ≡ suc (suc b) → j < N - 1 → r < (N - 1) ^ b
       → set (getD (ofSet A (block N K k (suc b) n)) (j * (N - 1) ^ b + r) []) k none ≡ getD (ofSet (set A k false) (block N K k b (getD (others N n) j 0))) r []
   joined-at b n j r A l e long many hj hr =

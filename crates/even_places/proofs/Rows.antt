@@ -14,6 +14,7 @@ use lib.Dec.{lt→ltb, eqb, ltb, T, eqb→eq, eqb·suc-suc, eqb·suc-zero, eqb·
 use Rattle.lists.specs.Sums.{bit, keep, sum, All, allNil, allCons}
 use Rattle.lists.specs.Ranges.{range}
 use Rattle.even_places.specs.Sets.{has, sets, with, ones}
+use Rattle.even_places.specs.Process.{afters}
 use Rattle.even_places.specs.Rule.{Row, isSome, same, give, next, after, number, join, bySet, ofSet, others}
 use Rattle.lists.proofs.Sums.{sum-mul, sum-ext, sum-all, sum-zero, sum-flatMap, sum-keep, sum-swap, sum-next, All-imp}
 use Rattle.even_places.proofs.Choose.{sets-none, sets-some}
@@ -95,7 +96,7 @@ unfolding give isSome
 give-some true x = refl
 give-some false x = refl
 
-pub next-somes : (A : List Bool) (c : List ℕ) → length A ≡ length c → somes (next A c) ≡ ones A
+next-somes : (A : List Bool) (c : List ℕ) → length A ≡ length c → somes (next A c) ≡ ones A
 unfolding next somes ones sum
 next-somes [] c e = refl
 next-somes (a ∷ A) [] e = absurd (omega arith)
@@ -158,6 +159,19 @@ unfolding number
 number-length c [] = refl
 number-length c (A ∷ L) = ap suc (number-length (after A c) L)
 
+-- and what follows it is the next place after them
+module _ (K : ℕ) where
+  pub afters-length : {L : List (List Bool)} (c : List ℕ) → length c ≡ K → All (λ A. length A ≡ K) L → length (afters L c) ≡ K
+  unfolding afters
+  afters-length c e allNil = e
+  afters-length c e (allCons {x = A} h a) = afters-length (after A c) (after-length A c (h ∙ sym e) ∙ e) a
+
+  pub afters-at : (p : ℕ) {L : List (List Bool)} (c : List ℕ) → length c ≡ K → All (λ A. length A ≡ K) L → getD (afters L c) p 0 ≡ getD c p 0 + with p L
+  unfolding afters with sum
+  afters-at p c e allNil = sym (add-zero (getD c p 0))
+  afters-at p c e (allCons {x = A} h a) =
+      afters-at p (after A c) (after-length A c (h ∙ sym e) ∙ e) a ∙ omega (arith, after-at A c p (h ∙ sym e))
+
 -- joining leaves alone what does not look at k, and gives k's places one after another
 pub join-sum : (h g : Row → ℕ) (k : ℕ) → ((r : Row) (x : ℕ) → h (set r k (some x)) ≡ g r) → (x : ℕ) (rs : List Row) → sum h (join k x rs) ≡ sum g rs
 unfolding sum join
@@ -179,7 +193,7 @@ join-gives k x (allCons {x = r} {xs = rs} l a) =
     let here : gives k (set r k (some x)) ≡ 1 = ap (λ o. bit (isSome o)) (getD-set-same r k (some x) none l) in
     omega (arith, here, join-gives k (suc x) a)
 
-pub somes-set : (r : Row) (k x : ℕ) → k < length r → getD r k none ≡ none → somes (set r k (some x)) ≡ suc (somes r)
+somes-set : (r : Row) (k x : ℕ) → k < length r → getD r k none ≡ none → somes (set r k (some x)) ≡ suc (somes r)
 unfolding somes sum isSome bit
 somes-set [] k x h e = absurd (not-suc-le-zero h)
 somes-set (y ∷ r) zero x h e = omega (arith, ap (λ o. bit (isSome o)) e)
@@ -199,7 +213,7 @@ join-fits K k b x h (allCons {x = r} f a) =
     (join-fits K k b (suc x) h a)
 
 -- a row's set stands once among the sets of its size
-pub same-once : (r : Row) → sum (λ A. bit (same A r)) (sets (length r) (somes r)) ≡ 1
+same-once : (r : Row) → sum (λ A. bit (same A r)) (sets (length r) (somes r)) ≡ 1
 unfolding somes sum isSome bit sets same
 same-once [] = refl
 same-once (none ∷ r) = rw (zero-add (somes r)) (go (somes r) (same-once r))

@@ -1,11 +1,12 @@
--- Laws of sets of messages and of the rows of a set.
+-- Laws of sets of messages, each of which stands once among the sets of its size (`alike-one`), of the rows of a set, and of the rows that
+-- are joined from them.
 use Prim.Native.Nat.{ℕ, zero, suc, _+_, _*_, _<_}
-use native.Mathlib.Nat.{zero-add, mul-zero, zero-mul, add-comm, not-suc-le-zero}
+use native.Mathlib.Nat.{zero-add, add-zero, add-suc, suc-add, mul-zero, zero-mul, add-comm, not-suc-le-zero}
 use native.Mathlib.Numerals.{add-one}
 use native.Mathlib.Omega.{arith}
 use mathlib.Core.Path.{_≡_, refl, sym, ap, _∙_, subst}
 use mathlib.Core.Logic.{_≢_}
-use mathlib.Core.List.{List, [], _∷_, _++_, map, flatMap}
+use mathlib.Core.List.{List, [], _∷_, _++_, map}
 use mathlib.Core.Bool.{Bool, true, false, not, Bool·beq, _&&_, false≢true}
 use mathlib.Core.Option.{none, some}
 use lib.ListN.{length, getD, set, replicate}
@@ -16,6 +17,7 @@ use Rattle.even_places.specs.Sets.{has, sets, ones, alike}
 use Rattle.even_places.specs.Rule.{Row, isSome, same, give, next, after, number, join, ofSet}
 use Rattle.even_places.proofs.Choose.{sets-none, sets-some}
 use Rattle.even_places.proofs.Rows.{after-length, Lacks}
+pub use Rattle.lists.proofs.Kept.{keep-append, keep-nothing, keep-flatMap, map-append, flatMap-all, map-flatMap}
 
 -- a row's set
 unfoldable pub setOf : Row → List Bool
@@ -126,44 +128,8 @@ keep-sets A (r ∷ rs) = go (same A r) refl (keep-sets A rs)
     go true e ih = rw (add-comm 1 n ∙ add-one n, ih, ← alike-eq A (setOf r) (sym (same-alike A r) ∙ e))
     go false e ih = rw (zero-add n) ih
 
-module _ {A : Type 0} where
-  pub keep-append : (t : A → Bool) (xs ys : List A) → keep t (xs ++ ys) ≡ keep t xs ++ keep t ys
-  unfolding keep keepIf
-  keep-append t [] ys = refl
-  keep-append t (x ∷ xs) ys = go (t x) (keep-append t xs ys)
-    where
-      go : (b : Bool) → keep t (xs ++ ys) ≡ keep t xs ++ keep t ys → keepIf b x (keep t (xs ++ ys)) ≡ keepIf b x (keep t xs) ++ keep t ys
-      go true e = ap (λ l. x ∷ l) e
-      go false e = e
-
-  pub keep-nothing : (t : A → Bool) {xs : List A} → All (λ x. t x ≡ false) xs → keep t xs ≡ []
-  unfolding keep keepIf
-  keep-nothing t allNil = refl
-  keep-nothing t (allCons {x = x} {xs = xs} e a) = rw e (keep-nothing t a)
-
-module _ {A B : Type 0} where
-  pub keep-flatMap : (t : A → Bool) (g : B → List A) (xs : List B) → keep t (flatMap g xs) ≡ flatMap (λ x. keep t (g x)) xs
-  unfolding keep flatMap
-  keep-flatMap t g [] = refl
-  keep-flatMap t g (x ∷ xs) = keep-append t (g x) (flatMap g xs) ∙ ap (λ l. keep t (g x) ++ l) (keep-flatMap t g xs)
-
-  pub map-append : (f : A → B) (xs ys : List A) → map f (xs ++ ys) ≡ map f xs ++ map f ys
-  map-append f [] ys = refl
-  map-append f (x ∷ xs) ys = ap (λ l. f x ∷ l) (map-append f xs ys)
-
-  pub flatMap-all : (f g : A → List B) {xs : List A} → All (λ x. f x ≡ g x) xs → flatMap f xs ≡ flatMap g xs
-  unfolding flatMap
-  flatMap-all f g allNil = refl
-  flatMap-all f g (allCons {x = x} {xs = xs} e a) = rw (e, flatMap-all f g a)
-
-module _ {A B C : Type 0} where
-  pub map-flatMap : (f : A → B) (g : C → List A) (xs : List C) → map f (flatMap g xs) ≡ flatMap (λ x. map f (g x)) xs
-  unfolding flatMap
-  map-flatMap f g [] = refl
-  map-flatMap f g (x ∷ xs) = map-append f (g x) (flatMap g xs) ∙ ap (λ l. map f (g x) ++ l) (map-flatMap f g xs)
-
 -- a row of a set has k if the set does
-pub same-has : (A : List Bool) (r : Row) (k : ℕ) → same A r ≡ true → has k A ≡ isSome (getD r k none)
+same-has : (A : List Bool) (r : Row) (k : ℕ) → same A r ≡ true → has k A ≡ isSome (getD r k none)
 same-has A r k e = ap (has k) (alike-eq A (setOf r) (sym (same-alike A r) ∙ e)) ∙ setOf-has r k
 
 pub same-not : (A : List Bool) (r : Row) (k : ℕ) → has k A ≢ isSome (getD r k none) → same A r ≡ false
@@ -207,3 +173,26 @@ has-drop [] zero = refl
 has-drop [] (suc k) = refl
 has-drop (a ∷ A) zero = refl
 has-drop (a ∷ A) (suc k) = has-drop A k
+
+-- joined rows: the i-th has the i-th next place of k
+pub join-append : (k x : ℕ) (R S : List Row) → join k x (R ++ S) ≡ join k x R ++ join k (x + length R) S
+unfolding join
+join-append k x [] S = ap (λ s. join k s S) (sym (add-zero x))
+join-append k x (r ∷ R) S = ap (λ l. set r k (some x) ∷ l) (join-append k (suc x) R S ∙ ap (λ s. join k (suc x) R ++ join k s S) (suc-add x (length R) ∙ sym (add-suc x (length R))))
+
+pub join-length : (k x : ℕ) (R : List Row) → length (join k x R) ≡ length R
+unfolding join
+join-length k x [] = refl
+join-length k x (r ∷ R) = ap suc (join-length k (suc x) R)
+
+module _ (K k b : ℕ) (known : k < K) where
+  pub join-at : (x i : ℕ) {R : List Row} → All (Lacks K k b) R → i < length R → getD (getD (join k x R) i []) k none ≡ some (x + i)
+  unfolding join
+  join-at x i allNil h = absurd (not-suc-le-zero h)
+  join-at x zero (allCons {x = r} l a) h = getD-set-same r k (some x) none (omega (arith, l .long)) ∙ ap some (sym (add-zero x))
+  join-at x (suc i) (allCons l a) h = join-at (suc x) i a (omega arith) ∙ ap some (omega arith)
+
+  pub join-same : (A : List Bool) (t : Bool) (x : ℕ) {R : List Row} → has k A ≡ true → All (Lacks K k b) R → All (λ r. same (set A k false) r ≡ t) R → All (λ r. same A r ≡ t) (join k x R)
+  unfolding join
+  join-same A t x e allNil c = allNil
+  join-same A t x e (allCons {x = r} l a) (allCons d c) = allCons (same-join A r k x e (l .lack) (omega (arith, l .long)) ∙ d) (join-same A t (suc x) e a c)

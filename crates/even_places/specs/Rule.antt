@@ -1,10 +1,11 @@
 -- The place rule of the even code: N servers, K messages, wanted message k (document 01, 'Even code'; source 003, section IV-B).
 -- Blocks are counted from 0 here: the rows of block b have sets of b + 1 messages. A place stands for a symbol through the key.
+-- Which places a row has is told by counting; that turn by turn they are the next ones is shown in proofs/Process.antt.
 use Prim.Native.Nat.{ℕ, zero, suc, _+_, _*_, _-_, _^_}
 use mathlib.Core.List.{List, [], _∷_, _++_, map, flatMap}
 use mathlib.Core.Bool.{Bool, true, false, cond, not, Bool·beq, _&&_}
 use mathlib.Core.Option.{Option, none, some}
-use lib.ListN.{length, getD, set, replicate}
+use lib.ListN.{length, set, replicate}
 use lib.Dec.{eqb}
 use Rattle.lists.specs.Sums.{bit, keep, sum}
 use Rattle.lists.specs.Ranges.{range}

@@ -6,7 +6,8 @@ use mathlib.Core.Bool.{true}
 use mathlib.Core.List.{List, map}
 use Rattle.lists.specs.Arranged.{arranged, picked, completed}
 use Rattle.lists.specs.Pairs.{under}
-use Rattle.lists.proofs.Arranged.{Permutation, arranged-permutation, carried-shown, carried-back, picked-permutation, completed-permutation}
+use Rattle.lists.proofs.Arranged.{Permutation, arranged-permutation, carried-back, picked-permutation}
+use Rattle.lists.proofs.Completed.{carried-shown, completed-permutation}
 use Rattle.lists.proofs.Pairs.{under-length, same-under}
 use Rattle.lists.proofs.Sums.{All-imp}
 use Rattle.parameters.specs.Bounds.{evenFits}
@@ -14,9 +15,10 @@ use Rattle.parameters.proofs.Bounds.{even-bounds}
 use Rattle.scheme.specs.Scheme.{Valid}
 use Rattle.symbol.specs.Sum.{Sum}
 use Rattle.even_places.specs.Rule.{queryCells}
+use Rattle.even_places.proofs.Flat.{cells-inside, places-below, places-distinct}
 use Rattle.even_scheme.specs.Even.{permutation, numberAt, evenQuery, evenScheme}
 use Rattle.even_scheme.proofs.Keys.{keyOf, key-permutation, key-whole, key-of, key-of-valid, key-same}
-use Rattle.even_scheme.proofs.Queries.{cells-labels, cells-inside, places-below, places-distinct}
+use Rattle.even_scheme.proofs.Queries.{cells-labels}
 
 module _ (N K server : ℕ) where
   -- the places of message p in the server's query for the wanted message, in query order, then those left, ascending
@@ -33,7 +35,7 @@ module _ (N K server : ℕ) where
   pub order-permutation : 1 < N → server < N → (wanted p : ℕ) → wanted < K → p < K → Permutation (N ^ K) (order wanted p)
   unfolding order
   order-permutation wide there wanted p known h =
-      completed-permutation (N ^ K) (under p (queryCells N K wanted server)) (places-below N K wanted server wide known there p h) (places-distinct N K wanted server wide known there p h)
+      completed-permutation (N ^ K) (under p (queryCells N K wanted server)) (places-below N K wanted wide known server there p h) (places-distinct N K wanted wide known server there p h)
 
 module _ (sum : Sum) (N K S : ℕ) (fits : evenFits N K S ≡ true) (server wanted other : ℕ) (key : List ℕ)
     (there : server < N) (known : wanted < K) (known′ : other < K) (valid : Valid (evenScheme sum N K S) key) where
@@ -81,4 +83,4 @@ module _ (sum : Sum) (N K S : ℕ) (fits : evenFits N K S ≡ true) (server want
   unfolding evenQuery
   exchange-shown =
       same-under (numberAt N K (evenExchange N K server wanted other key)) (numberAt N K key) K (queryCells N K wanted server)
-      (All-imp (λ cell h. h .0) (cells-inside N K other server wide known′ there)) same-labels shown
+      (All-imp (λ cell h. h .0) (cells-inside N K other wide known′ server there)) same-labels shown

@@ -7,12 +7,12 @@ use Rattle.lists.specs.Distinct.{isPermutation}
 use Rattle.lists.specs.Ranges.{range}
 use Rattle.lists.proofs.Arranged.{Permutation, permutation-facts, facts-permutation}
 use Rattle.lists.proofs.Cuts.{joined-length, cut-joined, joined-cuts}
+use Rattle.lists.proofs.Kept.{flatMap-all}
 use Rattle.lists.proofs.Ranges.{every-at, at-every, range-below}
 use Rattle.lists.proofs.Sums.{All-imp}
 use Rattle.parameters.specs.Measures.{evenSizes}
 use Rattle.scheme.specs.Scheme.{Valid}
 use Rattle.symbol.specs.Sum.{Sum}
-use Rattle.even_places.proofs.SetLaws.{flatMap-all}
 use Rattle.even_scheme.specs.Even.{permutation, evenKeyGood, evenScheme}
 
 -- the key with these permutations

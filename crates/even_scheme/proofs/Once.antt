@@ -7,7 +7,7 @@ use Prim.Native.Nat.{ℕ, _-_, _*_, _^_, _<_}
 use native.Mathlib.Nat.{one-mul, zero-mul}
 use native.Mathlib.Omega.{arith}
 use borrow.Author.Tests.{eq-eqb}
-use lib.Dec.{eqb}
+use lib.Dec.{eqb, ltb}
 use lib.ListN.{length, getD}
 use Rattle.lists.specs.Arranged.{picked}
 use Rattle.lists.specs.Below.{allBelow}
@@ -16,18 +16,17 @@ use Rattle.lists.specs.Ranges.{range}
 use Rattle.lists.specs.Sums.{bit, keep, sum}
 use Rattle.lists.proofs.Arranged.{Permutation, permutation-facts, picked-permutation}
 use Rattle.lists.proofs.Below.{allBelow-below}
-use Rattle.lists.proofs.Distinct.{times, times-below, times-distinct, stands-times, stands-count}
+use Rattle.lists.proofs.Distinct.{bit-small, times, times-below, times-distinct, stands-times, stands-count}
+use Rattle.lists.proofs.Kept.{map-flatMap}
 use Rattle.lists.proofs.Ranges.{range-length}
 use Rattle.lists.proofs.Sums.{All-imp, sum-all, sum-first, sum-flatMap, sum-keep, sum-map, sum-range, sum-zero, sum-one}
 use Rattle.symbol.specs.Sum.{Sum}
 use Rattle.scheme.specs.Scheme.{Valid}
 use Rattle.even_places.specs.Sets.{has, ones, allSets}
 use Rattle.even_places.specs.Rule.{isSome, rows}
-use Rattle.even_places.proofs.Counts.{wanted-once}
-use Rattle.even_places.proofs.Flat.{below-one}
 use Rattle.even_places.proofs.RowNumbers.{Good, allSets-good, setRows, rows-by-set, setRows-length, row-has}
 use Rattle.even_places.proofs.Rows.{below, below-lt, hit, is}
-use Rattle.even_places.proofs.SetLaws.{map-flatMap}
+use Rattle.even_places.proofs.Totals.{wanted-once}
 use Rattle.even_scheme.specs.Even.{permutation, numberAt, wantedPlace, recoveredPart, serverParts, recoveredParts, evenScheme}
 use Rattle.even_scheme.proofs.Assembled.{Part}
 use Rattle.even_scheme.proofs.Keys.{key-permutation}
@@ -106,7 +105,7 @@ module _ (sums : Sum) (N K S k : ℕ) where
       small = times-below (N ^ K) recoveredPlaces (λ v. omega (arith, places-times wide known v))
 
       apart : distinct recoveredPlaces ≡ true
-      apart = times-distinct recoveredPlaces (λ v. omega (arith, places-times wide known v, below-one v (N ^ K)))
+      apart = times-distinct recoveredPlaces (λ v. omega (arith, places-times wide known v, bit-small (ltb v (N ^ K))))
 
       long : length recoveredPlaces ≡ N ^ K
       long =

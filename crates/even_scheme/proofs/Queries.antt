@@ -1,34 +1,30 @@
--- Queries: the message at each position (`cells-labels`), the places of each message (`places-below`, `places-distinct`), and the
--- laws that a query has its length (`query-length`) and is admitted (`query-admitted`).
-use Prim.Native.Nat.{ℕ, _*_, _-_, _^_, _≤_, _<_}
+-- Queries: what a key gives at each message's places (`query-numbers`, `query-is`), and the laws that a query has its length
+-- (`query-length`) and is admitted (`query-admitted`).
+use Prim.Native.Nat.{ℕ, _*_, _-_, _^_, _<_}
 use native.Mathlib.Omega.{arith}
 use mathlib.Core.Path.{_≡_, sym, ap, _∙_}
 use mathlib.Core.Bool.{true}
 use mathlib.Core.List.{List, map, map-id, zip}
 use borrow.Author.Tests.{eq-eqb}
-use lib.Dec.{eqb, ltb}
 use lib.ListN.{length, length-map}
 use Rattle.lists.specs.Arranged.{picked}
-use Rattle.lists.specs.Below.{allBelow, Below}
+use Rattle.lists.specs.Below.{allBelow}
 use Rattle.lists.specs.Distinct.{distinct}
 use Rattle.lists.specs.Pairs.{under}
-use Rattle.lists.specs.Sums.{bit, keep, sum, All}
 use Rattle.lists.proofs.Arranged.{picked-distinct}
-use Rattle.lists.proofs.Below.{allBelow-below, below-allBelow}
-use Rattle.lists.proofs.Distinct.{times, times-distinct, times-below}
-use Rattle.lists.proofs.Each.{All-at, All-get}
+use Rattle.lists.proofs.Below.{below-allBelow}
+use Rattle.lists.proofs.Each.{All-get}
 use Rattle.lists.proofs.Pairs.{zip-map, zip-firsts, zip-seconds, under-map, under-length, same-under}
 use Rattle.lists.proofs.Ranges.{at-every}
-use Rattle.lists.proofs.Sums.{sum-map, sum-keep, All-imp, All-map}
+use Rattle.lists.proofs.Sums.{All-imp, All-map}
 use Rattle.parameters.specs.Bounds.{evenFits}
 use Rattle.parameters.specs.Measures.{evenSizes}
 use Rattle.parameters.proofs.Bounds.{even-bounds}
 use Rattle.scheme.specs.Scheme.{Valid}
 use Rattle.symbol.specs.Sum.{Sum}
 use Rattle.even_places.specs.Rule.{queryCells, positions}
-use Rattle.even_places.proofs.Flat as flat
+use Rattle.even_places.proofs.Flat.{cells-inside, places-below, places-distinct, query-length as cells-length}
 use Rattle.even_places.proofs.Positions.{same-members, positions-length}
-use Rattle.even_places.proofs.Rows.{below}
 use Rattle.even_scheme.specs.Even.{permutation, numberAt, evenQuery, numbersOf, evenAdmits, evenScheme}
 use Rattle.even_scheme.proofs.Keys.{key-permutation}
 
@@ -36,26 +32,6 @@ module _ (N K wanted server : ℕ) (wide : 1 < N) (known : wanted < K) (there : 
   pub cells-labels : map (λ cell. cell .0) (queryCells N K wanted server) ≡ positions N K
   unfolding positions
   cells-labels = same-members N K wanted server wide known there
-
-  pub cells-inside : All (λ cell. (cell .0 < K) × (cell .1 < N ^ K)) (queryCells N K wanted server)
-  cells-inside = All-at (0, 0) (queryCells N K wanted server) (λ i h. flat.inside N K wanted wide known server i there h)
-
-  module _ (p : ℕ) (message : p < K) where
-    -- each place of a message stands once at most in a query, and none from N^K on
-    places-times : (v : ℕ) → times v (under p (queryCells N K wanted server)) ≤ bit (ltb v (N ^ K))
-    unfolding times under flat.entry below
-    places-times v =
-        let count : times v (under p (queryCells N K wanted server)) ≡ sum (flat.entry p v) (queryCells N K wanted server) =
-        sum-map (λ x. bit (eqb x v)) (λ e. e .1) (keep (λ e. eqb (e .0) p) (queryCells N K wanted server))
-        ∙ sum-keep (λ e. bit (eqb (e .1) v)) (λ e. eqb (e .0) p) (queryCells N K wanted server) in
-        omega (arith, count, flat.at-most N K wanted wide known p v server there message)
-
-    pub places-below : Below (N ^ K) (under p (queryCells N K wanted server))
-    places-below = allBelow-below (N ^ K) (under p (queryCells N K wanted server)) (times-below (N ^ K) (under p (queryCells N K wanted server)) places-times)
-
-    pub places-distinct : distinct (under p (queryCells N K wanted server)) ≡ true
-    unfolding below
-    places-distinct = times-distinct (under p (queryCells N K wanted server)) (λ v. omega (arith, places-times v, flat.below-one v (N ^ K)))
 
   -- the numbers that a query names of a message are what the key has at the message's places
   pub query-numbers : (p : ℕ) (key : List ℕ) → numbersOf N K p (evenQuery N K wanted server key) ≡ picked (permutation N K key p) (under p (queryCells N K wanted server))
@@ -78,13 +54,13 @@ module _ (N K wanted server : ℕ) (wide : 1 < N) (known : wanted < K) (there : 
       → ((p : ℕ) → p < K → picked (permutation N K key p) (under p (queryCells N K wanted server)) ≡ numbersOf N K p query) → evenQuery N K wanted server key ≡ query
   unfolding evenQuery numberAt picked numbersOf under
   query-is key query long numbers =
-      same-under (numberAt N K key) (λ p v. v) K (zip (positions N K) query) (All-imp (λ cell h. h .0) cells-inside)
+      same-under (numberAt N K key) (λ p v. v) K (zip (positions N K) query) (All-imp (λ cell h. h .0) (cells-inside N K wanted wide known server there))
       (cells-labels ∙ sym (zip-firsts (positions N K) query (whole query long))) (λ p h. numbers p h ∙ sym (map-id (numbersOf N K p query)))
       ∙ zip-seconds (positions N K) query (whole query long)
 
-  pub query-size : (key : List ℕ) → length (evenQuery N K wanted server key) ≡ K * N ^ (K - 1)
+  query-size : (key : List ℕ) → length (evenQuery N K wanted server key) ≡ K * N ^ (K - 1)
   unfolding evenQuery
-  query-size key = length-map (queryCells N K wanted server) (λ cell. numberAt N K key (cell .0) (cell .1)) ∙ flat.query-length N K wanted wide known server there
+  query-size key = length-map (queryCells N K wanted server) (λ cell. numberAt N K key (cell .0) (cell .1)) ∙ cells-length N K wanted wide known server there
 
 module _ (sum : Sum) (N K S : ℕ) (fits : evenFits N K S ≡ true) (wanted server : ℕ) (key : List ℕ)
     (known : wanted < K) (there : server < N) (valid : Valid (evenScheme sum N K S) key) where
@@ -99,13 +75,13 @@ module _ (sum : Sum) (N K S : ℕ) (fits : evenFits N K S ≡ true) (wanted serv
   unfolding evenQuery numberAt
   query-below =
       below-allBelow (N ^ K) (evenQuery N K wanted server key) (All-get {P = λ v. v < N ^ K} 0 (All-map (λ cell. numberAt N K key (cell .0) (cell .1))
-      (All-imp (λ cell h. key-permutation sum N K S key valid (cell .0) (h .0) .low (cell .1) (h .1)) (cells-inside N K wanted server wide known there))))
+      (All-imp (λ cell h. key-permutation sum N K S key valid (cell .0) (h .0) .low (cell .1) (h .1)) (cells-inside N K wanted wide known server there))))
 
   query-distinct : (p : ℕ) → p < K → distinct (numbersOf N K p (evenQuery N K wanted server key)) ≡ true
   query-distinct p h =
       ap distinct (query-numbers N K wanted server wide known there p key)
       ∙ picked-distinct (N ^ K) (permutation N K key p) (under p (queryCells N K wanted server)) (key-permutation sum N K S key valid p h)
-      (places-below N K wanted server wide known there p h) (places-distinct N K wanted server wide known there p h)
+      (places-below N K wanted wide known server there p h) (places-distinct N K wanted wide known server there p h)
 
   pub query-admitted : evenScheme sum N K S .admits server (evenScheme sum N K S .query wanted server key) ≡ true
   unfolding evenAdmits

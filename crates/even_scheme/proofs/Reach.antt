@@ -11,7 +11,8 @@ use Rattle.lists.specs.Below.{allBelow, Below}
 use Rattle.lists.specs.Distinct.{distinct}
 use Rattle.lists.specs.Pairs.{under}
 use Rattle.lists.specs.Ranges.{every}
-use Rattle.lists.proofs.Arranged.{Permutation, arranged-permutation, completed-shown, completed-permutation}
+use Rattle.lists.proofs.Arranged.{Permutation, arranged-permutation}
+use Rattle.lists.proofs.Completed.{completed-shown, completed-permutation}
 use Rattle.lists.proofs.Below.{allBelow-below}
 use Rattle.lists.proofs.Distinct.{and-both}
 use Rattle.lists.proofs.Pairs.{under-below}

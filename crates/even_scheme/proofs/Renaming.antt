@@ -7,15 +7,17 @@ use mathlib.Core.List.{List}
 use lib.ListN.{length, getD}
 use Rattle.lists.specs.Arranged.{arranged, picked}
 use Rattle.lists.specs.Pairs.{under}
-use Rattle.lists.proofs.Arranged.{Permutation, arranged-permutation, completed-shown, picked-permutation, picked-picked, renamed-back, permutation-tests}
+use Rattle.lists.proofs.Arranged.{Permutation, arranged-permutation, picked-permutation, picked-picked, renamed-back, permutation-tests}
+use Rattle.lists.proofs.Completed.{completed-shown}
 use Rattle.parameters.specs.Bounds.{evenFits}
 use Rattle.parameters.proofs.Bounds.{even-bounds}
 use Rattle.scheme.specs.Scheme.{Valid}
 use Rattle.symbol.specs.Sum.{Sum}
 use Rattle.even_places.specs.Rule.{queryCells}
+use Rattle.even_places.proofs.Flat.{places-below}
 use Rattle.even_scheme.specs.Even.{permutation, numbersOf, evenScheme}
 use Rattle.even_scheme.proofs.Keys.{keyOf, key-permutation, key-whole, key-of, key-of-valid, key-same}
-use Rattle.even_scheme.proofs.Queries.{query-numbers, query-is, numbers-many, places-below}
+use Rattle.even_scheme.proofs.Queries.{query-numbers, query-is, numbers-many}
 use Rattle.even_scheme.proofs.Reach.{named, named-permutation, admitted}
 
 module _ (N K : ℕ) where
@@ -63,7 +65,7 @@ module _ (sum : Sum) (N K S : ℕ) (fits : evenFits N K S ≡ true) (server want
       let many : length (numbersOf N K p query) ≡ length (numbersOf N K p other) =
       sym (numbers-many N K wanted server wide known there p query (admitted N K server query admits .long)) ∙ numbers-many N K wanted server wide known there p other (admitted N K server other admits′ .long) in
       ap (λ l. picked l places) (renamed-at p h)
-      ∙ picked-picked rename P places (λ i l. subst (λ (n : ℕ). getD places i 0 < n) (sym long) (places-below N K wanted server wide known there p h i l))
+      ∙ picked-picked rename P places (λ i l. subst (λ (n : ℕ). getD places i 0 < n) (sym long) (places-below N K wanted wide known server there p h i l))
       ∙ ap (picked rename) (sym (query-numbers N K wanted server wide known there p key) ∙ ap (numbersOf N K p) (gives .shown))
       ∙ completed-shown (N ^ K) (numbersOf N K p query) (numbersOf N K p other) (names p h) many
 

@@ -1,24 +1,24 @@
 -- Permutations as lists: what the test says by places (`permutation-facts`), that every number below the size stands in one (`covers`),
--- and the laws of `arranged` (`arranged-at`, `arranged-only`, `arranged-permutation`), `picked` and `completed`.
-use Prim.Native.Nat.{ℕ, zero, suc, _+_, _*_, _≤_, _<_}
-use native.Mathlib.Nat.{not-suc-le-zero, mul-zero, one-mul}
+-- and the laws of `arranged` (`arranged-at`, `arranged-only`, `arranged-permutation`) and `picked`.
+use Prim.Native.Nat.{ℕ, zero, suc, _≤_, _<_}
+use native.Mathlib.Nat.{not-suc-le-zero}
 use native.Mathlib.Omega.{arith}
 use mathlib.Core.Path.{_≡_, refl, sym, ap, _∙_, subst}
-use mathlib.Core.Bool.{Bool, true, false, not, _&&_}
-use mathlib.Core.List.{List, [], _∷_, _++_}
-use borrow.Author.Tests.{eqb-true, eqb-false, eq-eqb, ltb-false}
-use lib.Dec.{eqb, ltb}
-use lib.ListN.{length, getD, length-map, length-append, List·getD-append}
+use mathlib.Core.Bool.{Bool, true, false, _&&_}
+use mathlib.Core.List.{List, [], _∷_}
+use borrow.Author.Tests.{eqb-true, eqb-false, eq-eqb}
+use lib.Dec.{eqb}
+use lib.ListN.{length, getD, length-map}
 use lib.Seq.{ext-getD}
-use Rattle.lists.specs.Arranged.{placeIn, arranged, picked, completed}
+use Rattle.lists.specs.Arranged.{placeIn, arranged, picked}
 use Rattle.lists.specs.Below.{allBelow, Below}
 use Rattle.lists.specs.Distinct.{stands, distinct, isPermutation}
 use Rattle.lists.specs.Ranges.{range}
-use Rattle.lists.specs.Sums.{bit, keep, sum}
+use Rattle.lists.specs.Sums.{bit, sum}
 use Rattle.lists.proofs.Below.{allBelow-below, below-allBelow}
-use Rattle.lists.proofs.Distinct.{and-both, place-of, distinct-apart, apart-distinct, times, stands-times, times-distinct, times-below, range-times, stands-count}
-use Rattle.lists.proofs.Ranges.{map-range-length, map-range-at, range-length}
-use Rattle.lists.proofs.Sums.{sum-append, sum-keep, sum-mul, sum-ext, sum-next, sum-add, sum-one}
+use Rattle.lists.proofs.Distinct.{bit-small, and-both, place-of, distinct-apart, apart-distinct, stands-count}
+use Rattle.lists.proofs.Ranges.{map-range-length, map-range-at}
+use Rattle.lists.proofs.Sums.{sum-next}
 
 -- every number below the size, each at one place
 pub record Permutation (size : ℕ) (l : List ℕ) : Type 0 where
@@ -52,16 +52,6 @@ bit-one : (t : Bool) → bit t ≡ 1 → t ≡ true
 unfolding bit
 bit-one true e = refl
 bit-one false e = absurd (let w : ⊥ = omega arith in w)
-
-bit-small : (t : Bool) → bit t ≤ 1
-unfolding bit
-bit-small true = omega arith
-bit-small false = omega arith
-
-either : (t : Bool) → bit (not t) * 1 + bit t ≡ 1
-unfolding bit
-either true = refl
-either false = refl
 
 -- as many terms as their sum, none above 1: all are 1
 few : (f : ℕ → ℕ) → ((v : ℕ) → f v ≤ 1) → (m : ℕ) → sum f (range 0 m) ≤ m
@@ -139,11 +129,6 @@ picked-picked list middle (x ∷ places) b =
     let first : getD (picked list middle) x 0 ≡ getD list (getD middle x 0) 0 = picked-at list middle x (b 0 (omega arith)) in
     ap (λ v. v ∷ picked (picked list middle) places) first ∙ ap (λ l. getD list (getD middle x 0) 0 ∷ l) (picked-picked list middle places (λ i h. b (suc i) (omega arith)))
 
-picked-append : (list xs ys : List ℕ) → picked list (xs ++ ys) ≡ picked list xs ++ picked list ys
-unfolding picked
-picked-append list [] ys = refl
-picked-append list (x ∷ xs) ys = ap (λ l. getD list x 0 ∷ l) (picked-append list xs ys)
-
 -- different places of a permutation hold different entries
 module _ (size : ℕ) (l places : List ℕ) (p : Permutation size l) (b : Below size places) where
   pub picked-below : Below size (picked l places)
@@ -167,95 +152,6 @@ picked-permutation size l places p q =
       below-allBelow size (picked l places) (picked-below size l places p (t .0)),
       picked-distinct size l places p (t .0) (t .1),
     ))
-
-module _ (size : ℕ) (xs : List ℕ) (b : Below size xs) (d : distinct xs ≡ true) where
-  left : ℕ → Bool
-  left v = not (stands v xs)
-
-  completed-length : length (completed size xs) ≡ size
-  unfolding completed left
-  completed-length =
-      let rest : length (keep left (range 0 size)) ≡ sum (λ v. bit (left v) * 1) (range 0 size) =
-      sym (sum-one (keep left (range 0 size))) ∙ sum-keep (λ v. 1) left (range 0 size) in
-      let all : sum (λ v. bit (left v) * 1 + bit (stands v xs)) (range 0 size) ≡ sum (λ v. 1) (range 0 size) =
-      sum-ext (λ v. bit (left v) * 1 + bit (stands v xs)) (λ v. 1) (λ v. either (stands v xs)) (range 0 size) in
-      length-append xs (keep left (range 0 size))
-      ∙ omega (
-        arith,
-        rest,
-        all,
-        sum-add (λ v. bit (left v) * 1) (λ v. bit (stands v xs)) (range 0 size),
-        stands-count size xs b d,
-        sum-one (range 0 size),
-        range-length 0 size,
-      )
-
-  left-same : (u v : ℕ) → bit (left u) * bit (eqb u v) ≡ bit (left v) * bit (eqb u v)
-  unfolding bit
-  left-same u v = go (eqb u v) refl
-    where
-      go : (t : Bool) → eqb u v ≡ t → bit (left u) * bit t ≡ bit (left v) * bit t
-      go true e = ap (λ w. bit (left w) * 1) (eqb-true u v e)
-      go false e = mul-zero (bit (left u)) ∙ sym (mul-zero (bit (left v)))
-
-  -- each number below the size stands in it once at most: in the first part, or else in the second
-  completed-times : (v : ℕ) → times v (completed size xs) ≤ bit (ltb v size)
-  unfolding completed times left bit
-  completed-times v =
-      let rest : times v (keep left (range 0 size)) ≡ bit (left v) * times v (range 0 size) =
-      sum-keep (λ x. bit (eqb x v)) left (range 0 size)
-      ∙ sum-ext (λ u. bit (left u) * bit (eqb u v)) (λ u. bit (left v) * bit (eqb u v)) (λ u. left-same u v) (range 0 size)
-      ∙ sum-mul (bit (left v)) (λ u. bit (eqb u v)) (range 0 size) in
-      omega (
-        arith,
-        sum-append (λ x. bit (eqb x v)) xs (keep left (range 0 size)),
-        rest,
-        stands-times v xs d,
-        ap (λ n. bit (left v) * n) (range-times v size),
-        go (stands v xs) (ltb v size) refl refl,
-      )
-    where
-      go : (s t : Bool) → stands v xs ≡ s → ltb v size ≡ t → bit s + bit (not s) * bit t ≤ bit t
-      go true true here low = omega arith
-      go false t here low = omega (arith, one-mul (bit t))
-      go true false here high =
-          let p = place-of v xs here in
-          absurd (let w : ⊥ = omega (arith, b (placeIn v xs) (p .0), p .1, ltb-false v size high) in w)
-
-  pub completed-permutation : Permutation size (completed size xs)
-  unfolding isPermutation
-  completed-permutation =
-      permutation-facts size (completed size xs)
-      (rw (
-        eq-eqb (length (completed size xs)) size completed-length,
-        times-below size (completed size xs) completed-times,
-        times-distinct (completed size xs) (λ v. omega (arith, completed-times v, bit-small (ltb v size))),
-      ))
-
--- the entries of B's first part stand at the places that A's first part names
-arranged-front : (size : ℕ) (A A′ B B′ : List ℕ) → Permutation size (A ++ A′) → length A ≡ length B → picked (arranged (A ++ A′) (B ++ B′)) A ≡ B
-arranged-front size A A′ B B′ p e =
-    ext-getD 0 (picked (arranged (A ++ A′) (B ++ B′)) A) B (picked-length (arranged (A ++ A′) (B ++ B′)) A ∙ e) (λ i h.
-    let long = picked-length (arranged (A ++ A′) (B ++ B′)) A in
-    let whole = p .long in
-    let parts = length-append A A′ in
-    picked-at (arranged (A ++ A′) (B ++ B′)) A i (omega arith)
-    ∙ ap (λ v. getD (arranged (A ++ A′) (B ++ B′)) v 0) (sym (List·getD-append A A′ 0 i (omega arith)))
-    ∙ arranged-at size (A ++ A′) (B ++ B′) p i (omega arith)
-    ∙ List·getD-append B B′ 0 i (omega arith))
-
-module _ (size : ℕ) (A B : List ℕ) (p : Permutation size (completed size A)) (e : length A ≡ length B) where
-  -- B arranged by A, both completed, has B at the places A
-  pub completed-shown : picked (arranged (completed size A) (completed size B)) A ≡ B
-  unfolding completed
-  completed-shown = arranged-front size A (keep (λ v. not (stands v A)) (range 0 size)) B (keep (λ v. not (stands v B)) (range 0 size)) p e
-
-  -- a list carried from the places B to the places A, both completed, has at A what it had at B
-  pub carried-shown : (l : List ℕ) → picked (arranged (completed size A) (picked l (completed size B))) A ≡ picked l B
-  unfolding completed
-  carried-shown l =
-      ap (λ m. picked (arranged (completed size A) m) A) (picked-append l B (keep (λ v. not (stands v B)) (range 0 size)))
-      ∙ arranged-front size A (keep (λ v. not (stands v A)) (range 0 size)) (picked l B) (picked l (keep (λ v. not (stands v B)) (range 0 size))) p (e ∙ sym (picked-length l B))
 
 -- a list carried from the places B to the places A, and back
 pub carried-back : (size : ℕ) (A B l : List ℕ) → Permutation size A → Permutation size B → length l ≡ size → arranged B (picked (arranged A (picked l B)) A) ≡ l

@@ -72,7 +72,7 @@ apart-distinct (x ∷ l) a =
 
 -- ---- counting
 
-pub eqb-comm : (m n : ℕ) → eqb m n ≡ eqb n m
+eqb-comm : (m n : ℕ) → eqb m n ≡ eqb n m
 eqb-comm m n = go (eqb m n) refl
   where
     go : (t : Bool) → eqb m n ≡ t → t ≡ eqb n m
@@ -83,10 +83,15 @@ eqb-comm m n = go (eqb m n) refl
 unfoldable pub times : ℕ → List ℕ → ℕ
 times v l = sum (λ x. bit (eqb x v)) l
 
-pub bit-zero : (t : Bool) → bit t ≡ 0 → t ≡ false
+bit-zero : (t : Bool) → bit t ≡ 0 → t ≡ false
 unfolding bit
 bit-zero true e = absurd (let w : ⊥ = omega arith in w)
 bit-zero false e = refl
+
+pub bit-small : (t : Bool) → bit t ≤ 1
+unfolding bit
+bit-small true = omega arith
+bit-small false = omega arith
 
 pub stands-times : (v : ℕ) (l : List ℕ) → distinct l ≡ true → times v l ≡ bit (stands v l)
 unfolding distinct stands times sum bit

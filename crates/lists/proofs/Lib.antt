@@ -4,6 +4,7 @@ pub mod Sums
 pub mod Distinct
 pub mod Ranges
 pub mod Arranged
+pub mod Completed
 pub mod Pairs
 pub mod Cuts
 pub mod Each
@@ -13,3 +14,5 @@ pub mod Flat
 pub mod Elements
 pub mod Any
 pub mod PartsAt
+pub mod Ordered
+pub mod Kept

@@ -13,7 +13,7 @@ use Rattle.lists.specs.Sums.{keep, keepIf, All, allNil, allCons}
 use Rattle.lists.proofs.Each.{All-at, All-get}
 use Rattle.lists.proofs.Sums.{All-imp, All-keep, All-map}
 
-under-cons : (p q x : ℕ) (cs : List (ℕ × ℕ)) → under p ((q, x) ∷ cs) ≡ cond (eqb q p) (x ∷ under p cs) (under p cs)
+pub under-cons : (p q x : ℕ) (cs : List (ℕ × ℕ)) → under p ((q, x) ∷ cs) ≡ cond (eqb q p) (x ∷ under p cs) (under p cs)
 unfolding under keep keepIf
 under-cons p q x cs = go (eqb q p)
   where
@@ -86,6 +86,27 @@ module _ {A B : Type 0} where
   zip-seconds [] (y ∷ ys) e = absurd (omega arith)
   zip-seconds (x ∷ xs) [] e = absurd (omega arith)
   zip-seconds (x ∷ xs) (y ∷ ys) e = ap (λ l. y ∷ l) (zip-seconds xs ys (omega arith))
+
+-- what holds of the entries under each label holds of all entries
+pub under-all : {P : ℕ → Type 0} (K : ℕ) {cs : List (ℕ × ℕ)} → All (λ c. c .0 < K) cs → ((p : ℕ) → p < K → All P (under p cs)) → All (λ c. P (c .1)) cs
+under-all K allNil h = allNil
+under-all {P} K (allCons {x = (q, x)} {xs = cs} low a) h = allCons (first (h q low)) (under-all K a (λ p l. rest p (h p l)))
+  where
+    head : {y : ℕ} {ys : List ℕ} → All P (y ∷ ys) → P y
+    head (allCons k b) = k
+
+    tail : {y : ℕ} {ys : List ℕ} → All P (y ∷ ys) → All P ys
+    tail (allCons k b) = b
+
+    first : All P (under q ((q, x) ∷ cs)) → P x
+    first b = head (rw (under-cons q q x cs, eq-eqb q q refl) at b)
+
+    rest : (p : ℕ) → All P (under p ((q, x) ∷ cs)) → All P (under p cs)
+    rest p b = go (eqb q p) (rw (under-cons p q x cs) at b)
+      where
+        go : (t : Bool) → All P (cond t (x ∷ under p cs) (under p cs)) → All P (under p cs)
+        go true c = tail c
+        go false c = c
 
 -- the entries under a label are among all entries
 pub under-below : (n p : ℕ) (xs ys : List ℕ) → Below n ys → Below n (under p (zip xs ys))

@@ -8,3 +8,4 @@ pub mod Arranged
 pub mod Pairs
 pub mod Marks
 pub mod Padded
+pub mod Lexicographic
