@@ -4,8 +4,8 @@ use native.Mathlib.Nat.{one-le-pow}
 use native.Mathlib.Omega.{arith}
 use mathlib.Core.Path.{_≡_, refl, sym, ap, _∙_, fun-ext}
 use mathlib.Core.List.{List, [], _∷_, flatMap}
-use mathlib.Core.Bool.{Bool, true, false}
-use mathlib.Core.Option.{none}
+use mathlib.Core.Bool.{Bool, true, false, true≢false, false≢true}
+use mathlib.Core.Option.{Option, none, some}
 use lib.ListN.{length, getD, replicate, getD-replicate, List·getD-map}
 use Rattle.lists.specs.Any.{Any}
 use Rattle.lists.specs.Ranges.{range}
@@ -117,9 +117,25 @@ module _ (N K k : ℕ) (wide : 1 < N) (known : k < K) (n : ℕ) (l : n < N) wher
       R : List Row
       R = block N K k (ones A - 1) n
 
-  -- so it has a place of p if A has p, and else none
-  pub row-has : (A : List Bool) (i p : ℕ) → Good K A → i < (N - 1) ^ (ones A - 1) → isSome (getD (getD (setRows N K k n A) i []) p none) ≡ has p A
+  row-has : (A : List Bool) (i p : ℕ) → Good K A → i < (N - 1) ^ (ones A - 1) → isSome (getD (getD (setRows N K k n A) i []) p none) ≡ has p A
   row-has A i p good h = sym (setOf-has (getD (setRows N K k n A) i []) p) ∙ ap (has p) (row-set A i good h)
+
+  -- so it has a place of p if A has p, and else none
+  pub row-some : (A : List Bool) (i p : ℕ) → Good K A → i < (N - 1) ^ (ones A - 1) → has p A ≡ true → (x : ℕ) × (getD (getD (setRows N K k n A) i []) p none ≡ some x)
+  unfolding isSome
+  row-some A i p good h e = go (getD (getD (setRows N K k n A) i []) p none) (row-has A i p good h ∙ e)
+    where
+      go : (o : Option ℕ) → isSome o ≡ true → (x : ℕ) × (o ≡ some x)
+      go none f = absurd (false≢true f)
+      go (some x) f = (x, refl)
+
+  pub row-none : (A : List Bool) (i p : ℕ) → Good K A → i < (N - 1) ^ (ones A - 1) → has p A ≡ false → getD (getD (setRows N K k n A) i []) p none ≡ none
+  unfolding isSome
+  row-none A i p good h e = go (getD (getD (setRows N K k n A) i []) p none) (row-has A i p good h ∙ e)
+    where
+      go : (o : Option ℕ) → isSome o ≡ false → o ≡ none
+      go none f = refl
+      go (some x) f = absurd (true≢false f)
 
 -- row i of set A at server n, where A has k
 pub record WantedRow (N K k n : ℕ) (A : List Bool) (i : ℕ) : Type 0 where

@@ -1,8 +1,7 @@
 -- Recovery writes each symbol of the message once: its parts begin at the symbols of a permutation of all of them.
 use mathlib.Core.Path.{_≡_, refl, sym, ap, _∙_, fun-ext}
-use mathlib.Core.Bool.{Bool, true, false, true≢false}
-use mathlib.Core.List.{List, [], _∷_, map, map-map, flatMap}
-use mathlib.Core.Option.{Option, none, some}
+use mathlib.Core.Bool.{Bool, true, false}
+use mathlib.Core.List.{List, [], map, map-map, flatMap}
 use Prim.Native.Nat.{ℕ, _-_, _*_, _^_, _<_}
 use native.Mathlib.Nat.{one-mul, zero-mul}
 use native.Mathlib.Omega.{arith}
@@ -19,29 +18,19 @@ use Rattle.lists.proofs.Below.{allBelow-below}
 use Rattle.lists.proofs.Distinct.{bit-small, times, times-below, times-distinct, stands-times, stands-count}
 use Rattle.lists.proofs.Kept.{map-flatMap}
 use Rattle.lists.proofs.Ranges.{range-length}
-use Rattle.lists.proofs.Sums.{All-imp, sum-all, sum-first, sum-flatMap, sum-keep, sum-map, sum-range, sum-zero, sum-one}
+use Rattle.lists.proofs.Sums.{All-imp, sum-all, sum-flatMap, sum-keep, sum-map, sum-range, sum-zero, sum-one}
+use Rattle.lists.proofs.SumsAt.{sum-at}
 use Rattle.symbol.specs.Sum.{Sum}
 use Rattle.scheme.specs.Scheme.{Valid}
 use Rattle.even_places.specs.Sets.{has, ones, allSets}
-use Rattle.even_places.specs.Rule.{isSome, rows}
-use Rattle.even_places.proofs.RowNumbers.{Good, allSets-good, setRows, rows-by-set, setRows-length, row-has}
+use Rattle.even_places.specs.Rule.{rows}
+use Rattle.even_places.proofs.RowNumbers.{Good, allSets-good, setRows, rows-by-set, setRows-length, row-some, row-none}
 use Rattle.even_places.proofs.Rows.{below, below-lt, hit, is}
 use Rattle.even_places.proofs.Totals.{wanted-once}
 use Rattle.even_scheme.specs.Even.{permutation, numberAt, wantedPlace, recoveredPart, serverParts, recoveredParts, evenScheme}
 use Rattle.even_scheme.proofs.Assembled.{Part}
 use Rattle.even_scheme.proofs.Keys.{key-permutation}
-use Rattle.even_scheme.proofs.Recovery.{some-place, wanted-place}
-
--- a sum by places
-sum-at : {A : Type 0} (w : A → ℕ) (d : A) (l : List A) → sum w l ≡ sum (λ i. w (getD l i d)) (range 0 (length l))
-unfolding sum range
-sum-at w d [] = refl
-sum-at w d (x ∷ l) = omega (arith, sum-at w d l, sum-first (λ i. w (getD (x ∷ l) i d)) 0 (length l))
-
-no-place : (o : Option ℕ) → isSome o ≡ false → o ≡ none
-unfolding isSome
-no-place none e = refl
-no-place (some x) e = absurd (true≢false e)
+use Rattle.even_scheme.proofs.Recovery.{wanted-place}
 
 module _ (sums : Sum) (N K S k : ℕ) where
   -- the places of the wanted message in the order of recovery: in the rows of a set, of a server, of all
@@ -71,13 +60,13 @@ module _ (sums : Sum) (N K S k : ℕ) where
             one-mul (times v (setPlaces n A))
             ∙ sum-map (λ x. bit (eqb x v)) (wantedPlace sums N K S k n A) (range 0 q)
             ∙ sum-range (λ i. bit (eqb (wantedPlace sums N K S k n A i) v)) hits q (λ i h.
-            let place = some-place (getD (getD (setRows N K k n A) i []) k none) (row-has N K k wide known n l A i k good h ∙ e) in
+            let place = row-some N K k wide known n l A i k good h e in
             ap (λ (x : ℕ). bit (eqb x v)) (wanted-place sums N K S k wide known n A i (place .0) (record { server-below = l; set-good = good; in-set = e; row-below = h }) (place .1))
             ∙ sym (ap (is v) (place .1)))
         go false e =
             zero-mul (times v (setPlaces n A))
             ∙ sym (sum-zero (range 0 q))
-            ∙ sum-range (λ i. 0) hits q (λ i h. sym (ap (is v) (no-place (getD (getD (setRows N K k n A) i []) k none) (row-has N K k wide known n l A i k good h ∙ e))))
+            ∙ sum-range (λ i. 0) hits q (λ i h. sym (ap (is v) (row-none N K k wide known n l A i k good h e)))
 
     server-times : (n : ℕ) → n < N → times v (serverPlaces n) ≡ sum (hit k v) (rows N K k n)
     unfolding times serverPlaces

@@ -1,9 +1,9 @@
 -- From honest answers each row with the wanted message gives the symbol that its place of that message stands for: it is the answer
 -- to that row, or what the answer to the row that it was joined from leaves of it.
 use mathlib.Core.Path.{_≡_, refl, sym, ap, ap₂, _∙_}
-use mathlib.Core.Bool.{Bool, true, false, cond, false≢true}
+use mathlib.Core.Bool.{Bool, true, false, cond}
 use mathlib.Core.List.{List, []}
-use mathlib.Core.Option.{Option, none, some}
+use mathlib.Core.Option.{none, some}
 use Prim.Native.Nat.{ℕ, _+_, _-_, _/_, _%_, _^_, _<_}
 use native.Mathlib.Omega.{arith}
 use borrow.Author.Tests.{eqb-true, eqb-false}
@@ -13,17 +13,12 @@ use Rattle.symbol.specs.Sum.{Sum}
 use Rattle.scheme.specs.Scheme.{honestAnswers}
 use Rattle.even_places.specs.Sets.{ones}
 use Rattle.even_places.specs.Rule.{Row, isSome, others, firstRow, layout}
-use Rattle.even_places.proofs.RowNumbers.{setRows, row-number, row-set, row-has, WantedRow}
+use Rattle.even_places.proofs.RowNumbers.{setRows, row-number, row-set, row-some, WantedRow}
 use Rattle.even_places.proofs.SetLaws.{setOf}
 use Rattle.even_places.proofs.SourceRows.{source-row}
 use Rattle.even_scheme.specs.Even.{numberAt, symbolAt, answeredRow, sourceServer, sourceRow, recoveredSymbol, wantedPlace, evenScheme}
 use Rattle.even_scheme.proofs.HonestRows.{rowTotal, Retrieval, honest-row}
 use Rattle.even_scheme.proofs.RowSymbols.{row-more, row-alone}
-
-pub some-place : (o : Option ℕ) → isSome o ≡ true → (x : ℕ) × (o ≡ some x)
-unfolding isSome
-some-place none e = absurd (false≢true e)
-some-place (some x) e = (x, refl)
 
 -- the place of the wanted message in a row
 pub wanted-place : (sum : Sum) (N K S k : ℕ) → 1 < N → k < K → (n : ℕ) (A : List Bool) (i x : ℕ) → WantedRow N K k n A i
@@ -45,7 +40,7 @@ module _ (sum : Sum) (N K S k : ℕ) (store key : List ℕ) (run : Retrieval sum
 
   place : (x : ℕ) × (getD row k none ≡ some x)
   unfolding row
-  place = some-place (getD row k none) (row-has N K k (run .wide) (run .known) n (wanted .server-below) A i k (wanted .set-good) (wanted .row-below) ∙ wanted .in-set)
+  place = row-some N K k (run .wide) (run .known) n (wanted .server-below) A i k (wanted .set-good) (wanted .row-below) (wanted .in-set)
 
   pub recovered : recoveredSymbol sum N K S k (honestAnswers (evenScheme sum N K S) N store k key) n A i
       ≡ symbolAt sum N K S store k (numberAt N K key k (wantedPlace sum N K S k n A i))

@@ -1,21 +1,23 @@
 -- Laws of `Any`: an element with a property by its place, in joined lists, and in a range; and `All` of a range.
-use mathlib.Core.Path.{_≡_, subst}
+use mathlib.Core.Path.{sym, subst, _∙_}
 use mathlib.Core.List.{List, [], _∷_, _++_, flatMap}
-use Prim.Native.Nat.{ℕ, zero, suc, _+_, _<_}
-use native.Mathlib.Nat.{not-suc-le-zero}
+use Prim.Native.Nat.{ℕ, zero, suc, _<_}
+use native.Mathlib.Nat.{zero-add, not-suc-le-zero}
 use native.Mathlib.Decide.{decLt}
 use native.Mathlib.Omega.{arith}
 use lib.ListN.{length, getD}
 use Rattle.lists.specs.Any.{Any, anyHere, anyLater}
 use Rattle.lists.specs.Ranges.{range}
-use Rattle.lists.specs.Sums.{All, allNil, allCons, sum}
+use Rattle.lists.specs.Sums.{All, sum}
+use Rattle.lists.proofs.Ranges.{range-length, range-at, range-below}
+use Rattle.lists.proofs.Sums.{All-imp}
 
 module _ {A : Type 0} where
-  pub Any-left : {P : A → Type 0} {xs : List A} (ys : List A) → Any P xs → Any P (xs ++ ys)
+  Any-left : {P : A → Type 0} {xs : List A} (ys : List A) → Any P xs → Any P (xs ++ ys)
   Any-left ys (anyHere p) = anyHere p
   Any-left ys (anyLater a) = anyLater (Any-left ys a)
 
-  pub Any-right : {P : A → Type 0} (xs : List A) {ys : List A} → Any P ys → Any P (xs ++ ys)
+  Any-right : {P : A → Type 0} (xs : List A) {ys : List A} → Any P ys → Any P (xs ++ ys)
   Any-right [] a = a
   Any-right (x ∷ xs) a = anyLater (Any-right xs a)
 
@@ -45,23 +47,8 @@ module _ {A B : Type 0} where
   Any-flatMap g (anyLater {x = x} a) = Any-right (g x) (Any-flatMap g a)
 
 module _ {P : ℕ → Type 0} where
-  any-from : (from count i : ℕ) → i < count → P (from + i) → Any P (range from count)
-  unfolding range
-  any-from from zero i h p = absurd (not-suc-le-zero h)
-  any-from from (suc count) zero h p = anyHere (subst P (let e : from + 0 ≡ from = omega arith in e) p)
-  any-from from (suc count) (suc i) h p =
-      anyLater (any-from (suc from) count i (omega arith) (subst P (let e : from + suc i ≡ suc from + i = omega arith in e) p))
-
   pub Any-range : (count i : ℕ) → i < count → P i → Any P (range 0 count)
-  Any-range count i h p = any-from 0 count i h (subst P (let e : i ≡ 0 + i = omega arith in e) p)
-
-  all-from : (from count : ℕ) → ((i : ℕ) → i < count → P (from + i)) → All P (range from count)
-  unfolding range
-  all-from from zero h = allNil
-  all-from from (suc count) h =
-      allCons
-      (subst P (let e : from + 0 ≡ from = omega arith in e) (h 0 (omega arith)))
-      (all-from (suc from) count (λ i l. subst P (let e : from + suc i ≡ suc from + i = omega arith in e) (h (suc i) (omega arith))))
+  Any-range count i h p = Any-at 0 (range 0 count) i (omega (arith, range-length 0 count)) (subst P (sym (range-at 0 count i 0 h ∙ zero-add i)) p)
 
   pub All-range : (count : ℕ) → ((i : ℕ) → i < count → P i) → All P (range 0 count)
-  All-range count h = all-from 0 count (λ i l. subst P (let e : i ≡ 0 + i = omega arith in e) (h i l))
+  All-range count h = All-imp h (range-below count 0 count (omega arith))

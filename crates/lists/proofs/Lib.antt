@@ -14,5 +14,6 @@ pub mod Flat
 pub mod Elements
 pub mod Any
 pub mod PartsAt
+pub mod SumsAt
 pub mod Ordered
 pub mod Kept
