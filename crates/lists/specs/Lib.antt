@@ -5,6 +5,5 @@ pub mod Sums
 pub mod Distinct
 pub mod Arranged
 pub mod Pairs
-pub mod Marks
 pub mod Padded
 pub mod Lexicographic
