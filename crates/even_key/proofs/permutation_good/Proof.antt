@@ -19,7 +19,7 @@ loop-holds : tie.Need-loop-holds Inv-loop μ-loop
 loop-holds c = (
   omega arith,
   length-replicate {A = Bool} 256 false,
-  permutation-passes (c .args .size) 256 (c .args .bytes .now) (c .pre .0),
+  permutation-passes (c .args .size) 256 (c .args .bytes .now) (c .pre),
 )
 
 shared-slice-read-entry : tie.Need-shared-slice-read-entry Inv-loop μ-loop
