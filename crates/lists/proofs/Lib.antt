@@ -17,6 +17,7 @@ pub mod Completed
 pub mod Pairs
 pub mod Each
 pub mod Marks
+pub mod Passes
 pub mod Writing
 pub mod Flat
 pub mod Elements
