@@ -4,3 +4,5 @@ pub mod Sums
 pub mod Writing
 pub mod Flat
 pub mod Elements
+pub mod Marks
+pub mod Every

@@ -1,3 +1,9 @@
+-- `even_answer::add_symbol` meets its contract: the part of the store that it lends is the symbol.
+use mathlib.Core.Path.{_≡_, ap, _∙_}
+use Prim.Native.Nat.{ℕ}
+use native.Mathlib.Nat.{add-sub-cancel-left}
+use lib.ListN.{length, take, drop}
+use Rattle.symbol.specs.Xor.{xor}
 use borrow.Author.Needs.{needs}
 use Rattle.even_answer.proofs.add_symbol.Statement.{statement}
 use Rattle.even_answer.proofs.add_symbol.Tie as tie
@@ -48,7 +54,12 @@ same-length c = search needs
 
 -- src/lib.rt:54:1
 returns : tie.Need-returns
-returns c = ?
+returns c =
+    let start = c .before .before .before .before .before .before .before .before in
+    let from = start .args .start in
+    let store = start .args .store .now in
+    rw (c .before .before .before .before .before .if1 .taken)
+    (c .before .before .copy .ensures ∙ ap (λ (n : ℕ). take n (drop from store)) (add-sub-cancel-left from (length (start .args .out .now))))
 
 -- src/lib.rt:54:1
 same-length-2 : tie.Need-same-length-2
@@ -56,7 +67,12 @@ same-length-2 c = search needs
 
 -- src/lib.rt:54:1
 returns-2 : tie.Need-returns-2
-returns-2 c = ?
+returns-2 c =
+    let start = c .before .before .before .before .before .before .before .before in
+    let from = start .args .start in
+    let store = start .args .store .now in
+    rw (c .before .before .before .before .before .if1 .left)
+    (c .before .before .combine .ensures ∙ ap (λ (n : ℕ). xor .plus (start .args .out .now) (take n (drop from store))) (add-sub-cancel-left from (length (start .args .out .now))))
 
 pub add-symbol-spec : {M : Type 1} → statement M
 add-symbol-spec =

@@ -1,0 +1,79 @@
+-- `even_answer::admits` meets its contract: a query of the right length is admitted if the pass over it finds all fresh.
+use mathlib.Core.Path.{_≡_, refl, sym, ap, ap₂, _∙_}
+use Prim.Native.Nat.{ℕ, _-_, _*_, _^_, _≤_}
+use native.Mathlib.Nat.{mul-le-mul}
+use native.Mathlib.Omega.{arith}
+use lib.ListN.{length, take}
+use Rattle.even_places.specs.Rule.{positions}
+use Rattle.even_scheme.specs.Even.{evenAdmits}
+use Rattle.even_layout.proofs.Tables.{positions-length, positions-room}
+use Rattle.even_answer.proofs.Admission.{positions-below, positions-front, admits-pass, power-less}
+use borrow.Author.Needs.{needs}
+use Rattle.even_answer.proofs.admits.Statement.{statement}
+use Rattle.even_answer.proofs.admits.Tie as tie
+use Rattle.even_answer.proofs.admits.Reads as reads
+use Rattle.even_answer.proofs.admits.Lts as lts
+use Rattle.even_answer.proofs.all_fresh.Reads as all-fresh-reads
+use Rattle.even_layout.proofs.positions.Reads as positions-reads
+use Rattle.even_layout.proofs.power.Reads as power-reads
+
+-- src/lib.rt:46:49
+sub-power : tie.Need-sub-power
+sub-power c = omega (arith, c .before .pre .messages-low)
+
+-- src/lib.rt:46:27
+power-requires : tie.Need-power-requires
+power-requires c κs =
+    let n = c .before .args .n in
+    omega (arith, power-less n (c .before .args .k) (c .before .pre))
+
+-- src/lib.rt:46:23
+mul-if1 : tie.Need-mul-if1
+mul-if1 c =
+    let n = c .before .before .args .n in
+    let k = c .before .before .args .k in
+    let few : c .power .result ≤ 256 = omega (arith, c .power .ensures, power-less n k (c .before .before .pre)) in
+    omega (arith, mul-le-mul (c .before .before .pre .messages-high) few)
+
+-- src/lib.rt:47:9
+returns : tie.Need-returns
+returns c = ?
+
+-- src/lib.rt:49:20
+positions-requires : tie.Need-positions-requires
+positions-requires c κs = search needs
+
+-- src/lib.rt:50:15
+power-requires-2 : tie.Need-power-requires-2
+power-requires-2 c κs = search needs
+
+-- src/lib.rt:50:41
+array-share-prefix-messages : tie.Need-array-share-prefix-messages
+array-share-prefix-messages c = ?
+
+-- src/lib.rt:50:41
+slice-aggregate-all-fresh : tie.Need-slice-aggregate-all-fresh
+slice-aggregate-all-fresh c = ?
+
+-- src/lib.rt:50:5
+all-fresh-requires : tie.Need-all-fresh-requires
+all-fresh-requires c κs = ?
+
+-- src/lib.rt:42:1
+returns-2 : tie.Need-returns-2
+returns-2 c = ?
+
+pub admits-spec : {M : Type 1} → statement M
+admits-spec =
+    tie.close
+    (tie.spec
+    sub-power
+    power-requires
+    mul-if1
+    returns
+    positions-requires
+    power-requires-2
+    array-share-prefix-messages
+    slice-aggregate-all-fresh
+    all-fresh-requires
+    returns-2)
