@@ -7,7 +7,7 @@ use native.Mathlib.Nat.{pow-le-pow-right}
 use native.Mathlib.Omega.{arith}
 use borrow.Author.Tests.{eq-eqb, eqb-true}
 use lib.Dec.{eqb}
-use lib.ListN.{length, take, replicate}
+use lib.ListN.{length, take, replicate, length-append}
 use lib.Seq.{take-at}
 use Rattle.lists.specs.Below.{allBelow, Below}
 use Rattle.lists.specs.Distinct.{distinct}
@@ -47,6 +47,11 @@ pub positions-front : (N K : ℕ) (table query : List ℕ) → Bounds N K → ta
 positions-front N K table query bounds e f =
     rw e (take-at (positions N K) (replicate (1024 - length (positions N K)) 0) (length query)
     (positions-length N K (bounds .servers-low) (bounds .messages-low) ∙ sym f))
+
+pub positions-fit : (N K : ℕ) (table query : List ℕ) → Bounds N K → table ≡ padded 1024 (positions N K) → length query ≡ K * N ^ (K - 1)
+    → length query ≤ length table
+positions-fit N K table query bounds e f =
+    omega (arith, ap length e, length-append (positions N K) (replicate (1024 - length (positions N K)) 0), positions-length N K (bounds .servers-low) (bounds .messages-low))
 
 -- the pass over a query of the right length decides
 pub admits-pass : (N K server : ℕ) (query : List ℕ) → length query ≡ K * N ^ (K - 1)

@@ -4,10 +4,16 @@ use Prim.Native.Nat.{ℕ, _-_, _*_, _^_, _≤_}
 use native.Mathlib.Nat.{mul-le-mul}
 use native.Mathlib.Omega.{arith}
 use lib.ListN.{length, take}
+use borrow.Author.Tests.{ne-eqb}
+use mathlib.Core.Bool.{_&&_}
+use mathlib.Core.List.{List, zipWith}
+use Rattle.lists.specs.Below.{allBelow}
+use Rattle.lists.specs.Distinct.{distinct}
+use Rattle.even_answer.specs.Answering.{cellOf}
 use Rattle.even_places.specs.Rule.{positions}
 use Rattle.even_scheme.specs.Even.{evenAdmits}
 use Rattle.even_layout.proofs.Tables.{positions-length, positions-room}
-use Rattle.even_answer.proofs.Admission.{positions-below, positions-front, admits-pass, power-less}
+use Rattle.even_answer.proofs.Admission.{positions-below, positions-front, positions-fit, admits-pass, power-less}
 use borrow.Author.Needs.{needs}
 use Rattle.even_answer.proofs.admits.Statement.{statement}
 use Rattle.even_answer.proofs.admits.Tie as tie
@@ -37,7 +43,11 @@ mul-if1 c =
 
 -- src/lib.rt:47:9
 returns : tie.Need-returns
-returns c = ?
+unfolding evenAdmits
+returns c =
+    let start = c .before .before .before in
+    let k = start .args .k in
+    rw (ne-eqb (length (start .args .query .now)) (k * start .args .n ^ (k - 1)) (λ e. c .if1 .taken (e ∙ ap (λ (m : ℕ). k * m) (sym (c .before .power .ensures)))))
 
 -- src/lib.rt:49:20
 positions-requires : tie.Need-positions-requires
@@ -49,19 +59,57 @@ power-requires-2 c κs = search needs
 
 -- src/lib.rt:50:41
 array-share-prefix-messages : tie.Need-array-share-prefix-messages
-array-share-prefix-messages c = ?
+array-share-prefix-messages c =
+    let at = c .before .before in
+    let start = at .before .before .before in
+    let n = start .args .n in
+    let k = start .args .k in
+    let query = start .args .query .now in
+    let long : length query ≡ k * n ^ (k - 1) = at .if1 .left ∙ ap (λ (m : ℕ). k * m) (at .before .power .ensures) in
+    positions-fit n k (c .before .positions .result) query (start .pre) (c .before .positions .ensures) long
 
 -- src/lib.rt:50:41
 slice-aggregate-all-fresh : tie.Need-slice-aggregate-all-fresh
-slice-aggregate-all-fresh c = ?
+slice-aggregate-all-fresh c =
+    let at = c .before .before .before in
+    let start = at .before .before .before in
+    let n = start .args .n in
+    let k = start .args .k in
+    let query = start .args .query .now in
+    let long : length query ≡ k * n ^ (k - 1) = at .if1 .left ∙ ap (λ (m : ℕ). k * m) (at .before .power .ensures) in
+    let table = c .before .before .positions in
+    sym (ap length (positions-front n k (table .result) query (start .pre) (table .ensures) long) ∙ positions-length n k (start .pre .servers-low) (start .pre .messages-low) ∙ sym long)
 
 -- src/lib.rt:50:5
 all-fresh-requires : tie.Need-all-fresh-requires
-all-fresh-requires c κs = ?
+all-fresh-requires c κs =
+    let at = c .before .before .before in
+    let start = at .before .before .before in
+    let n = start .args .n in
+    let k = start .args .k in
+    let query = start .args .query .now in
+    let long : length query ≡ k * n ^ (k - 1) = at .if1 .left ∙ ap (λ (m : ℕ). k * m) (at .before .power .ensures) in
+    let table = c .before .before .positions in
+    let front = positions-front n k (table .result) query (start .pre) (table .ensures) long in (
+      omega (arith, c .before .power2 .ensures, start .pre .symbols-high),
+      ap length front ∙ positions-length n k (start .pre .servers-low) (start .pre .messages-low) ∙ sym long,
+      rw front (λ i h. omega (arith, positions-below n k i h, start .pre .messages-high)),
+    )
 
 -- src/lib.rt:42:1
 returns-2 : tie.Need-returns-2
-returns-2 c = ?
+returns-2 c =
+    let at = c .before .before .before .before in
+    let start = at .before .before .before in
+    let n = start .args .n in
+    let k = start .args .k in
+    let query = start .args .query .now in
+    let long : length query ≡ k * n ^ (k - 1) = at .if1 .left ∙ ap (λ (m : ℕ). k * m) (at .before .power .ensures) in
+    let table = c .before .before .before .positions in
+    c .all-fresh .ensures
+    ∙ ap₂ (λ (m : ℕ) (l : List ℕ). allBelow m query && distinct (zipWith (cellOf m) l query)) (c .before .before .power2 .ensures)
+    (positions-front n k (table .result) query (start .pre) (table .ensures) long)
+    ∙ admits-pass n k (start .args .server) query long
 
 pub admits-spec : {M : Type 1} → statement M
 admits-spec =
