@@ -84,7 +84,16 @@ fn answer_row(n: usize, k: usize, s: usize, store: &[u8], set: u8, numbers: &[u8
 }
 
 // The answers to `rows` rows of the set, whose numbers are the first of `numbers`, to the front of `out`.
-fn answer_set(n: usize, k: usize, s: usize, store: &[u8], set: u8, rows: usize, numbers: &[u8], out: &mut [u8])
+fn answer_set(
+    n: usize,
+    k: usize,
+    s: usize,
+    store: &[u8],
+    set: u8,
+    rows: usize,
+    numbers: &[u8],
+    out: &mut [u8],
+)
     requires { ⌜ SetAnswerable n k s (now store) set rows (now numbers) × (rows * s ≤ length (now out)) ⌝ }
     ensures { λ _. ⌜ now (out .exit) ≡ put 0 (rowAnswers xor n k s (now (store .entry)) (replicate rows (setIn k set)) (now (numbers .entry))) (now (out .entry)) ⌝ }
 {

@@ -7,52 +7,37 @@ use Rattle.symbol.specs.Xor.{xor}
 use borrow.Author.Needs.{needs}
 use Rattle.even_answer.proofs.add_symbol.Statement.{statement}
 use Rattle.even_answer.proofs.add_symbol.Tie as tie
-use Rattle.even_answer.proofs.add_symbol.Reads as reads
-use Rattle.even_answer.proofs.add_symbol.Lts as lts
-use Rattle.symbol.proofs.combine.Reads as combine-reads
-use Rattle.symbol.proofs.copy.Reads as copy-reads
 
--- src/lib.rt:58:15
 add-end : tie.Need-add-end
 add-end c = search needs
 
--- src/lib.rt:60:27
 sub-copy : tie.Need-sub-copy
 sub-copy c = search needs
 
--- src/lib.rt:60:27
 part-copy-start : tie.Need-part-copy-start
 part-copy-start c = search needs
 
--- src/lib.rt:60:27
 part-copy-end : tie.Need-part-copy-end
 part-copy-end c = search needs
 
--- src/lib.rt:60:9
 copy-requires : tie.Need-copy-requires
 copy-requires c κs = search needs
 
--- src/lib.rt:62:30
 sub-combine : tie.Need-sub-combine
 sub-combine c = search needs
 
--- src/lib.rt:62:30
 part-combine-start : tie.Need-part-combine-start
 part-combine-start c = search needs
 
--- src/lib.rt:62:30
 part-combine-end : tie.Need-part-combine-end
 part-combine-end c = search needs
 
--- src/lib.rt:62:9
 combine-requires : tie.Need-combine-requires
 combine-requires c κs = search needs
 
--- src/lib.rt:54:1
 same-length : tie.Need-same-length
 same-length c = search needs
 
--- src/lib.rt:54:1
 returns : tie.Need-returns
 returns c =
     let start = c .before .before .before .before .before .before .before .before in
@@ -61,11 +46,9 @@ returns c =
     rw (c .before .before .before .before .before .if1 .taken)
     (c .before .before .copy .ensures ∙ ap (λ (n : ℕ). take n (drop from store)) (add-sub-cancel-left from (length (start .args .out .now))))
 
--- src/lib.rt:54:1
 same-length-2 : tie.Need-same-length-2
 same-length-2 c = search needs
 
--- src/lib.rt:54:1
 returns-2 : tie.Need-returns-2
 returns-2 c =
     let start = c .before .before .before .before .before .before .before .before in

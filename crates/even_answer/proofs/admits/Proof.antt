@@ -17,23 +17,15 @@ use Rattle.even_answer.proofs.Admission.{positions-below, positions-fro
 use borrow.Author.Needs.{needs}
 use Rattle.even_answer.proofs.admits.Statement.{statement}
 use Rattle.even_answer.proofs.admits.Tie as tie
-use Rattle.even_answer.proofs.admits.Reads as reads
-use Rattle.even_answer.proofs.admits.Lts as lts
-use Rattle.even_answer.proofs.all_fresh.Reads as all-fresh-reads
-use Rattle.even_layout.proofs.positions.Reads as positions-reads
-use Rattle.even_layout.proofs.power.Reads as power-reads
 
--- src/lib.rt:46:49
 sub-power : tie.Need-sub-power
 sub-power c = omega (arith, c .before .pre .messages-low)
 
--- src/lib.rt:46:27
 power-requires : tie.Need-power-requires
 power-requires c κs =
     let n = c .before .args .n in
     omega (arith, power-less n (c .before .args .k) (c .before .pre))
 
--- src/lib.rt:46:23
 mul-if1 : tie.Need-mul-if1
 mul-if1 c =
     let n = c .before .before .args .n in
@@ -41,7 +33,6 @@ mul-if1 c =
     let few : c .power .result ≤ 256 = omega (arith, c .power .ensures, power-less n k (c .before .before .pre)) in
     omega (arith, mul-le-mul (c .before .before .pre .messages-high) few)
 
--- src/lib.rt:47:9
 returns : tie.Need-returns
 unfolding evenAdmits
 returns c =
@@ -49,15 +40,12 @@ returns c =
     let k = start .args .k in
     rw (ne-eqb (length (start .args .query .now)) (k * start .args .n ^ (k - 1)) (λ e. c .if1 .taken (e ∙ ap (λ (m : ℕ). k * m) (sym (c .before .power .ensures)))))
 
--- src/lib.rt:49:20
 positions-requires : tie.Need-positions-requires
 positions-requires c κs = search needs
 
--- src/lib.rt:50:15
 power-requires-2 : tie.Need-power-requires-2
 power-requires-2 c κs = search needs
 
--- src/lib.rt:50:41
 array-share-prefix-messages : tie.Need-array-share-prefix-messages
 array-share-prefix-messages c =
     let at = c .before .before in
@@ -68,7 +56,6 @@ array-share-prefix-messages c =
     let long : length query ≡ k * n ^ (k - 1) = at .if1 .left ∙ ap (λ (m : ℕ). k * m) (at .before .power .ensures) in
     positions-fit n k (c .before .positions .result) query (start .pre) (c .before .positions .ensures) long
 
--- src/lib.rt:50:41
 slice-aggregate-all-fresh : tie.Need-slice-aggregate-all-fresh
 slice-aggregate-all-fresh c =
     let at = c .before .before .before in
@@ -80,7 +67,6 @@ slice-aggregate-all-fresh c =
     let table = c .before .before .positions in
     sym (ap length (positions-front n k (table .result) query (start .pre) (table .ensures) long) ∙ positions-length n k (start .pre .servers-low) (start .pre .messages-low) ∙ sym long)
 
--- src/lib.rt:50:5
 all-fresh-requires : tie.Need-all-fresh-requires
 all-fresh-requires c κs =
     let at = c .before .before .before in
@@ -96,7 +82,6 @@ all-fresh-requires c κs =
       rw front (λ i h. omega (arith, positions-below n k i h, start .pre .messages-high)),
     )
 
--- src/lib.rt:42:1
 returns-2 : tie.Need-returns-2
 returns-2 c =
     let at = c .before .before .before .before in

@@ -12,8 +12,6 @@ use Rattle.even_answer.specs.Answering.{cellOf}
 use Rattle.even_answer.proofs.Fresh.{fresh, fresh-start, fresh-high, fresh-marked, fresh-more, fresh-end, cell-room}
 use Rattle.even_answer.proofs.all_fresh.Statement.{statement}
 use Rattle.even_answer.proofs.all_fresh.Tie as tie
-use Rattle.even_answer.proofs.all_fresh.Reads as reads
-use Rattle.even_answer.proofs.all_fresh.Lts as lts
 
 abbrev Inv-loop : tie.InvT-loop
 Inv-loop size messages numbers marks₀ i₀ marks i = (i ≤ length numbers) × (length marks ≡ 2048) × (fresh size marks (drop i messages) (drop i numbers) ≡ (allBelow size numbers && distinct (zipWith (cellOf size) messages numbers)))
@@ -21,36 +19,29 @@ Inv-loop size messages numbers marks₀ i₀ marks i = (i ≤ length numbers) ×
 abbrev μ-loop : tie.MeasureT-loop
 μ-loop size messages numbers marks₀ i₀ marks i = length numbers - i
 
--- src/lib.rt:26:5
 loop-holds : tie.Need-loop-holds Inv-loop μ-loop
 loop-holds c =
     let size = c .args .size in
     (omega arith, length-replicate {A = Bool} 2048 false, fresh-start size 2048 (c .args .messages .now) (c .args .numbers .now))
 
--- src/lib.rt:27:22
 shared-slice-read-number : tie.Need-shared-slice-read-number Inv-loop μ-loop
 shared-slice-read-number c = omega arith
 
--- src/lib.rt:27:22
 cast-number : tie.Need-cast-number Inv-loop μ-loop
 cast-number c = omega (arith, c .shared-slice-known .given (c .before .before .loop .i))
 
--- src/lib.rt:29:13
 returns : tie.Need-returns Inv-loop μ-loop
 returns c =
     let at = c .before .before .before in
     let start = at .before in
     sym (sym (at .loop .inv .2) ∙ fresh-high (start .args .size) (at .loop .marks) (start .args .messages .now) (start .args .numbers .now) (at .loop .i) (omega arith) (start .pre .1) (c .if1 .taken))
 
--- src/lib.rt:31:20
 shared-slice-read-cell : tie.Need-shared-slice-read-cell Inv-loop μ-loop
 shared-slice-read-cell c = omega arith
 
--- src/lib.rt:31:20
 cast-cell : tie.Need-cast-cell Inv-loop μ-loop
 cast-cell c = omega (arith, c .before .before .before .before .before .pre .2 (c .before .before .before .before .loop .i) (omega arith))
 
--- src/lib.rt:31:20
 mul-cell : tie.Need-mul-cell Inv-loop μ-loop
 mul-cell c =
     let at = c .before .before .before .before in
@@ -58,43 +49,36 @@ mul-cell c =
     let m : getD (start .args .messages .now) (at .loop .i) 0 < 8 = start .pre .2 (at .loop .i) (omega arith) in
     omega (arith, mul-le-mul (le-of-suc-le-suc m) (start .pre .0))
 
--- src/lib.rt:31:20
 add-cell : tie.Need-add-cell Inv-loop μ-loop
 add-cell c =
     let at = c .before .before .before .before in
     let start = at .before in
     omega (arith, cell-room (start .args .size) (getD (start .args .messages .now) (at .loop .i) 0) (getD (start .args .numbers .now) (at .loop .i) 0) (start .pre .0) (start .pre .2 (at .loop .i) (omega arith)) (c .before .if1 .left))
 
--- src/lib.rt:32:12
 array-read-if2 : tie.Need-array-read-if2 Inv-loop μ-loop
 array-read-if2 c =
     let at = c .before .before .before .before in
     let start = at .before in
     cell-room (start .args .size) (getD (start .args .messages .now) (at .loop .i) 0) (getD (start .args .numbers .now) (at .loop .i) 0) (start .pre .0) (start .pre .2 (at .loop .i) (omega arith)) (c .before .if1 .left)
 
--- src/lib.rt:33:13
 returns-2 : tie.Need-returns-2 Inv-loop μ-loop
 returns-2 c =
     let at = c .before .before .before .before .before in
     let start = at .before in
     sym (sym (at .loop .inv .2) ∙ fresh-marked (start .args .size) (at .loop .marks) (start .args .messages .now) (start .args .numbers .now) (at .loop .i) (omega arith) (start .pre .1) (c .before .before .if1 .left) (c .if2 .taken))
 
--- src/lib.rt:35:9
 array-write-marks : tie.Need-array-write-marks Inv-loop μ-loop
 array-write-marks c =
     let at = c .before .before .before .before .before in
     let start = at .before in
     cell-room (start .args .size) (getD (start .args .messages .now) (at .loop .i) 0) (getD (start .args .numbers .now) (at .loop .i) 0) (start .pre .0) (start .pre .2 (at .loop .i) (omega arith)) (c .before .before .if1 .left)
 
--- src/lib.rt:36:9
 add-i : tie.Need-add-i Inv-loop μ-loop
 add-i c = omega arith
 
--- src/lib.rt:26:5
 loop-less : tie.Need-loop-less Inv-loop μ-loop
 loop-less c = omega arith
 
--- src/lib.rt:26:5
 loop-again : tie.Need-loop-again Inv-loop μ-loop
 loop-again c =
     let at = c .before .before .before .before .before in
@@ -109,7 +93,6 @@ loop-again c =
       sym (fresh-more size (at .loop .marks) messages numbers i (omega arith) (start .pre .1) (c .before .before .if1 .left) (omega (arith, at .loop .inv .1)) (c .if2 .left)) ∙ at .loop .inv .2,
     )
 
--- src/lib.rt:20:1
 returns-3 : tie.Need-returns-3 Inv-loop μ-loop
 returns-3 c =
     let at = c .before in

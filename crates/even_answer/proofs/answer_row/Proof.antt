@@ -20,13 +20,9 @@ use Rattle.even_answer.specs.Answering.{added}
 use Rattle.even_answer.proofs.RowLaws.{members-length, resumed, row-more, symbol-room, symbol-place, symbol-is, added-length}
 use Rattle.even_answer.proofs.answer_row.Statement.{statement}
 use Rattle.even_answer.proofs.answer_row.Tie as tie
-use Rattle.even_answer.proofs.answer_row.Reads as reads
-use Rattle.even_answer.proofs.answer_row.Lts as lts
-use Rattle.even_answer.proofs.add_symbol.Reads as add-symbol-reads
-use Rattle.even_layout.proofs.power.Reads as power-reads
 
 abbrev Inv-loop : tie.InvT-loop
-Inv-loop n k s store set numbers out₀ symbols rest₀ taken₀ p₀ out rest taken p = 
+Inv-loop n k s store set numbers out₀ symbols rest₀ taken₀ p₀ out rest taken p =
     (p ≤ k)
     × (length out ≡ s)
     × (taken + length (membersFrom k p rest) ≡ count set)
@@ -35,11 +31,9 @@ Inv-loop n k s store set numbers out₀ symbols rest₀ taken₀ p₀ out rest t
 abbrev μ-loop : tie.MeasureT-loop
 μ-loop n k s store set numbers out₀ symbols rest₀ taken₀ p₀ out rest taken p = k - p
 
--- src/lib.rt:71:9
 power-requires : tie.Need-power-requires Inv-loop μ-loop
 power-requires c κs = omega (arith, even-bounds (c .before .before .before .args .n) (c .before .before .before .args .k) (c .before .before .before .args .s) (c .before .before .before .pre .0 .fits) .symbols-high)
 
--- src/lib.rt:75:5
 loop-holds : tie.Need-loop-holds Inv-loop μ-loop
 unfolding rowAnswer
 loop-holds c =
@@ -52,7 +46,6 @@ loop-holds c =
       rw (sub-zero k) refl,
     )
 
--- src/lib.rt:77:26
 shared-slice-read-number : tie.Need-shared-slice-read-number Inv-loop μ-loop
 shared-slice-read-number c =
     let at = c .before .before .before in
@@ -72,11 +65,9 @@ shared-slice-read-number c =
     let number : getD numbers taken 0 < n ^ k = given .named taken enough in
     enough
 
--- src/lib.rt:77:26
 cast-number : tie.Need-cast-number Inv-loop μ-loop
 cast-number c = omega (arith, c .shared-slice-known3 .given (c .before .before .before .loop .taken))
 
--- src/lib.rt:78:44
 mul-add-symbol : tie.Need-mul-add-symbol Inv-loop μ-loop
 mul-add-symbol c =
     let at = c .before .before .before in
@@ -95,7 +86,6 @@ mul-add-symbol c =
     let most : p * at .before .power .result ≤ 8 * 256 = mul-le-mul (let w : p ≤ 8 = omega (arith, bounds .messages-high) in w) symbols in
     omega arith
 
--- src/lib.rt:78:44
 add-add-symbol : tie.Need-add-add-symbol Inv-loop μ-loop
 add-add-symbol c =
     let at = c .before .before .before in
@@ -118,7 +108,6 @@ add-add-symbol c =
     let most : p * at .before .power .result ≤ 8 * 256 = mul-le-mul (let w : p ≤ 8 = omega (arith, bounds .messages-high) in w) symbols in
     omega arith
 
--- src/lib.rt:78:43
 mul-add-symbol-2 : tie.Need-mul-add-symbol-2 Inv-loop μ-loop
 mul-add-symbol-2 c =
     let at = c .before .before .before in
@@ -139,7 +128,6 @@ mul-add-symbol-2 c =
     let room = symbol-room n k s store (given .whole) (at .before .power .result) p (getD numbers taken 0) (at .before .power .ensures) (omega arith) number in
     omega arith
 
--- src/lib.rt:78:13
 add-symbol-requires : tie.Need-add-symbol-requires Inv-loop μ-loop
 add-symbol-requires c κs =
     let at = c .before .before .before .before in
@@ -160,7 +148,6 @@ add-symbol-requires c κs =
     let room = symbol-room n k s store (given .whole) (at .before .power .result) p (getD numbers taken 0) (at .before .power .ensures) (omega arith) number in
     omega (arith, at .loop .inv .1)
 
--- src/lib.rt:79:13
 add-taken : tie.Need-add-taken Inv-loop μ-loop
 add-taken c =
     let at = c .before .before .before .before .before .before .before in
@@ -180,15 +167,12 @@ add-taken c =
     let number : getD numbers taken 0 < n ^ k = given .named taken enough in
     omega arith
 
--- src/lib.rt:82:9
 add-p : tie.Need-add-p Inv-loop μ-loop
 add-p c = omega arith
 
--- src/lib.rt:75:5
 loop-less : tie.Need-loop-less Inv-loop μ-loop
 loop-less c = omega arith
 
--- src/lib.rt:75:5
 loop-again : tie.Need-loop-again Inv-loop μ-loop
 loop-again c =
     let at = c .before .before in
@@ -223,11 +207,9 @@ loop-again c =
     rw (t .1, t .2) (omega arith, at .loop .inv .1, rw skipped at (at .loop .inv .2), rw skipped at (at .loop .inv .3)))
     (c .if1 .came)
 
--- src/lib.rt:67:1
 same-length : tie.Need-same-length Inv-loop μ-loop
 same-length c = c .before .loop .inv .1 ∙ sym (c .before .before .before .before .before .before .pre .1)
 
--- src/lib.rt:67:1
 returns : tie.Need-returns Inv-loop μ-loop
 unfolding members setIn zipWith totalFrom
 returns c =

@@ -20,12 +20,9 @@ use Rattle.even_layout.proofs.Firsts.{setIn-length}
 use Rattle.even_answer.proofs.RowLaws.{row-is, answers-length, next-fits, set-more}
 use Rattle.even_answer.proofs.answer_set.Statement.{statement}
 use Rattle.even_answer.proofs.answer_set.Tie as tie
-use Rattle.even_answer.proofs.answer_set.Reads as reads
-use Rattle.even_answer.proofs.answer_set.Lts as lts
-use Rattle.even_answer.proofs.answer_row.Reads as answer-row-reads
 
 abbrev Inv-loop : tie.InvT-loop
-Inv-loop n k s store set rows numbers out₀ size row₀ out row = 
+Inv-loop n k s store set rows numbers out₀ size row₀ out row =
     (row ≤ rows)
     × Pending 0 (rowAnswers xor n k s store (replicate rows (setIn k set)) numbers) out₀ (row * s)
     (rowAnswers xor n k s store (replicate (rows - row) (setIn k set)) (drop (row * size) numbers)) out
@@ -33,11 +30,9 @@ Inv-loop n k s store set rows numbers out₀ size row₀ out row =
 abbrev μ-loop : tie.MeasureT-loop
 μ-loop n k s store set rows numbers out₀ size row₀ out row = rows - row
 
--- src/lib.rt:91:16
 cast-size : tie.Need-cast-size Inv-loop μ-loop
 cast-size c = omega (arith, ones-le 8 (c .before .before .before .args .set) (search needs))
 
--- src/lib.rt:93:5
 loop-holds : tie.Need-loop-holds Inv-loop μ-loop
 loop-holds c =
     let start = c .before .before .before in
@@ -55,7 +50,6 @@ loop-holds c =
     omega (arith, ap (λ (m : ℕ). m * s) (length-replicate rows A), start .pre .1) in
     (omega arith, pending-as (zero-mul s) (rw (sub-zero rows, zero-mul (count (start .args .set))) refl) refl (pending-start room))
 
--- src/lib.rt:94:18
 mul-at : tie.Need-mul-at Inv-loop μ-loop
 mul-at c =
     let at = c .before in
@@ -73,7 +67,6 @@ mul-at c =
     let written = next-fits row rows s (length (start .args .out .now)) (omega arith) (start .pre .1) in
     omega (arith, at .loop .inv .1 .long)
 
--- src/lib.rt:95:20
 mul-from : tie.Need-mul-from Inv-loop μ-loop
 mul-from c =
     let at = c .before in
@@ -91,7 +84,6 @@ mul-from c =
     let written = next-fits row rows s (length (start .args .out .now)) (omega arith) (start .pre .1) in
     omega (arith, at .loop .inv .1 .long)
 
--- src/lib.rt:96:18
 add-to : tie.Need-add-to Inv-loop μ-loop
 add-to c =
     let at = c .before in
@@ -109,7 +101,6 @@ add-to c =
     let written = next-fits row rows s (length (start .args .out .now)) (omega arith) (start .pre .1) in
     omega (arith, at .loop .inv .1 .long)
 
--- src/lib.rt:97:41
 sub-answer-row : tie.Need-sub-answer-row Inv-loop μ-loop
 sub-answer-row c =
     let at = c .before in
@@ -127,7 +118,6 @@ sub-answer-row c =
     let written = next-fits row rows s (length (start .args .out .now)) (omega arith) (start .pre .1) in
     omega (arith, at .loop .inv .1 .long)
 
--- src/lib.rt:97:41
 part-answer-row-start : tie.Need-part-answer-row-start Inv-loop μ-loop
 part-answer-row-start c =
     let at = c .before in
@@ -145,7 +135,6 @@ part-answer-row-start c =
     let written = next-fits row rows s (length (start .args .out .now)) (omega arith) (start .pre .1) in
     omega (arith, at .loop .inv .1 .long)
 
--- src/lib.rt:97:41
 part-answer-row-end : tie.Need-part-answer-row-end Inv-loop μ-loop
 part-answer-row-end c =
     let at = c .before in
@@ -163,11 +152,9 @@ part-answer-row-end c =
     let written = next-fits row rows s (length (start .args .out .now)) (omega arith) (start .pre .1) in
     omega (arith, at .loop .inv .1 .long)
 
--- src/lib.rt:97:57
 sub-answer-row-2 : tie.Need-sub-answer-row-2 Inv-loop μ-loop
 sub-answer-row-2 c = omega arith
 
--- src/lib.rt:97:57
 part-answer-row-start-2 : tie.Need-part-answer-row-start-2 Inv-loop μ-loop
 part-answer-row-start-2 c =
     let at = c .before .before in
@@ -185,7 +172,6 @@ part-answer-row-start-2 c =
     let written = next-fits row rows s (length (start .args .out .now)) (omega arith) (start .pre .1) in
     omega (arith, at .loop .inv .1 .long)
 
--- src/lib.rt:97:57
 part-answer-row-end-2 : tie.Need-part-answer-row-end-2 Inv-loop μ-loop
 part-answer-row-end-2 c =
     let at = c .before .before in
@@ -203,7 +189,6 @@ part-answer-row-end-2 c =
     let written = next-fits row rows s (length (start .args .out .now)) (omega arith) (start .pre .1) in
     omega (arith, at .loop .inv .1 .long)
 
--- src/lib.rt:97:9
 answer-row-requires : tie.Need-answer-row-requires Inv-loop μ-loop
 answer-row-requires c κs =
     let at = c .before .before .before in
@@ -231,15 +216,12 @@ answer-row-requires c κs =
       rw (add-sub-cancel-left from s) (cut-length from s (at .loop .out) (omega (arith, at .loop .inv .1 .long))),
     )
 
--- src/lib.rt:98:9
 add-row : tie.Need-add-row Inv-loop μ-loop
 add-row c = omega arith
 
--- src/lib.rt:93:5
 loop-less : tie.Need-loop-less Inv-loop μ-loop
 loop-less c = omega arith
 
--- src/lib.rt:93:5
 loop-again : tie.Need-loop-again Inv-loop μ-loop
 loop-again c =
     let at = c .before .before .before .before .before .before in
@@ -272,11 +254,9 @@ loop-again c =
           (pending-part front left p),
     )
 
--- src/lib.rt:87:1
 same-length : tie.Need-same-length Inv-loop μ-loop
 same-length c = c .before .loop .inv .1 .long
 
--- src/lib.rt:87:1
 returns : tie.Need-returns Inv-loop μ-loop
 unfolding rowAnswers
 returns c =
