@@ -72,6 +72,7 @@ pub record SetByte (N K set : ℕ) (A : List Bool) : Type 0 where
   pub byte : set ≡ byteOf A
   pub small : set < 256
   pub decoded : setIn K set ≡ A
+  pub counted : count set ≡ ones A
   pub some : 1 ≤ count set
   pub rows : (N - 1) ^ (count set - 1) ≡ rowsOf N A
   pub high : rowsOf N A ≤ 256
@@ -85,6 +86,7 @@ set-byte N K set A bounds s e =
       byte = e;
       small = omega (arith, rw (s .long) at (byte-below A), pow-le-pow-right {n = 2} (omega arith) {j = 8} (bounds .messages-high));
       decoded = ap (setIn K) e ∙ set-in K A (s .long);
+      counted = ones-set;
       some = omega (arith, s .some);
       rows = ap (λ (n : ℕ). (N - 1) ^ (n - 1)) ones-set;
       high = rows-high N K bounds A s;

@@ -27,3 +27,4 @@ pub mod SumsAt
 pub mod Ordered
 pub mod Kept
 pub mod Rests
+pub mod EveryOther

@@ -1,12 +1,13 @@
 -- Writing from left to right: `put` one byte at a time, one list after another, and over zeros; and `Pending`, the invariant of a
 -- loop that writes so: what is left to write decides what the buffer will hold.
 use mathlib.Core.Path.{_≡_, refl, sym, ap, _∙_}
-use mathlib.Core.List.{List, [], _∷_, _++_}
+use mathlib.Core.List.{List, [], _∷_, _++_, append-nil}
 use Prim.Native.Nat.{ℕ, zero, suc, _+_, _-_, _≤_, _<_}
-use native.Mathlib.Nat.{zero-add, add-zero, add-suc, suc-add, sub-zero, zero-sub, suc-sub-suc, not-suc-le-zero, le-of-suc-le-suc}
+use native.Mathlib.Nat.{zero-add, add-zero, add-suc, suc-add, sub-zero, zero-sub, suc-sub-suc, not-suc-le-zero, le-of-suc-le-suc, le-of-eq}
 use native.Mathlib.Omega.{arith}
 use native.Mathlib.Numerals.{add-one}
-use lib.ListN.{length, drop, set, replicate, take-append-drop, length-set, length-append, length-replicate}
+use lib.ListN.{length, take, drop, length-drop, drop-of-length-le, set, replicate, take-append-drop, length-set, length-append, length-replicate}
+use lib.Seq.{take-all}
 use Rattle.lists.specs.Parts.{put}
 use Rattle.lists.specs.Padded.{padded}
 use Rattle.lists.proofs.Parts.{put-length}
@@ -44,6 +45,16 @@ put-two front back at size e h =
     let room : 0 + length front ≤ length (replicate {A = ℕ} size 0) = omega (arith, length-replicate {A = ℕ} size 0) in
     ap (λ (n : ℕ). put n back (put 0 front (replicate size 0))) (sym e ∙ sym (zero-add (length front)))
     ∙ sym (put-append 0 front back (replicate size 0) room) ∙ put-padded (front ++ back) size
+
+-- the rest of a buffer from a place on, lent as a part
+pub rest-part : (at : ℕ) (buffer : List ℕ) → take (length buffer - at) (drop at buffer) ≡ drop at buffer
+rest-part at buffer = take-all (length buffer - at) (drop at buffer) (le-of-eq (length-drop at buffer))
+
+-- and written at its front
+pub rest-written : (at : ℕ) (bytes buffer : List ℕ) → take at buffer ++ (put 0 bytes (drop at buffer) ++ drop (length buffer - at) (drop at buffer)) ≡ put at bytes buffer
+rest-written at bytes buffer =
+    ap (λ (l : List ℕ). take at buffer ++ (put 0 bytes (drop at buffer) ++ l)) (drop-of-length-le (drop at buffer) (le-of-eq (length-drop at buffer)))
+    ∙ ap (λ (l : List ℕ). take at buffer ++ l) (append-nil (put 0 bytes (drop at buffer)))
 
 -- `left` is still to be written into `out` from `end` on, where in all `bytes` are to be written into `buffer` from `at` on
 pub record Pending (at : ℕ) (bytes buffer : List ℕ) (end : ℕ) (left out : List ℕ) : Type 0 where

@@ -1,0 +1,4 @@
+pub mod Fresh
+pub mod RowLaws
+pub mod Admission
+pub mod SetRows
