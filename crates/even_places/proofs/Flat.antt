@@ -93,7 +93,7 @@ below-mono v m n le = go (decLt v m)
     go (yes h) = omega (arith, below-lt v m h, below-lt v n (omega arith))
     go (no h) = omega (arith, below-ge v m (omega arith))
 
-below-one : (v n : ℕ) → below v n ≤ 1
+pub below-one : (v n : ℕ) → below v n ≤ 1
 below-one v n = go (decLt v n)
   where
     go : Dec (v < n) → below v n ≤ 1

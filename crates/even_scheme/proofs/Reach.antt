@@ -60,6 +60,11 @@ module _ (N K : ℕ) where
   unfolding named numbersOf under
   named-permutation query a p h = completed-permutation (N ^ K) (numbersOf N K p query) (under-below (N ^ K) p (positions N K) query (a .low)) (a .apart p h)
 
+-- a valid key that gives a server a query for the wanted message
+pub record Gives (sum : Sum) (N K S server wanted : ℕ) (query key : List ℕ) : Type 0 where
+  pub valid : Valid (evenScheme sum N K S) key
+  pub shown : evenScheme sum N K S .query wanted server key ≡ query
+
 module _ (sum : Sum) (N K S : ℕ) (fits : evenFits N K S ≡ true) (server wanted : ℕ) (query : List ℕ)
     (there : server < N) (known : wanted < K) (admits : evenScheme sum N K S .admits server query ≡ true) where
   wide : 1 < N
@@ -78,9 +83,10 @@ module _ (sum : Sum) (N K S : ℕ) (fits : evenFits N K S ≡ true) (server want
       ∙ completed-shown (N ^ K) (under p (queryCells N K wanted server)) (numbersOf N K p query) (order-permutation N K server wide there wanted p known h)
       (numbers-many N K wanted server wide known there p query (admitted N K server query admits .long))
 
-  pub reach : Valid (evenScheme sum N K S) (reached N K server wanted query) × (evenScheme sum N K S .query wanted server (reached N K server wanted query) ≡ query)
+  pub reach : Gives sum N K S server wanted query (reached N K server wanted query)
   unfolding reached
-  reach = (
-    key-of-valid sum N K S (reachedAt N K server wanted query) reached-permutation,
-    query-is N K wanted server wide known there (reached N K server wanted query) query (admitted N K server query admits .long) reached-shown,
-  )
+  reach =
+      record {
+        valid = key-of-valid sum N K S (reachedAt N K server wanted query) reached-permutation;
+        shown = query-is N K wanted server wide known there (reached N K server wanted query) query (admitted N K server query admits .long) reached-shown;
+      }

@@ -11,14 +11,13 @@ use Rattle.lists.proofs.Arranged.{Permutation, arranged-permutation, picked-per
 use Rattle.lists.proofs.Completed.{completed-shown}
 use Rattle.parameters.specs.Bounds.{evenFits}
 use Rattle.parameters.proofs.Bounds.{even-bounds}
-use Rattle.scheme.specs.Scheme.{Valid}
 use Rattle.symbol.specs.Sum.{Sum}
 use Rattle.even_places.specs.Rule.{queryCells}
 use Rattle.even_places.proofs.Flat.{places-below}
 use Rattle.even_scheme.specs.Even.{permutation, numbersOf, evenScheme}
 use Rattle.even_scheme.proofs.Keys.{keyOf, key-permutation, key-whole, key-of, key-of-valid, key-same}
 use Rattle.even_scheme.proofs.Queries.{query-numbers, query-is, numbers-many}
-use Rattle.even_scheme.proofs.Reach.{named, named-permutation, admitted}
+use Rattle.even_scheme.proofs.Reach.{Gives, named, named-permutation, admitted}
 
 module _ (N K : ℕ) where
   -- message p's permutation with its numbers renamed as one query's become another's
@@ -27,11 +26,6 @@ module _ (N K : ℕ) where
 
   unfoldable pub renamed : List ℕ → List ℕ → List ℕ → List ℕ
   renamed query other key = keyOf K (renamedAt query other key)
-
--- a valid key that gives a server a query for the wanted message
-pub record Gives (sum : Sum) (N K S server wanted : ℕ) (query key : List ℕ) : Type 0 where
-  pub valid : Valid (evenScheme sum N K S) key
-  pub shown : evenScheme sum N K S .query wanted server key ≡ query
 
 module _ (sum : Sum) (N K S : ℕ) (fits : evenFits N K S ≡ true) (server wanted : ℕ) (query other key : List ℕ)
     (there : server < N) (known : wanted < K) (admits : evenScheme sum N K S .admits server query ≡ true) (admits′ : evenScheme sum N K S .admits server other ≡ true)

@@ -9,6 +9,7 @@ pub mod Pairs
 pub mod Cuts
 pub mod Each
 pub mod Marks
+pub mod Passes
 pub mod Writing
 pub mod Flat
 pub mod Elements

@@ -6,6 +6,5 @@ pub mod Distinct
 pub mod Any
 pub mod Arranged
 pub mod Pairs
-pub mod Marks
 pub mod Padded
 pub mod Lexicographic

@@ -53,7 +53,7 @@ permutation-good-requires c κs =
     let at = c .before .before in
     let args = at .before .before .args in
     let p = at .loop .p in
-    (ap length (lent (args .size) p (args .key .now)) ∙ cut-length (p * args .size) (args .size) (args .key .now) (omega (arith, part-within p (args .k) (args .size) (omega arith))), at .before .before .pre .1)
+    ap length (lent (args .size) p (args .key .now)) ∙ cut-length (p * args .size) (args .size) (args .key .now) (omega (arith, part-within p (args .k) (args .size) (omega arith)))
 
 returns : tie.Need-returns Inv-loop μ-loop
 returns c =
