@@ -1,4 +1,4 @@
--- Laws of ranges: their length, their entries, and a range in two parts.
+-- Laws of ranges: their length, their entries, and a range in two parts; and of the test `every` on the numbers below a count.
 use Prim.Native.Nat.{ℕ, zero, suc, _+_, _≤_, _<_}
 use native.Mathlib.Nat.{zero-add, add-zero, add-suc, suc-add, not-suc-le-zero}
 use native.Mathlib.Numerals.{add-one}
