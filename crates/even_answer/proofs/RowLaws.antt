@@ -123,10 +123,6 @@ module _ (N K S : ℕ) (store : List ℕ) (whole : length store ≡ evenSizes N 
         let many = length-append (rowAnswer xor N K S store A numbers) (rowAnswers xor N K S store L rest) in
         omega (arith, many, row-is A numbers e b .long, answers-length rest a (below-drop (N ^ K) (ones A) numbers b), suc-mul (length L) S)
 
--- there is room for one row more
-pub next-fits : (row rows size room : ℕ) → row < rows → rows * size ≤ room → row * size + size ≤ room
-next-fits row rows size room h k = omega (arith, suc-mul row size, mul-le-mul h (let w : size ≤ size = omega arith in w))
-
 -- one row more of a set, whose rows have `size` numbers each
 pub set-more : (N K S : ℕ) (store : List ℕ) (A : List Bool) (numbers : List ℕ) (rows row size : ℕ) → row < rows → ones A ≡ size
     → rowAnswers xor N K S store (replicate (rows - row) A) (drop (row * size) numbers)
