@@ -1,8 +1,8 @@
 -- Admission is the pass over the query, and an admitted query can be answered.
-use mathlib.Core.Path.{_≡_, refl, sym, ap, ap₂, _∙_}
+use mathlib.Core.Path.{_≡_, refl, sym, ap, _∙_}
 use mathlib.Core.Bool.{Bool, true, false, _&&_}
-use mathlib.Core.List.{List, [], _++_, zipWith}
-use Prim.Native.Nat.{ℕ, _+_, _-_, _*_, _^_, _≤_, _<_}
+use mathlib.Core.List.{List, zipWith}
+use Prim.Native.Nat.{ℕ, _-_, _*_, _^_, _≤_, _<_}
 use native.Mathlib.Nat.{pow-le-pow-right}
 use native.Mathlib.Omega.{arith}
 use borrow.Author.Tests.{eq-eqb, eqb-true}
@@ -18,11 +18,11 @@ use Rattle.lists.proofs.Below.{allBelow-below}
 use Rattle.lists.proofs.Elements.{All-at}
 use Rattle.lists.proofs.Sums.{All-flatMap, All-imp, All-replicate}
 use Rattle.parameters.specs.Measures.{evenSizes}
-use Rattle.even_places.specs.Sets.{members, allSets}
+use Rattle.even_places.specs.Sets.{members}
 use Rattle.even_places.specs.Rule.{layout, positions}
 use Rattle.even_scheme.specs.Even.{numbersOf, evenAdmits}
 use Rattle.even_layout.specs.Layout.{Bounds, rowsOf}
-use Rattle.even_layout.proofs.Tables.{IsSet, all-sets, layout-sets, positions-length}
+use Rattle.even_layout.proofs.Tables.{all-sets, layout-sets, positions-length}
 use Rattle.even_answer.specs.Answering.{cellOf}
 use Rattle.even_answer.proofs.Fresh.{named, distinct-cells}
 use Rattle.even_answer.proofs.RowLaws.{members-all}

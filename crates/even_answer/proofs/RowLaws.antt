@@ -2,7 +2,7 @@
 use mathlib.Core.Path.{_≡_, refl, sym, ap, _∙_}
 use mathlib.Core.Bool.{Bool, true, false, cond}
 use mathlib.Core.List.{List, [], _∷_, _++_, zipWith}
-use Prim.Native.Nat.{ℕ, zero, suc, _+_, _-_, _*_, _^_, _≤_, _<_}
+use Prim.Native.Nat.{ℕ, suc, _+_, _-_, _*_, _^_, _≤_, _<_}
 use native.Mathlib.Nat.{mul-assoc, suc-mul, zero-mul, mul-le-mul}
 use native.Mathlib.Numerals.{add-one}
 use native.Mathlib.Omega.{arith}
@@ -17,7 +17,7 @@ use Rattle.lists.proofs.Below.{below-take, below-drop}
 use Rattle.lists.proofs.Parts.{cut-length}
 use Rattle.lists.proofs.Sums.{All-imp}
 use Rattle.parameters.specs.Measures.{evenSizes}
-use Rattle.symbol.specs.Sum.{Symbol, totalFrom, total, zeros}
+use Rattle.symbol.specs.Sum.{Symbol, totalFrom, total}
 use Rattle.symbol.specs.Group.{Symbols, none, more}
 use Rattle.symbol.specs.Xor.{xor}
 use Rattle.symbol.proofs.XorBytes.{xor-length}
