@@ -1,4 +1,4 @@
--- One byte more: of a block's sets, of doubled bytes, and of a set's members.
+-- Single steps of the loops that write bytes: one byte more of doubled bytes, of a block's sets and of a set's members, one row more, and powers that fit.
 use mathlib.Core.Path.{_≡_}
 use mathlib.Core.List.{List, _∷_, _++_, flatMap}
 use mathlib.Core.Bool.{Bool}
