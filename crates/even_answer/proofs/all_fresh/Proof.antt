@@ -34,7 +34,7 @@ returns : tie.Need-returns Inv-loop μ-loop
 returns c =
     let at = c .before .before .before in
     let start = at .before in
-    sym (sym (at .loop .inv .2) ∙ fresh-high (start .args .size) (at .loop .marks) (start .args .messages .now) (start .args .numbers .now) (at .loop .i) (omega arith) (start .pre .1) (c .if1 .taken))
+    sym (sym (at .loop .inv .2) ∙ fresh-high (start .args .size) (at .loop .marks) (start .args .messages .now) (start .args .numbers .now) (at .loop .i) (omega arith) (start .pre .1) (omega (arith, c .if1 .taken)))
 
 shared-slice-read-cell : tie.Need-shared-slice-read-cell Inv-loop μ-loop
 shared-slice-read-cell c = omega arith
