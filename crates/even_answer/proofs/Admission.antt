@@ -1,8 +1,8 @@
 -- Admission is the pass over the query, and an admitted query can be answered.
-use mathlib.Core.Path.{_≡_, refl, sym, ap, ap₂, _∙_}
+use mathlib.Core.Path.{_≡_, refl, sym, ap, _∙_}
 use mathlib.Core.Bool.{Bool, true, false, _&&_}
-use mathlib.Core.List.{List, [], _++_, zipWith}
-use Prim.Native.Nat.{ℕ, _+_, _-_, _*_, _^_, _≤_, _<_}
+use mathlib.Core.List.{List, zipWith}
+use Prim.Native.Nat.{ℕ, _-_, _*_, _^_, _≤_, _<_}
 use native.Mathlib.Nat.{pow-le-pow-right}
 use native.Mathlib.Omega.{arith}
 use borrow.Author.Tests.{eq-eqb, eqb-true}
@@ -17,13 +17,14 @@ use Rattle.lists.specs.Sums.{All}
 use Rattle.lists.proofs.Below.{allBelow-below}
 use Rattle.lists.proofs.Elements.{All-at}
 use Rattle.lists.proofs.Sums.{All-flatMap, All-imp, All-replicate}
+use Rattle.parameters.specs.Bounds.{evenFits}
 use Rattle.parameters.specs.Measures.{evenSizes}
-use Rattle.even_places.specs.Sets.{members, allSets}
+use Rattle.even_places.specs.Sets.{members}
 use Rattle.even_places.specs.Rule.{layout, positions}
 use Rattle.even_scheme.specs.Even.{numbersOf, evenAdmits}
 use Rattle.even_layout.specs.Layout.{Bounds, rowsOf}
-use Rattle.even_layout.proofs.Tables.{IsSet, all-sets, layout-sets, positions-length}
-use Rattle.even_answer.specs.Answering.{cellOf}
+use Rattle.even_layout.proofs.Tables.{all-sets, layout-sets, positions-length}
+use Rattle.even_answer.specs.Answering.{Answerable, cellOf}
 use Rattle.even_answer.proofs.Fresh.{named, distinct-cells}
 use Rattle.even_answer.proofs.RowLaws.{members-all}
 
@@ -64,18 +65,21 @@ admits-pass N K server query e = rw (eq-eqb (length query) (K * N ^ (K - 1)) e) 
     go true t = distinct-cells (N ^ K) K (positions N K) query (positions-below N K) (allBelow-below (N ^ K) query t)
     go false t = refl
 
--- what answering needs of a query
-pub record Named (N K S : ℕ) (query : List ℕ) : Type 0 where
-  pub long : length query ≡ evenSizes N K S .query
-  pub named : Below (N ^ K) query
-
 both : (t u : Bool) → t && u ≡ true → (t ≡ true) × (u ≡ true)
 both true u e = (refl, e)
 both false u e = let z : _≡_ {A = ℕ} 0 1 = cc in absurd (let w : ⊥ = omega arith in w)
 
-pub admitted-named : (N K S server : ℕ) (query : List ℕ) → evenAdmits N K server query ≡ true → Named N K S query
+-- an admitted query can be answered
+pub admitted-answerable : (N K S server : ℕ) (store query out : List ℕ) → evenFits N K S ≡ true → length store ≡ evenSizes N K S .store
+    → evenAdmits N K server query ≡ true → evenSizes N K S .slot ≤ length out → Answerable N K S store query out
 unfolding evenAdmits evenSizes
-admitted-named N K S server query e =
-    let p = both (eqb (length query) (K * N ^ (K - 1))) (allBelow (N ^ K) query && every K (λ p. distinct (numbersOf N K p query))) e in
+admitted-answerable N K S server store query out fits whole admitted room =
+    let p = both (eqb (length query) (K * N ^ (K - 1))) (allBelow (N ^ K) query && every K (λ p. distinct (numbersOf N K p query))) admitted in
     let q = both (allBelow (N ^ K) query) (every K (λ p. distinct (numbersOf N K p query))) (p .1) in
-    record { long = eqb-true (length query) (K * N ^ (K - 1)) (p .0); named = allBelow-below (N ^ K) query (q .0) }
+    record {
+      fits = fits;
+      whole = whole;
+      long = eqb-true (length query) (K * N ^ (K - 1)) (p .0);
+      named = allBelow-below (N ^ K) query (q .0);
+      room = room;
+    }

@@ -2,3 +2,4 @@ pub mod Fresh
 pub mod RowLaws
 pub mod Admission
 pub mod SetRows
+pub mod Turns

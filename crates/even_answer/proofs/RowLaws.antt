@@ -2,7 +2,7 @@
 use mathlib.Core.Path.{_≡_, refl, sym, ap, _∙_}
 use mathlib.Core.Bool.{Bool, true, false, cond}
 use mathlib.Core.List.{List, [], _∷_, _++_, zipWith}
-use Prim.Native.Nat.{ℕ, zero, suc, _+_, _-_, _*_, _^_, _≤_, _<_}
+use Prim.Native.Nat.{ℕ, suc, _+_, _-_, _*_, _^_, _≤_, _<_}
 use native.Mathlib.Nat.{mul-assoc, suc-mul, zero-mul, mul-le-mul}
 use native.Mathlib.Numerals.{add-one}
 use native.Mathlib.Omega.{arith}
@@ -17,7 +17,7 @@ use Rattle.lists.proofs.Below.{below-take, below-drop}
 use Rattle.lists.proofs.Parts.{cut-length}
 use Rattle.lists.proofs.Sums.{All-imp}
 use Rattle.parameters.specs.Measures.{evenSizes}
-use Rattle.symbol.specs.Sum.{Symbol, totalFrom, total, zeros}
+use Rattle.symbol.specs.Sum.{Symbol, totalFrom, total}
 use Rattle.symbol.specs.Group.{Symbols, none, more}
 use Rattle.symbol.specs.Xor.{xor}
 use Rattle.symbol.proofs.XorBytes.{xor-length}
@@ -122,10 +122,6 @@ module _ (N K S : ℕ) (store : List ℕ) (whole : length store ≡ evenSizes N 
         let rest = drop (ones A) numbers in
         let many = length-append (rowAnswer xor N K S store A numbers) (rowAnswers xor N K S store L rest) in
         omega (arith, many, row-is A numbers e b .long, answers-length rest a (below-drop (N ^ K) (ones A) numbers b), suc-mul (length L) S)
-
--- there is room for one row more
-pub next-fits : (row rows size room : ℕ) → row < rows → rows * size ≤ room → row * size + size ≤ room
-next-fits row rows size room h k = omega (arith, suc-mul row size, mul-le-mul h (let w : size ≤ size = omega arith in w))
 
 -- one row more of a set, whose rows have `size` numbers each
 pub set-more : (N K S : ℕ) (store : List ℕ) (A : List Bool) (numbers : List ℕ) (rows row size : ℕ) → row < rows → ones A ≡ size

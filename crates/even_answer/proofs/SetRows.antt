@@ -1,22 +1,19 @@
 -- The answer set by set: the rows of the sets from i on, the numbers that they take of the query, and how long their answers are.
-use mathlib.Core.Path.{_≡_, refl, sym, ap, ap₂, _∙_}
-use mathlib.Core.Bool.{Bool, true}
-use mathlib.Core.List.{List, [], _∷_, _++_, flatMap, append-assoc}
+use mathlib.Core.Path.{_≡_, sym, ap, _∙_}
+use mathlib.Core.Bool.{Bool}
+use mathlib.Core.List.{List, [], _++_, flatMap, append-assoc}
 use Prim.Native.Nat.{ℕ, zero, suc, _+_, _-_, _*_, _^_, _≤_, _<_}
-use native.Mathlib.Nat.{zero-add, zero-mul, suc-mul, add-comm}
+use native.Mathlib.Nat.{zero-mul, suc-mul}
 use native.Mathlib.Numerals.{add-one}
 use native.Mathlib.Omega.{arith}
-use lib.Count.{ones as count}
-use lib.ListN.{length, getD, drop, replicate, length-append, length-map, length-replicate, length-drop, drop-of-length-le}
+use lib.ListN.{length, getD, drop, replicate, length-append, length-map, length-replicate, drop-of-length-le}
 use lib.Seq.{drop-cons, drop-drop}
 use Rattle.lists.specs.Below.{Below}
-use Rattle.lists.specs.Sums.{All}
-use Rattle.lists.proofs.Below.{below-drop}
 use Rattle.lists.proofs.Sums.{All-replicate}
 use Rattle.parameters.specs.Measures.{evenRows, evenSizes}
 use Rattle.symbol.specs.Xor.{xor}
 use Rattle.even_places.specs.Sets.{ones, members, allSets}
-use Rattle.even_places.specs.Rule.{layout, positions, rows}
+use Rattle.even_places.specs.Rule.{layout, rows}
 use Rattle.even_places.proofs.SetLaws.{setOf}
 use Rattle.even_places.proofs.Counts.{rows-length, row-count-is}
 use Rattle.even_places.proofs.Joined.{same-layout}

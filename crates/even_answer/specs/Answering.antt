@@ -2,7 +2,7 @@
 use mathlib.Core.Path.{_≡_}
 use mathlib.Core.Bool.{Bool, true, cond}
 use mathlib.Core.List.{List}
-use Prim.Native.Nat.{ℕ, _+_, _-_, _*_, _^_, _≤_}
+use Prim.Native.Nat.{ℕ, _+_, _*_, _^_, _≤_}
 use lib.ListN.{length}
 use lib.Count.{ones as count}
 use Rattle.lists.specs.Below.{Below}
@@ -21,7 +21,7 @@ abbrev pub added : Bool → List ℕ → List ℕ → List ℕ
 added first old symbol = cond first symbol (xor .plus old symbol)
 
 -- What answering is given: numbers within the bounds, a store of the right length, a query of the right length that names symbols
--- (an admitted one is so, `admitted-named`), and room for the answer
+-- (an admitted one does: `admitted-answerable`), and room for the answer
 pub record Answerable (N K S : ℕ) (store query out : List ℕ) : Type 0 where
   pub fits : evenFits N K S ≡ true
   pub whole : length store ≡ evenSizes N K S .store

@@ -1,19 +1,15 @@
 // The answering end of the even code: which queries a server admits, and the answer to one (document 01, 'Even code').
 ghost use mathlib.Core.Path.{_≡_};
-ghost use mathlib.Core.Bool.{Bool, true, cond, _&&_};
+ghost use mathlib.Core.Bool.{true, _&&_};
 ghost use mathlib.Core.List.{zipWith};
-ghost use Prim.Native.Nat.{_+_, _-_, _*_, _^_, _≤_, _<_};
+ghost use Prim.Native.Nat.{_+_, _-_, _*_, _≤_, _<_};
 ghost use lib.ListN.{length, replicate};
-ghost use lib.Count.{ones};
 ghost use Rattle.lists.specs.Parts.{cut, put};
 ghost use Rattle.lists.specs.Below.{allBelow, Below};
 ghost use Rattle.lists.specs.Distinct.{distinct};
-ghost use Rattle.parameters.specs.Bounds.{evenFits};
-ghost use Rattle.parameters.specs.Measures.{evenSizes};
 ghost use Rattle.symbol.specs.Xor.{xor};
-ghost use Rattle.even_places.specs.Sets.{members};
 ghost use Rattle.even_scheme.specs.Even.{evenAdmits, rowAnswer, rowAnswers, evenAnswer};
-ghost use Rattle.even_layout.specs.Layout.{Bounds, setIn, rowsOf};
+ghost use Rattle.even_layout.specs.Layout.{Bounds, setIn};
 ghost use Rattle.even_answer.specs.Answering.{Answerable, SetAnswerable, cellOf, added};
 
 // Whether the numbers are below `size`, none twice for the same message; message p's number x is marked at p × `size` + x.

@@ -1,15 +1,13 @@
--- One byte more: of a block's sets, of doubled bytes, and of a set's members.
-use mathlib.Core.Path.{_≡_, refl, sym, ap, _∙_}
-use mathlib.Core.List.{List, [], _∷_, _++_, flatMap}
-use mathlib.Core.Bool.{Bool, true, false}
+-- Single steps of the loops that write bytes: one byte more of doubled bytes, of a block's sets and of a set's members, one row more, and powers that fit.
+use mathlib.Core.Path.{_≡_}
+use mathlib.Core.List.{List, _∷_, _++_, flatMap}
+use mathlib.Core.Bool.{Bool}
 use Prim.Native.Nat.{ℕ, zero, suc, _+_, _-_, _*_, _/_, _%_, _^_, _≤_, _<_}
-use native.Mathlib.Nat.{pow-suc, mul-zero, le-trans, pow-le-pow-right, eq-zero-or-pos}
+use native.Mathlib.Nat.{pow-suc, mul-zero, pow-le-pow-right}
 use native.Mathlib.Numerals.{add-one}
 use native.Mathlib.Omega.{arith}
-use mathlib.Core.Logic.{⊎-elim}
 use borrow.Author.Tests.{eq-eqb, ne-eqb}
 use lib.Count.{ones as count}
-use lib.Dec.{eqb}
 use lib.ListN.{length, getD, drop, replicate}
 use lib.Seq.{drop-cons}
 use Rattle.lists.specs.Sums.{keep, keepIf}

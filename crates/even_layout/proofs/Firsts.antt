@@ -4,7 +4,7 @@ use mathlib.Core.Logic.{_≢_}
 use mathlib.Core.List.{List, [], _∷_, _++_, map, flatMap}
 use mathlib.Core.Bool.{Bool, true, false, cond, _&&_, false≢true}
 use Prim.Native.Nat.{ℕ, zero, suc, _+_, _-_, _*_, _/_, _%_, _^_, _≤_, _<_}
-use native.Mathlib.Nat.{pow-zero, zero-add, add-zero, add-assoc, suc-add, pow-suc, pow-le-pow-right, div-add-mod', div-lt-iff-lt-mul, mod-lt, le-of-suc-le-suc}
+use native.Mathlib.Nat.{pow-zero, zero-add, add-zero, add-assoc, suc-add, pow-suc, pow-le-pow-right, div-add-mod', div-lt-iff-lt-mul, mod-lt}
 use native.Mathlib.Numerals.{add-one}
 use native.Mathlib.Omega.{arith}
 use borrow.Author.Tests.{ltb-true, ltb-false, lt-ltb, eqb-true, eqb-false}

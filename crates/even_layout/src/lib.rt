@@ -10,7 +10,7 @@ ghost use Rattle.lists.specs.Padded.{padded};
 ghost use Rattle.lists.specs.Below.{Below};
 ghost use Rattle.even_places.specs.Sets.{byteOf, members, allSets};
 ghost use Rattle.even_places.specs.Rule.{«positions»};
-ghost use Rattle.even_layout.specs.Layout.{Bounds, setIn, «subsets» as allSubsets, doubled, ofBlock, rowsOf, firstRows};
+ghost use Rattle.even_layout.specs.Layout.{Bounds, setIn, «subsets» as allSubsets, doubled, ofBlock, firstRows};
 
 // A power that fits.
 pub fn power(base: usize, exponent: usize) -> usize

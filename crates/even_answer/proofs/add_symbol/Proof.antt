@@ -1,5 +1,5 @@
 -- `even_answer::add_symbol` meets its contract: the part of the store that it lends is the symbol.
-use mathlib.Core.Path.{_≡_, ap, _∙_}
+use mathlib.Core.Path.{ap, _∙_}
 use Prim.Native.Nat.{ℕ}
 use native.Mathlib.Nat.{add-sub-cancel-left}
 use lib.ListN.{length, take, drop}

@@ -1,9 +1,9 @@
 -- `even_answer::admits` meets its contract: a query of the right length is admitted if the pass over it finds all fresh.
-use mathlib.Core.Path.{_≡_, refl, sym, ap, ap₂, _∙_}
+use mathlib.Core.Path.{_≡_, sym, ap, ap₂, _∙_}
 use Prim.Native.Nat.{ℕ, _-_, _*_, _^_, _≤_}
 use native.Mathlib.Nat.{mul-le-mul}
 use native.Mathlib.Omega.{arith}
-use lib.ListN.{length, take}
+use lib.ListN.{length}
 use borrow.Author.Tests.{ne-eqb}
 use mathlib.Core.Bool.{_&&_}
 use mathlib.Core.List.{List, zipWith}
@@ -12,7 +12,7 @@ use Rattle.lists.specs.Distinct.{distinct}
 use Rattle.even_answer.specs.Answering.{cellOf}
 use Rattle.even_places.specs.Rule.{positions}
 use Rattle.even_scheme.specs.Even.{evenAdmits}
-use Rattle.even_layout.proofs.Tables.{positions-length, positions-room}
+use Rattle.even_layout.proofs.Tables.{positions-length}
 use Rattle.even_answer.proofs.Admission.{positions-below, positions-front, positions-fit, admits-pass, power-less}
 use borrow.Author.Needs.{needs}
 use Rattle.even_answer.proofs.admits.Statement.{statement}

@@ -1,8 +1,8 @@
 -- `even_answer::all_fresh` meets its contract: after i turns the numbers from i on decide, with the marks so far.
-use mathlib.Core.Path.{_≡_, refl, sym, ap, _∙_}
-use mathlib.Core.Bool.{Bool, true, false, _&&_}
-use mathlib.Core.List.{List, zipWith}
-use Prim.Native.Nat.{ℕ, _-_, _≤_, _<_}
+use mathlib.Core.Path.{_≡_, sym, _∙_}
+use mathlib.Core.Bool.{Bool, false, _&&_}
+use mathlib.Core.List.{zipWith}
+use Prim.Native.Nat.{_-_, _≤_, _<_}
 use native.Mathlib.Nat.{mul-le-mul, le-of-suc-le-suc}
 use native.Mathlib.Omega.{arith}
 use lib.ListN.{length, drop, getD, length-set, length-replicate}
@@ -34,7 +34,7 @@ returns : tie.Need-returns Inv-loop μ-loop
 returns c =
     let at = c .before .before .before in
     let start = at .before in
-    sym (sym (at .loop .inv .2) ∙ fresh-high (start .args .size) (at .loop .marks) (start .args .messages .now) (start .args .numbers .now) (at .loop .i) (omega arith) (start .pre .1) (c .if1 .taken))
+    sym (sym (at .loop .inv .2) ∙ fresh-high (start .args .size) (at .loop .marks) (start .args .messages .now) (start .args .numbers .now) (at .loop .i) (omega arith) (start .pre .1) (omega (arith, c .if1 .taken)))
 
 shared-slice-read-cell : tie.Need-shared-slice-read-cell Inv-loop μ-loop
 shared-slice-read-cell c = omega arith

@@ -1,29 +1,28 @@
 -- `even_answer::answer` meets its contract: after i turns the answers to the rows of the sets from i on are still to be written.
 use mathlib.Core.Path.{_≡_, refl, sym, ap, ap₂, _∙_}
-use mathlib.Core.Bool.{Bool}
-use mathlib.Core.List.{List, [], _++_}
-use Prim.Native.Nat.{ℕ, suc, _+_, _-_, _*_, _^_, _≤_, _<_}
+use mathlib.Core.List.{List, _++_}
+use Prim.Native.Nat.{ℕ, _+_, _-_, _*_, _≤_, _<_}
 use native.Mathlib.Nat.{zero-add}
 use native.Mathlib.Omega.{arith}
-use lib.Count.{ones as count, ones-le}
-use lib.ListN.{length, getD, take, drop, replicate, length-append, length-drop}
+use lib.Count.{ones-le}
+use lib.ListN.{length, getD, take, drop, replicate, length-drop}
 use Rattle.lists.specs.Below.{Below}
 use Rattle.lists.specs.Parts.{put}
-use Rattle.lists.proofs.Below.{below-drop}
-use Rattle.lists.proofs.Writing.{Pending, rest-part, rest-written, pending-start, pending-part, pending-as, pending-done}
+use Rattle.lists.proofs.Writing.{Pending, rest-part, rest-written, pending-start, pending-as, pending-done}
 use Rattle.parameters.specs.Measures.{evenSizes}
 use Rattle.parameters.proofs.Bounds.{even-bounds}
 use Rattle.symbol.specs.Xor.{xor}
-use Rattle.even_places.specs.Sets.{ones, allSets}
+use Rattle.even_places.specs.Sets.{allSets}
 use Rattle.even_places.specs.Rule.{layout}
 use Rattle.even_scheme.specs.Even.{rowAnswers, evenAnswer}
-use Rattle.even_layout.specs.Layout.{setIn, rowsOf}
+use Rattle.even_layout.specs.Layout.{setIn}
 use Rattle.even_layout.proofs.Blocks.{subsets-few, all-length}
 use Rattle.even_layout.proofs.Fits.{layout-fits}
 use Rattle.even_layout.proofs.Tables.{byte-at, positionsFrom}
 use Rattle.even_answer.proofs.Admission.{layout-long}
 use Rattle.even_answer.proofs.RowLaws.{answers-length}
-use Rattle.even_answer.proofs.SetRows.{rowsFrom, rows-all, rows-none, layout-length, numbers-more, numbers-all, answers-more, set-length}
+use Rattle.even_answer.proofs.SetRows.{rowsFrom, rows-all, rows-none, layout-length, numbers-all}
+use Rattle.even_answer.proofs.Turns.{set-turn}
 use Rattle.even_answer.proofs.answer.Statement.{statement}
 use Rattle.even_answer.proofs.answer.Tie as tie
 
@@ -72,15 +71,8 @@ array-read-set : tie.Need-array-read-set Inv-loop μ-loop
 array-read-set c =
     let at = c .before in
     let start = at .before .before .before .before .before .before in
-    let n = start .args .n in
-    let k = start .args .k in
-    let s = start .args .s in
-    let store = start .args .store .now in
-    let query = start .args .query .now in
-    let given = start .pre in
-    let bounds = layout-fits n k s (given .fits) in
-    let i = at .loop .i in
-    omega (arith, at .before .power .ensures, subsets-few k (bounds .messages-high))
+    let bounds = layout-fits (start .args .n) (start .args .k) (start .args .s) (start .pre .fits) in
+    omega (arith, at .before .power .ensures, subsets-few (start .args .k) (bounds .messages-high))
 
 rows-of-requires : tie.Need-rows-of-requires Inv-loop μ-loop
 rows-of-requires c κs =
@@ -88,363 +80,120 @@ rows-of-requires c κs =
     let start = at .before .before .before .before .before .before in
     let n = start .args .n in
     let k = start .args .k in
-    let s = start .args .s in
-    let store = start .args .store .now in
-    let query = start .args .query .now in
-    let given = start .pre in
-    let bounds = layout-fits n k s (given .fits) in
-    let i = at .loop .i in
-    let inside : i < length (allSets k) = omega (arith, at .before .power .ensures, all-length k) in
-    let A = getD (allSets k) i [] in
-    let set = getD (at .before .before .ordered-sets .result) i 0 in
-    let b = byte-at n k i (at .before .before .ordered-sets .result) (replicate (256 - length (allSets k)) 0) bounds (at .before .before .ordered-sets .ensures) inside in
+    let bounds = layout-fits n k (start .args .s) (start .pre .fits) in
+    let inside : at .loop .i < length (allSets k) = omega (arith, at .before .power .ensures, all-length k) in
+    let b = byte-at n k (at .loop .i) (at .before .before .ordered-sets .result) (replicate (256 - length (allSets k)) 0) bounds (at .before .before .ordered-sets .ensures) inside in
     (omega (arith, bounds .servers-low), b .some, omega (arith, b .rows, b .high))
 
 sub-answer-set : tie.Need-sub-answer-set Inv-loop μ-loop
 sub-answer-set c =
     let at = c .before .before in
     let start = at .before .before .before .before .before .before in
-    let n = start .args .n in
-    let k = start .args .k in
-    let s = start .args .s in
-    let store = start .args .store .now in
-    let query = start .args .query .now in
-    let given = start .pre in
-    let bounds = layout-fits n k s (given .fits) in
-    let i = at .loop .i in
-    let inside : i < length (allSets k) = omega (arith, at .before .power .ensures, all-length k) in
-    let A = getD (allSets k) i [] in
-    let set = getD (at .before .before .ordered-sets .result) i 0 in
-    let b = byte-at n k i (at .before .before .ordered-sets .result) (replicate (256 - length (allSets k)) 0) bounds (at .before .before .ordered-sets .ensures) inside in
-    let called = c .rows-of in
-    let rows : called .result ≡ rowsOf n A = called .ensures ∙ b .rows in
-    let taken : called .result * count set ≡ rowsOf n A * ones A = ap₂ (λ (x y : ℕ). x * y) rows (b .counted) in
-    let numbers = numbers-more n k i inside in
-    let bytes : Below 256 store = λ j l. at .before .before .before .before .before .shared-slice-known .given j .fits in
-    let below = below-drop (n ^ k) (at .loop .at) query (given .named) in
-    let front = rowAnswers xor n k s store (replicate (rowsOf n A) A) (drop (at .loop .at) query) in
-    let left = rowAnswers xor n k s store (rowsFrom n k (i + 1)) (drop (at .loop .at + called .result * count set) query) in
-    let p = rw (answers-more n k s store i (at .loop .at) (called .result * count set) query inside taken) at (at .loop .inv .2) in
-    let many = length-append front left in
-    let long : length front ≡ called .result * s = set-length n k s store A (rowsOf n A) (drop (at .loop .at) query) (given .whole) bytes (b .is .long) below ∙ ap (λ (x : ℕ). x * s) (sym rows) in
-    omega (arith, p .room, at .loop .inv .1)
+    let inside : at .loop .i < length (allSets (start .args .k)) = omega (arith, at .before .power .ensures, all-length (start .args .k)) in
+    let turn = set-turn (at .loop .i) (at .loop .at) (start .pre) (λ j l. at .before .before .before .before .before .shared-slice-known .given j .fits)
+    (at .before .before .ordered-sets .ensures) inside (c .rows-of .ensures) (at .loop .inv .1) (at .loop .inv .2) in
+    omega (arith, turn .read, turn .written)
 
 part-answer-set-start : tie.Need-part-answer-set-start Inv-loop μ-loop
 part-answer-set-start c =
     let at = c .before .before in
     let start = at .before .before .before .before .before .before in
-    let n = start .args .n in
-    let k = start .args .k in
-    let s = start .args .s in
-    let store = start .args .store .now in
-    let query = start .args .query .now in
-    let given = start .pre in
-    let bounds = layout-fits n k s (given .fits) in
-    let i = at .loop .i in
-    let inside : i < length (allSets k) = omega (arith, at .before .power .ensures, all-length k) in
-    let A = getD (allSets k) i [] in
-    let set = getD (at .before .before .ordered-sets .result) i 0 in
-    let b = byte-at n k i (at .before .before .ordered-sets .result) (replicate (256 - length (allSets k)) 0) bounds (at .before .before .ordered-sets .ensures) inside in
-    let called = c .rows-of in
-    let rows : called .result ≡ rowsOf n A = called .ensures ∙ b .rows in
-    let taken : called .result * count set ≡ rowsOf n A * ones A = ap₂ (λ (x y : ℕ). x * y) rows (b .counted) in
-    let numbers = numbers-more n k i inside in
-    let bytes : Below 256 store = λ j l. at .before .before .before .before .before .shared-slice-known .given j .fits in
-    let below = below-drop (n ^ k) (at .loop .at) query (given .named) in
-    let front = rowAnswers xor n k s store (replicate (rowsOf n A) A) (drop (at .loop .at) query) in
-    let left = rowAnswers xor n k s store (rowsFrom n k (i + 1)) (drop (at .loop .at + called .result * count set) query) in
-    let p = rw (answers-more n k s store i (at .loop .at) (called .result * count set) query inside taken) at (at .loop .inv .2) in
-    let many = length-append front left in
-    let long : length front ≡ called .result * s = set-length n k s store A (rowsOf n A) (drop (at .loop .at) query) (given .whole) bytes (b .is .long) below ∙ ap (λ (x : ℕ). x * s) (sym rows) in
-    omega (arith, p .room, at .loop .inv .1)
+    let inside : at .loop .i < length (allSets (start .args .k)) = omega (arith, at .before .power .ensures, all-length (start .args .k)) in
+    let turn = set-turn (at .loop .i) (at .loop .at) (start .pre) (λ j l. at .before .before .before .before .before .shared-slice-known .given j .fits)
+    (at .before .before .ordered-sets .ensures) inside (c .rows-of .ensures) (at .loop .inv .1) (at .loop .inv .2) in
+    omega (arith, turn .read, turn .written)
 
 part-answer-set-end : tie.Need-part-answer-set-end Inv-loop μ-loop
 part-answer-set-end c =
     let at = c .before .before in
     let start = at .before .before .before .before .before .before in
-    let n = start .args .n in
-    let k = start .args .k in
-    let s = start .args .s in
-    let store = start .args .store .now in
-    let query = start .args .query .now in
-    let given = start .pre in
-    let bounds = layout-fits n k s (given .fits) in
-    let i = at .loop .i in
-    let inside : i < length (allSets k) = omega (arith, at .before .power .ensures, all-length k) in
-    let A = getD (allSets k) i [] in
-    let set = getD (at .before .before .ordered-sets .result) i 0 in
-    let b = byte-at n k i (at .before .before .ordered-sets .result) (replicate (256 - length (allSets k)) 0) bounds (at .before .before .ordered-sets .ensures) inside in
-    let called = c .rows-of in
-    let rows : called .result ≡ rowsOf n A = called .ensures ∙ b .rows in
-    let taken : called .result * count set ≡ rowsOf n A * ones A = ap₂ (λ (x y : ℕ). x * y) rows (b .counted) in
-    let numbers = numbers-more n k i inside in
-    let bytes : Below 256 store = λ j l. at .before .before .before .before .before .shared-slice-known .given j .fits in
-    let below = below-drop (n ^ k) (at .loop .at) query (given .named) in
-    let front = rowAnswers xor n k s store (replicate (rowsOf n A) A) (drop (at .loop .at) query) in
-    let left = rowAnswers xor n k s store (rowsFrom n k (i + 1)) (drop (at .loop .at + called .result * count set) query) in
-    let p = rw (answers-more n k s store i (at .loop .at) (called .result * count set) query inside taken) at (at .loop .inv .2) in
-    let many = length-append front left in
-    let long : length front ≡ called .result * s = set-length n k s store A (rowsOf n A) (drop (at .loop .at) query) (given .whole) bytes (b .is .long) below ∙ ap (λ (x : ℕ). x * s) (sym rows) in
-    omega (arith, p .room, at .loop .inv .1)
+    let inside : at .loop .i < length (allSets (start .args .k)) = omega (arith, at .before .power .ensures, all-length (start .args .k)) in
+    let turn = set-turn (at .loop .i) (at .loop .at) (start .pre) (λ j l. at .before .before .before .before .before .shared-slice-known .given j .fits)
+    (at .before .before .ordered-sets .ensures) inside (c .rows-of .ensures) (at .loop .inv .1) (at .loop .inv .2) in
+    omega (arith, turn .read, turn .written)
 
 sub-answer-set-2 : tie.Need-sub-answer-set-2 Inv-loop μ-loop
 sub-answer-set-2 c =
     let at = c .before .before .before in
     let start = at .before .before .before .before .before .before in
-    let n = start .args .n in
-    let k = start .args .k in
-    let s = start .args .s in
-    let store = start .args .store .now in
-    let query = start .args .query .now in
-    let given = start .pre in
-    let bounds = layout-fits n k s (given .fits) in
-    let i = at .loop .i in
-    let inside : i < length (allSets k) = omega (arith, at .before .power .ensures, all-length k) in
-    let A = getD (allSets k) i [] in
-    let set = getD (at .before .before .ordered-sets .result) i 0 in
-    let b = byte-at n k i (at .before .before .ordered-sets .result) (replicate (256 - length (allSets k)) 0) bounds (at .before .before .ordered-sets .ensures) inside in
-    let called = c .before .rows-of in
-    let rows : called .result ≡ rowsOf n A = called .ensures ∙ b .rows in
-    let taken : called .result * count set ≡ rowsOf n A * ones A = ap₂ (λ (x y : ℕ). x * y) rows (b .counted) in
-    let numbers = numbers-more n k i inside in
-    let bytes : Below 256 store = λ j l. at .before .before .before .before .before .shared-slice-known .given j .fits in
-    let below = below-drop (n ^ k) (at .loop .at) query (given .named) in
-    let front = rowAnswers xor n k s store (replicate (rowsOf n A) A) (drop (at .loop .at) query) in
-    let left = rowAnswers xor n k s store (rowsFrom n k (i + 1)) (drop (at .loop .at + called .result * count set) query) in
-    let p = rw (answers-more n k s store i (at .loop .at) (called .result * count set) query inside taken) at (at .loop .inv .2) in
-    let many = length-append front left in
-    let long : length front ≡ called .result * s = set-length n k s store A (rowsOf n A) (drop (at .loop .at) query) (given .whole) bytes (b .is .long) below ∙ ap (λ (x : ℕ). x * s) (sym rows) in
-    omega (arith, p .room, at .loop .inv .1)
+    let inside : at .loop .i < length (allSets (start .args .k)) = omega (arith, at .before .power .ensures, all-length (start .args .k)) in
+    let turn = set-turn (at .loop .i) (at .loop .at) (start .pre) (λ j l. at .before .before .before .before .before .shared-slice-known .given j .fits)
+    (at .before .before .ordered-sets .ensures) inside (c .before .rows-of .ensures) (at .loop .inv .1) (at .loop .inv .2) in
+    omega (arith, turn .read, turn .written)
 
 part-answer-set-start-2 : tie.Need-part-answer-set-start-2 Inv-loop μ-loop
 part-answer-set-start-2 c =
     let at = c .before .before .before in
     let start = at .before .before .before .before .before .before in
-    let n = start .args .n in
-    let k = start .args .k in
-    let s = start .args .s in
-    let store = start .args .store .now in
-    let query = start .args .query .now in
-    let given = start .pre in
-    let bounds = layout-fits n k s (given .fits) in
-    let i = at .loop .i in
-    let inside : i < length (allSets k) = omega (arith, at .before .power .ensures, all-length k) in
-    let A = getD (allSets k) i [] in
-    let set = getD (at .before .before .ordered-sets .result) i 0 in
-    let b = byte-at n k i (at .before .before .ordered-sets .result) (replicate (256 - length (allSets k)) 0) bounds (at .before .before .ordered-sets .ensures) inside in
-    let called = c .before .rows-of in
-    let rows : called .result ≡ rowsOf n A = called .ensures ∙ b .rows in
-    let taken : called .result * count set ≡ rowsOf n A * ones A = ap₂ (λ (x y : ℕ). x * y) rows (b .counted) in
-    let numbers = numbers-more n k i inside in
-    let bytes : Below 256 store = λ j l. at .before .before .before .before .before .shared-slice-known .given j .fits in
-    let below = below-drop (n ^ k) (at .loop .at) query (given .named) in
-    let front = rowAnswers xor n k s store (replicate (rowsOf n A) A) (drop (at .loop .at) query) in
-    let left = rowAnswers xor n k s store (rowsFrom n k (i + 1)) (drop (at .loop .at + called .result * count set) query) in
-    let p = rw (answers-more n k s store i (at .loop .at) (called .result * count set) query inside taken) at (at .loop .inv .2) in
-    let many = length-append front left in
-    let long : length front ≡ called .result * s = set-length n k s store A (rowsOf n A) (drop (at .loop .at) query) (given .whole) bytes (b .is .long) below ∙ ap (λ (x : ℕ). x * s) (sym rows) in
-    omega (arith, p .room, at .loop .inv .1)
+    let inside : at .loop .i < length (allSets (start .args .k)) = omega (arith, at .before .power .ensures, all-length (start .args .k)) in
+    let turn = set-turn (at .loop .i) (at .loop .at) (start .pre) (λ j l. at .before .before .before .before .before .shared-slice-known .given j .fits)
+    (at .before .before .ordered-sets .ensures) inside (c .before .rows-of .ensures) (at .loop .inv .1) (at .loop .inv .2) in
+    omega (arith, turn .read, turn .written)
 
 part-answer-set-end-2 : tie.Need-part-answer-set-end-2 Inv-loop μ-loop
 part-answer-set-end-2 c =
     let at = c .before .before .before in
     let start = at .before .before .before .before .before .before in
-    let n = start .args .n in
-    let k = start .args .k in
-    let s = start .args .s in
-    let store = start .args .store .now in
-    let query = start .args .query .now in
-    let given = start .pre in
-    let bounds = layout-fits n k s (given .fits) in
-    let i = at .loop .i in
-    let inside : i < length (allSets k) = omega (arith, at .before .power .ensures, all-length k) in
-    let A = getD (allSets k) i [] in
-    let set = getD (at .before .before .ordered-sets .result) i 0 in
-    let b = byte-at n k i (at .before .before .ordered-sets .result) (replicate (256 - length (allSets k)) 0) bounds (at .before .before .ordered-sets .ensures) inside in
-    let called = c .before .rows-of in
-    let rows : called .result ≡ rowsOf n A = called .ensures ∙ b .rows in
-    let taken : called .result * count set ≡ rowsOf n A * ones A = ap₂ (λ (x y : ℕ). x * y) rows (b .counted) in
-    let numbers = numbers-more n k i inside in
-    let bytes : Below 256 store = λ j l. at .before .before .before .before .before .shared-slice-known .given j .fits in
-    let below = below-drop (n ^ k) (at .loop .at) query (given .named) in
-    let front = rowAnswers xor n k s store (replicate (rowsOf n A) A) (drop (at .loop .at) query) in
-    let left = rowAnswers xor n k s store (rowsFrom n k (i + 1)) (drop (at .loop .at + called .result * count set) query) in
-    let p = rw (answers-more n k s store i (at .loop .at) (called .result * count set) query inside taken) at (at .loop .inv .2) in
-    let many = length-append front left in
-    let long : length front ≡ called .result * s = set-length n k s store A (rowsOf n A) (drop (at .loop .at) query) (given .whole) bytes (b .is .long) below ∙ ap (λ (x : ℕ). x * s) (sym rows) in
-    omega (arith, p .room, at .loop .inv .1)
+    let inside : at .loop .i < length (allSets (start .args .k)) = omega (arith, at .before .power .ensures, all-length (start .args .k)) in
+    let turn = set-turn (at .loop .i) (at .loop .at) (start .pre) (λ j l. at .before .before .before .before .before .shared-slice-known .given j .fits)
+    (at .before .before .ordered-sets .ensures) inside (c .before .rows-of .ensures) (at .loop .inv .1) (at .loop .inv .2) in
+    omega (arith, turn .read, turn .written)
 
 answer-set-requires : tie.Need-answer-set-requires Inv-loop μ-loop
 answer-set-requires c κs =
     let at = c .before .before .before .before in
     let start = at .before .before .before .before .before .before in
-    let n = start .args .n in
-    let k = start .args .k in
-    let s = start .args .s in
-    let store = start .args .store .now in
-    let query = start .args .query .now in
-    let given = start .pre in
-    let bounds = layout-fits n k s (given .fits) in
-    let i = at .loop .i in
-    let inside : i < length (allSets k) = omega (arith, at .before .power .ensures, all-length k) in
-    let A = getD (allSets k) i [] in
-    let set = getD (at .before .before .ordered-sets .result) i 0 in
-    let b = byte-at n k i (at .before .before .ordered-sets .result) (replicate (256 - length (allSets k)) 0) bounds (at .before .before .ordered-sets .ensures) inside in
-    let called = c .before .before .rows-of in
-    let rows : called .result ≡ rowsOf n A = called .ensures ∙ b .rows in
-    let taken : called .result * count set ≡ rowsOf n A * ones A = ap₂ (λ (x y : ℕ). x * y) rows (b .counted) in
-    let numbers = numbers-more n k i inside in
-    let bytes : Below 256 store = λ j l. at .before .before .before .before .before .shared-slice-known .given j .fits in
-    let below = below-drop (n ^ k) (at .loop .at) query (given .named) in
-    let front = rowAnswers xor n k s store (replicate (rowsOf n A) A) (drop (at .loop .at) query) in
-    let left = rowAnswers xor n k s store (rowsFrom n k (i + 1)) (drop (at .loop .at + called .result * count set) query) in
-    let p = rw (answers-more n k s store i (at .loop .at) (called .result * count set) query inside taken) at (at .loop .inv .2) in
-    let many = length-append front left in
-    let long : length front ≡ called .result * s = set-length n k s store A (rowsOf n A) (drop (at .loop .at) query) (given .whole) bytes (b .is .long) below ∙ ap (λ (x : ℕ). x * s) (sym rows) in (
-      rw (rest-part (at .loop .at) query) (record {
-        fits = given .fits;
-        whole = given .whole;
-        named = below;
-        some = b .some;
-        inside = ap ones (b .decoded) ∙ sym (b .counted);
-        enough = omega (arith, length-drop (at .loop .at) query, at .loop .inv .1);
-      }),
-      rw (rest-part (at .loop .end) (at .loop .out)) (omega (arith, length-drop (at .loop .end) (at .loop .out), p .room)),
+    let inside : at .loop .i < length (allSets (start .args .k)) = omega (arith, at .before .power .ensures, all-length (start .args .k)) in
+    let turn = set-turn (at .loop .i) (at .loop .at) (start .pre) (λ j l. at .before .before .before .before .before .shared-slice-known .given j .fits)
+    (at .before .before .ordered-sets .ensures) inside (c .before .before .rows-of .ensures) (at .loop .inv .1) (at .loop .inv .2) in (
+      rw (rest-part (at .loop .at) (start .args .query .now)) (turn .given),
+      rw (rest-part (at .loop .end) (at .loop .out)) (omega (arith, length-drop (at .loop .end) (at .loop .out), turn .written)),
     )
 
 cast-at : tie.Need-cast-at Inv-loop μ-loop
 cast-at c =
     let at = c .before .before .before .before .before .before .before in
     let start = at .before .before .before .before .before .before in
-    let n = start .args .n in
-    let k = start .args .k in
-    let s = start .args .s in
-    let store = start .args .store .now in
-    let query = start .args .query .now in
-    let given = start .pre in
-    let bounds = layout-fits n k s (given .fits) in
-    let i = at .loop .i in
-    let inside : i < length (allSets k) = omega (arith, at .before .power .ensures, all-length k) in
-    let A = getD (allSets k) i [] in
-    let set = getD (at .before .before .ordered-sets .result) i 0 in
-    let b = byte-at n k i (at .before .before .ordered-sets .result) (replicate (256 - length (allSets k)) 0) bounds (at .before .before .ordered-sets .ensures) inside in
-    omega (arith, ones-le 8 set (b .small))
+    let inside : at .loop .i < length (allSets (start .args .k)) = omega (arith, at .before .power .ensures, all-length (start .args .k)) in
+    let turn = set-turn (at .loop .i) (at .loop .at) (start .pre) (λ j l. at .before .before .before .before .before .shared-slice-known .given j .fits)
+    (at .before .before .ordered-sets .ensures) inside (c .before .before .before .before .before .rows-of .ensures) (at .loop .inv .1) (at .loop .inv .2) in
+    omega (arith, ones-le 8 (getD (at .before .before .ordered-sets .result) (at .loop .i) 0) (turn .small))
 
 mul-at : tie.Need-mul-at Inv-loop μ-loop
 mul-at c =
     let at = c .before .before .before .before .before .before .before in
     let start = at .before .before .before .before .before .before in
-    let n = start .args .n in
-    let k = start .args .k in
-    let s = start .args .s in
-    let store = start .args .store .now in
-    let query = start .args .query .now in
-    let given = start .pre in
-    let bounds = layout-fits n k s (given .fits) in
-    let i = at .loop .i in
-    let inside : i < length (allSets k) = omega (arith, at .before .power .ensures, all-length k) in
-    let A = getD (allSets k) i [] in
-    let set = getD (at .before .before .ordered-sets .result) i 0 in
-    let b = byte-at n k i (at .before .before .ordered-sets .result) (replicate (256 - length (allSets k)) 0) bounds (at .before .before .ordered-sets .ensures) inside in
-    let called = c .before .before .before .before .before .rows-of in
-    let rows : called .result ≡ rowsOf n A = called .ensures ∙ b .rows in
-    let taken : called .result * count set ≡ rowsOf n A * ones A = ap₂ (λ (x y : ℕ). x * y) rows (b .counted) in
-    let numbers = numbers-more n k i inside in
-    let bytes : Below 256 store = λ j l. at .before .before .before .before .before .shared-slice-known .given j .fits in
-    let below = below-drop (n ^ k) (at .loop .at) query (given .named) in
-    let front = rowAnswers xor n k s store (replicate (rowsOf n A) A) (drop (at .loop .at) query) in
-    let left = rowAnswers xor n k s store (rowsFrom n k (i + 1)) (drop (at .loop .at + called .result * count set) query) in
-    let p = rw (answers-more n k s store i (at .loop .at) (called .result * count set) query inside taken) at (at .loop .inv .2) in
-    let many = length-append front left in
-    let long : length front ≡ called .result * s = set-length n k s store A (rowsOf n A) (drop (at .loop .at) query) (given .whole) bytes (b .is .long) below ∙ ap (λ (x : ℕ). x * s) (sym rows) in
-    omega (arith, p .room, at .loop .inv .1)
+    let inside : at .loop .i < length (allSets (start .args .k)) = omega (arith, at .before .power .ensures, all-length (start .args .k)) in
+    let turn = set-turn (at .loop .i) (at .loop .at) (start .pre) (λ j l. at .before .before .before .before .before .shared-slice-known .given j .fits)
+    (at .before .before .ordered-sets .ensures) inside (c .before .before .before .before .before .rows-of .ensures) (at .loop .inv .1) (at .loop .inv .2) in
+    omega (arith, turn .read, turn .written)
 
 add-at : tie.Need-add-at Inv-loop μ-loop
 add-at c =
     let at = c .before .before .before .before .before .before .before in
     let start = at .before .before .before .before .before .before in
-    let n = start .args .n in
-    let k = start .args .k in
-    let s = start .args .s in
-    let store = start .args .store .now in
-    let query = start .args .query .now in
-    let given = start .pre in
-    let bounds = layout-fits n k s (given .fits) in
-    let i = at .loop .i in
-    let inside : i < length (allSets k) = omega (arith, at .before .power .ensures, all-length k) in
-    let A = getD (allSets k) i [] in
-    let set = getD (at .before .before .ordered-sets .result) i 0 in
-    let b = byte-at n k i (at .before .before .ordered-sets .result) (replicate (256 - length (allSets k)) 0) bounds (at .before .before .ordered-sets .ensures) inside in
-    let called = c .before .before .before .before .before .rows-of in
-    let rows : called .result ≡ rowsOf n A = called .ensures ∙ b .rows in
-    let taken : called .result * count set ≡ rowsOf n A * ones A = ap₂ (λ (x y : ℕ). x * y) rows (b .counted) in
-    let numbers = numbers-more n k i inside in
-    let bytes : Below 256 store = λ j l. at .before .before .before .before .before .shared-slice-known .given j .fits in
-    let below = below-drop (n ^ k) (at .loop .at) query (given .named) in
-    let front = rowAnswers xor n k s store (replicate (rowsOf n A) A) (drop (at .loop .at) query) in
-    let left = rowAnswers xor n k s store (rowsFrom n k (i + 1)) (drop (at .loop .at + called .result * count set) query) in
-    let p = rw (answers-more n k s store i (at .loop .at) (called .result * count set) query inside taken) at (at .loop .inv .2) in
-    let many = length-append front left in
-    let long : length front ≡ called .result * s = set-length n k s store A (rowsOf n A) (drop (at .loop .at) query) (given .whole) bytes (b .is .long) below ∙ ap (λ (x : ℕ). x * s) (sym rows) in
-    omega (arith, p .room, at .loop .inv .1)
+    let inside : at .loop .i < length (allSets (start .args .k)) = omega (arith, at .before .power .ensures, all-length (start .args .k)) in
+    let turn = set-turn (at .loop .i) (at .loop .at) (start .pre) (λ j l. at .before .before .before .before .before .shared-slice-known .given j .fits)
+    (at .before .before .ordered-sets .ensures) inside (c .before .before .before .before .before .rows-of .ensures) (at .loop .inv .1) (at .loop .inv .2) in
+    omega (arith, turn .read, turn .written)
 
 mul-end : tie.Need-mul-end Inv-loop μ-loop
 mul-end c =
     let at = c .before .before .before .before .before .before .before in
     let start = at .before .before .before .before .before .before in
-    let n = start .args .n in
-    let k = start .args .k in
-    let s = start .args .s in
-    let store = start .args .store .now in
-    let query = start .args .query .now in
-    let given = start .pre in
-    let bounds = layout-fits n k s (given .fits) in
-    let i = at .loop .i in
-    let inside : i < length (allSets k) = omega (arith, at .before .power .ensures, all-length k) in
-    let A = getD (allSets k) i [] in
-    let set = getD (at .before .before .ordered-sets .result) i 0 in
-    let b = byte-at n k i (at .before .before .ordered-sets .result) (replicate (256 - length (allSets k)) 0) bounds (at .before .before .ordered-sets .ensures) inside in
-    let called = c .before .before .before .before .before .rows-of in
-    let rows : called .result ≡ rowsOf n A = called .ensures ∙ b .rows in
-    let taken : called .result * count set ≡ rowsOf n A * ones A = ap₂ (λ (x y : ℕ). x * y) rows (b .counted) in
-    let numbers = numbers-more n k i inside in
-    let bytes : Below 256 store = λ j l. at .before .before .before .before .before .shared-slice-known .given j .fits in
-    let below = below-drop (n ^ k) (at .loop .at) query (given .named) in
-    let front = rowAnswers xor n k s store (replicate (rowsOf n A) A) (drop (at .loop .at) query) in
-    let left = rowAnswers xor n k s store (rowsFrom n k (i + 1)) (drop (at .loop .at + called .result * count set) query) in
-    let p = rw (answers-more n k s store i (at .loop .at) (called .result * count set) query inside taken) at (at .loop .inv .2) in
-    let many = length-append front left in
-    let long : length front ≡ called .result * s = set-length n k s store A (rowsOf n A) (drop (at .loop .at) query) (given .whole) bytes (b .is .long) below ∙ ap (λ (x : ℕ). x * s) (sym rows) in
-    omega (arith, p .room, at .loop .inv .1)
+    let inside : at .loop .i < length (allSets (start .args .k)) = omega (arith, at .before .power .ensures, all-length (start .args .k)) in
+    let turn = set-turn (at .loop .i) (at .loop .at) (start .pre) (λ j l. at .before .before .before .before .before .shared-slice-known .given j .fits)
+    (at .before .before .ordered-sets .ensures) inside (c .before .before .before .before .before .rows-of .ensures) (at .loop .inv .1) (at .loop .inv .2) in
+    omega (arith, turn .read, turn .written)
 
 add-end : tie.Need-add-end Inv-loop μ-loop
 add-end c =
     let at = c .before .before .before .before .before .before .before in
     let start = at .before .before .before .before .before .before in
-    let n = start .args .n in
-    let k = start .args .k in
-    let s = start .args .s in
-    let store = start .args .store .now in
-    let query = start .args .query .now in
-    let given = start .pre in
-    let bounds = layout-fits n k s (given .fits) in
-    let i = at .loop .i in
-    let inside : i < length (allSets k) = omega (arith, at .before .power .ensures, all-length k) in
-    let A = getD (allSets k) i [] in
-    let set = getD (at .before .before .ordered-sets .result) i 0 in
-    let b = byte-at n k i (at .before .before .ordered-sets .result) (replicate (256 - length (allSets k)) 0) bounds (at .before .before .ordered-sets .ensures) inside in
-    let called = c .before .before .before .before .before .rows-of in
-    let rows : called .result ≡ rowsOf n A = called .ensures ∙ b .rows in
-    let taken : called .result * count set ≡ rowsOf n A * ones A = ap₂ (λ (x y : ℕ). x * y) rows (b .counted) in
-    let numbers = numbers-more n k i inside in
-    let bytes : Below 256 store = λ j l. at .before .before .before .before .before .shared-slice-known .given j .fits in
-    let below = below-drop (n ^ k) (at .loop .at) query (given .named) in
-    let front = rowAnswers xor n k s store (replicate (rowsOf n A) A) (drop (at .loop .at) query) in
-    let left = rowAnswers xor n k s store (rowsFrom n k (i + 1)) (drop (at .loop .at + called .result * count set) query) in
-    let p = rw (answers-more n k s store i (at .loop .at) (called .result * count set) query inside taken) at (at .loop .inv .2) in
-    let many = length-append front left in
-    let long : length front ≡ called .result * s = set-length n k s store A (rowsOf n A) (drop (at .loop .at) query) (given .whole) bytes (b .is .long) below ∙ ap (λ (x : ℕ). x * s) (sym rows) in
-    omega (arith, p .room, at .loop .inv .1)
+    let inside : at .loop .i < length (allSets (start .args .k)) = omega (arith, at .before .power .ensures, all-length (start .args .k)) in
+    let turn = set-turn (at .loop .i) (at .loop .at) (start .pre) (λ j l. at .before .before .before .before .before .shared-slice-known .given j .fits)
+    (at .before .before .ordered-sets .ensures) inside (c .before .before .before .before .before .rows-of .ensures) (at .loop .inv .1) (at .loop .inv .2) in
+    omega (arith, turn .read, turn .written)
 
 add-i : tie.Need-add-i Inv-loop μ-loop
 add-i c = omega arith
@@ -456,39 +205,20 @@ loop-again : tie.Need-loop-again Inv-loop μ-loop
 loop-again c =
     let at = c .before .before .before .before .before .before .before in
     let start = at .before .before .before .before .before .before in
-    let n = start .args .n in
-    let k = start .args .k in
-    let s = start .args .s in
-    let store = start .args .store .now in
-    let query = start .args .query .now in
-    let given = start .pre in
-    let bounds = layout-fits n k s (given .fits) in
-    let i = at .loop .i in
-    let inside : i < length (allSets k) = omega (arith, at .before .power .ensures, all-length k) in
-    let A = getD (allSets k) i [] in
-    let set = getD (at .before .before .ordered-sets .result) i 0 in
-    let b = byte-at n k i (at .before .before .ordered-sets .result) (replicate (256 - length (allSets k)) 0) bounds (at .before .before .ordered-sets .ensures) inside in
-    let called = c .before .before .before .before .before .rows-of in
-    let rows : called .result ≡ rowsOf n A = called .ensures ∙ b .rows in
-    let taken : called .result * count set ≡ rowsOf n A * ones A = ap₂ (λ (x y : ℕ). x * y) rows (b .counted) in
-    let numbers = numbers-more n k i inside in
-    let bytes : Below 256 store = λ j l. at .before .before .before .before .before .shared-slice-known .given j .fits in
-    let below = below-drop (n ^ k) (at .loop .at) query (given .named) in
-    let front = rowAnswers xor n k s store (replicate (rowsOf n A) A) (drop (at .loop .at) query) in
-    let left = rowAnswers xor n k s store (rowsFrom n k (i + 1)) (drop (at .loop .at + called .result * count set) query) in
-    let p = rw (answers-more n k s store i (at .loop .at) (called .result * count set) query inside taken) at (at .loop .inv .2) in
-    let many = length-append front left in
-    let long : length front ≡ called .result * s = set-length n k s store A (rowsOf n A) (drop (at .loop .at) query) (given .whole) bytes (b .is .long) below ∙ ap (λ (x : ℕ). x * s) (sym rows) in
+    let inside : at .loop .i < length (allSets (start .args .k)) = omega (arith, at .before .power .ensures, all-length (start .args .k)) in
+    let turn = set-turn (at .loop .i) (at .loop .at) (start .pre) (λ j l. at .before .before .before .before .before .shared-slice-known .given j .fits)
+    (at .before .before .ordered-sets .ensures) inside (c .before .before .before .before .before .rows-of .ensures) (at .loop .inv .1) (at .loop .inv .2) in
     let end = at .loop .end in
     let out = at .loop .out in
-    let answered : rowAnswers xor n k s store (replicate (called .result) (setIn k set)) (take (length query - at .loop .at) (drop (at .loop .at) query)) ≡ front =
-    rw (rest-part (at .loop .at) query) (ap₂ (λ (m : ℕ) (B : List Bool). rowAnswers xor n k s store (replicate m B) (drop (at .loop .at) query)) rows (b .decoded)) in
-    let made = c .before .before .answer-set .ensures ∙ ap₂ (λ (l m : List ℕ). put 0 l m) answered (rest-part end out) in (
+    let numbers = drop (at .loop .at) (start .args .query .now) in
+    let answered = rowAnswers xor (start .args .n) (start .args .k) (start .args .s) (start .args .store .now)
+    (replicate (c .before .before .before .before .before .rows-of .result) (setIn (start .args .k) (getD (at .before .before .ordered-sets .result) (at .loop .i) 0))) in
+    let made = c .before .before .answer-set .ensures ∙ ap₂ (λ (l m : List ℕ). put 0 (answered l) m) (rest-part (at .loop .at) (start .args .query .now)) (rest-part end out) in (
       omega arith,
-      omega (arith, at .loop .inv .1),
-      pending-as (ap (λ (m : ℕ). end + m) (sym long)) refl
-          (ap (λ (l : List ℕ). take end out ++ (l ++ drop (length out - end) (drop end out))) made ∙ rest-written end front out)
-          (pending-part front left p),
+      turn .read,
+      pending-as refl refl
+          (ap (λ (l : List ℕ). take end out ++ (l ++ drop (length out - end) (drop end out))) made ∙ rest-written end (answered numbers) out)
+          (turn .left),
     )
 
 same-length : tie.Need-same-length Inv-loop μ-loop
@@ -499,16 +229,9 @@ unfolding rowAnswers
 returns c =
     let at = c .before in
     let start = at .before .before .before .before .before .before in
-    let n = start .args .n in
     let k = start .args .k in
-    let s = start .args .s in
-    let store = start .args .store .now in
-    let query = start .args .query .now in
-    let given = start .pre in
-    let bounds = layout-fits n k s (given .fits) in
-    let i = at .loop .i in
-    let none = rows-none n k i (let w : length (allSets k) ≤ i = omega (arith, at .before .power .ensures, all-length k) in w) in
-    pending-done (rw none at (at .loop .inv .2))
+    let over : length (allSets k) ≤ at .loop .i = omega (arith, at .before .power .ensures, all-length k) in
+    pending-done (rw (rows-none (start .args .n) k (at .loop .i) over) at (at .loop .inv .2))
 
 pub answer-spec : {M : Type 1} → statement M
 answer-spec =

@@ -1,14 +1,15 @@
 -- `even_answer::answer_row` meets its contract: after p turns the symbols of the set's messages from p on are still to be combined.
 use mathlib.Core.Path.{_≡_, refl, sym, ap, _∙_}
 use mathlib.Core.Logic.{⊎-elim}
-use mathlib.Core.List.{List, zipWith}
-use Prim.Native.Nat.{ℕ, suc, _+_, _-_, _*_, _/_, _^_, _≤_, _<_}
+use mathlib.Core.List.{zipWith}
+use Prim.Native.Nat.{_+_, _-_, _/_, _≤_}
 use native.Mathlib.Nat.{sub-zero, zero-add, mul-le-mul}
 use native.Mathlib.Omega.{arith}
 use borrow.Author.Tests.{ne-eqb}
 use lib.Count.{ones as count}
 use lib.Dec.{eqb}
 use lib.ListN.{length, getD, drop}
+use Rattle.lists.specs.Below.{Below}
 use Rattle.parameters.proofs.Bounds.{even-bounds}
 use Rattle.symbol.specs.Sum.{totalFrom}
 use Rattle.symbol.specs.Xor.{xor}
@@ -17,7 +18,8 @@ use Rattle.even_scheme.specs.Even.{symbolAt, rowAnswer}
 use Rattle.even_layout.specs.Layout.{setIn}
 use Rattle.even_layout.proofs.Bytes.{membersFrom, members-kept, members-skipped}
 use Rattle.even_answer.specs.Answering.{added}
-use Rattle.even_answer.proofs.RowLaws.{members-length, resumed, row-more, symbol-room, symbol-place, symbol-is, added-length}
+use Rattle.even_answer.proofs.RowLaws.{members-length, resumed, row-more, symbol-place, symbol-is, added-length}
+use Rattle.even_answer.proofs.Turns.{symbol-turn}
 use Rattle.even_answer.proofs.answer_row.Statement.{statement}
 use Rattle.even_answer.proofs.answer_row.Tie as tie
 
@@ -50,20 +52,8 @@ shared-slice-read-number : tie.Need-shared-slice-read-number Inv-loop μ-loop
 shared-slice-read-number c =
     let at = c .before .before .before in
     let start = at .before .before .before .before .before in
-    let n = start .args .n in
-    let k = start .args .k in
-    let s = start .args .s in
-    let store = start .args .store .now in
-    let numbers = start .args .numbers .now in
-    let given = start .pre .0 in
-    let p = at .loop .p in
-    let taken = at .loop .taken in
-    let rest = at .loop .rest in
-    let kept = members-kept k p rest (omega arith) (c .before .if1 .taken) in
-    let some : taken + suc (length (membersFrom k (p + 1) (rest / 2))) ≡ count (start .args .set) = rw kept at (at .loop .inv .2) in
-    let enough : taken < length numbers = omega (arith, given .enough) in
-    let number : getD numbers taken 0 < n ^ k = given .named taken enough in
-    enough
+    let turn = symbol-turn (at .loop .p) (at .loop .taken) (at .loop .rest) (start .pre .0) (at .before .power .ensures) (omega arith) (c .before .if1 .taken) (at .loop .inv .2) in
+    turn .inside
 
 cast-number : tie.Need-cast-number Inv-loop μ-loop
 cast-number c = omega (arith, c .shared-slice-known3 .given (c .before .before .before .loop .taken))
@@ -72,100 +62,39 @@ mul-add-symbol : tie.Need-mul-add-symbol Inv-loop μ-loop
 mul-add-symbol c =
     let at = c .before .before .before in
     let start = at .before .before .before .before .before in
-    let n = start .args .n in
-    let k = start .args .k in
-    let s = start .args .s in
-    let store = start .args .store .now in
-    let numbers = start .args .numbers .now in
-    let given = start .pre .0 in
-    let p = at .loop .p in
-    let taken = at .loop .taken in
-    let rest = at .loop .rest in
-    let bounds = even-bounds n k s (given .fits) in
-    let symbols : at .before .power .result ≤ 256 = omega (arith, at .before .power .ensures, bounds .symbols-high) in
-    let most : p * at .before .power .result ≤ 8 * 256 = mul-le-mul (let w : p ≤ 8 = omega (arith, bounds .messages-high) in w) symbols in
+    let bounds = even-bounds (start .args .n) (start .args .k) (start .args .s) (start .pre .0 .fits) in
+    let most = mul-le-mul (let w : at .loop .p ≤ 8 = omega (arith, bounds .messages-high) in w) (let w : at .before .power .result ≤ 256 = omega (arith, at .before .power .ensures, bounds .symbols-high) in w) in
     omega arith
 
 add-add-symbol : tie.Need-add-add-symbol Inv-loop μ-loop
 add-add-symbol c =
     let at = c .before .before .before in
     let start = at .before .before .before .before .before in
-    let n = start .args .n in
-    let k = start .args .k in
-    let s = start .args .s in
-    let store = start .args .store .now in
-    let numbers = start .args .numbers .now in
-    let given = start .pre .0 in
-    let p = at .loop .p in
-    let taken = at .loop .taken in
-    let rest = at .loop .rest in
-    let kept = members-kept k p rest (omega arith) (c .before .if1 .taken) in
-    let some : taken + suc (length (membersFrom k (p + 1) (rest / 2))) ≡ count (start .args .set) = rw kept at (at .loop .inv .2) in
-    let enough : taken < length numbers = omega (arith, given .enough) in
-    let number : getD numbers taken 0 < n ^ k = given .named taken enough in
-    let bounds = even-bounds n k s (given .fits) in
-    let symbols : at .before .power .result ≤ 256 = omega (arith, at .before .power .ensures, bounds .symbols-high) in
-    let most : p * at .before .power .result ≤ 8 * 256 = mul-le-mul (let w : p ≤ 8 = omega (arith, bounds .messages-high) in w) symbols in
-    omega arith
+    let turn = symbol-turn (at .loop .p) (at .loop .taken) (at .loop .rest) (start .pre .0) (at .before .power .ensures) (omega arith) (c .before .if1 .taken) (at .loop .inv .2) in
+    let bounds = even-bounds (start .args .n) (start .args .k) (start .args .s) (start .pre .0 .fits) in
+    let most = mul-le-mul (let w : at .loop .p ≤ 8 = omega (arith, bounds .messages-high) in w) (let w : at .before .power .result ≤ 256 = omega (arith, at .before .power .ensures, bounds .symbols-high) in w) in
+    omega (arith, turn .number)
 
 mul-add-symbol-2 : tie.Need-mul-add-symbol-2 Inv-loop μ-loop
 mul-add-symbol-2 c =
     let at = c .before .before .before in
     let start = at .before .before .before .before .before in
-    let n = start .args .n in
-    let k = start .args .k in
-    let s = start .args .s in
-    let store = start .args .store .now in
-    let numbers = start .args .numbers .now in
-    let given = start .pre .0 in
-    let p = at .loop .p in
-    let taken = at .loop .taken in
-    let rest = at .loop .rest in
-    let kept = members-kept k p rest (omega arith) (c .before .if1 .taken) in
-    let some : taken + suc (length (membersFrom k (p + 1) (rest / 2))) ≡ count (start .args .set) = rw kept at (at .loop .inv .2) in
-    let enough : taken < length numbers = omega (arith, given .enough) in
-    let number : getD numbers taken 0 < n ^ k = given .named taken enough in
-    let room = symbol-room n k s store (given .whole) (at .before .power .result) p (getD numbers taken 0) (at .before .power .ensures) (omega arith) number in
-    omega arith
+    let turn = symbol-turn (at .loop .p) (at .loop .taken) (at .loop .rest) (start .pre .0) (at .before .power .ensures) (omega arith) (c .before .if1 .taken) (at .loop .inv .2) in
+    omega (arith, turn .room)
 
 add-symbol-requires : tie.Need-add-symbol-requires Inv-loop μ-loop
 add-symbol-requires c κs =
     let at = c .before .before .before .before in
     let start = at .before .before .before .before .before in
-    let n = start .args .n in
-    let k = start .args .k in
-    let s = start .args .s in
-    let store = start .args .store .now in
-    let numbers = start .args .numbers .now in
-    let given = start .pre .0 in
-    let p = at .loop .p in
-    let taken = at .loop .taken in
-    let rest = at .loop .rest in
-    let kept = members-kept k p rest (omega arith) (c .before .before .if1 .taken) in
-    let some : taken + suc (length (membersFrom k (p + 1) (rest / 2))) ≡ count (start .args .set) = rw kept at (at .loop .inv .2) in
-    let enough : taken < length numbers = omega (arith, given .enough) in
-    let number : getD numbers taken 0 < n ^ k = given .named taken enough in
-    let room = symbol-room n k s store (given .whole) (at .before .power .result) p (getD numbers taken 0) (at .before .power .ensures) (omega arith) number in
-    omega (arith, at .loop .inv .1)
+    let turn = symbol-turn (at .loop .p) (at .loop .taken) (at .loop .rest) (start .pre .0) (at .before .power .ensures) (omega arith) (c .before .before .if1 .taken) (at .loop .inv .2) in
+    omega (arith, turn .room, at .loop .inv .1)
 
 add-taken : tie.Need-add-taken Inv-loop μ-loop
 add-taken c =
     let at = c .before .before .before .before .before .before .before in
     let start = at .before .before .before .before .before in
-    let n = start .args .n in
-    let k = start .args .k in
-    let s = start .args .s in
-    let store = start .args .store .now in
-    let numbers = start .args .numbers .now in
-    let given = start .pre .0 in
-    let p = at .loop .p in
-    let taken = at .loop .taken in
-    let rest = at .loop .rest in
-    let kept = members-kept k p rest (omega arith) (c .before .before .before .before .before .if1 .taken) in
-    let some : taken + suc (length (membersFrom k (p + 1) (rest / 2))) ≡ count (start .args .set) = rw kept at (at .loop .inv .2) in
-    let enough : taken < length numbers = omega (arith, given .enough) in
-    let number : getD numbers taken 0 < n ^ k = given .named taken enough in
-    omega arith
+    let turn = symbol-turn (at .loop .p) (at .loop .taken) (at .loop .rest) (start .pre .0) (at .before .power .ensures) (omega arith) (c .before .before .before .before .before .if1 .taken) (at .loop .inv .2) in
+    omega (arith, turn .inside)
 
 add-p : tie.Need-add-p Inv-loop μ-loop
 add-p c = omega arith
@@ -183,24 +112,25 @@ loop-again c =
     let store = start .args .store .now in
     let numbers = start .args .numbers .now in
     let given = start .pre .0 in
+    let symbols = at .before .power in
     let p = at .loop .p in
     let taken = at .loop .taken in
     let rest = at .loop .rest in
+    let out = at .loop .out in
+    let bytes : Below 256 store = λ i l. at .before .before .before .before .shared-slice-known .given i .fits in
     ⊎-elim
     (λ t.
-    let kept = members-kept k p rest (omega arith) (t .0 .taken) in
-    let some : taken + suc (length (membersFrom k (p + 1) (rest / 2))) ≡ count (start .args .set) = rw kept at (at .loop .inv .2) in
-    let enough : taken < length numbers = omega (arith, given .enough) in
-    let number : getD numbers taken 0 < n ^ k = given .named taken enough in
-    let x = symbolAt xor n k s store p (getD numbers taken 0) in
-    let place = symbol-place n k s store (given .whole) (at .before .power .result) p (getD numbers taken 0) (length (at .loop .out)) (at .before .power .ensures) (at .loop .inv .1) in
-    let made : c .if1 .out ≡ added (eqb taken 0) (at .loop .out) x = t .6 ∙ t .3 .ensures ∙ ap (added (eqb taken 0) (at .loop .out)) place in
-    let is = symbol-is n k s store (given .whole) (λ i l. at .before .before .before .before .shared-slice-known .given i .fits) p (getD numbers taken 0) (omega arith) number in
+    let turn = symbol-turn p taken rest given (symbols .ensures) (omega arith) (t .0 .taken) (at .loop .inv .2) in
+    let number = getD numbers taken 0 in
+    let x = symbolAt xor n k s store p number in
+    let place = symbol-place n k s store (given .whole) (symbols .result) p number (length out) (symbols .ensures) (at .loop .inv .1) in
+    let made : c .if1 .out ≡ added (eqb taken 0) out x = t .6 ∙ t .3 .ensures ∙ ap (added (eqb taken 0) out) place in
     rw (made, t .7) (
       omega arith,
-      added-length (eqb taken 0) s (at .loop .out) x (at .loop .inv .1) (is .long),
-      omega arith,
-      sym (row-more n k s store (given .whole) (λ i l. at .before .before .before .before .shared-slice-known .given i .fits) p taken (membersFrom k (p + 1) (rest / 2)) numbers (at .loop .out) (omega arith) enough (given .named)) ∙ rw kept at (at .loop .inv .3),
+      added-length (eqb taken 0) s out x (at .loop .inv .1) (symbol-is n k s store (given .whole) bytes p number (omega arith) (turn .number) .long),
+      turn .left,
+      sym (row-more n k s store (given .whole) bytes p taken (membersFrom k (p + 1) (rest / 2)) numbers out (omega arith) (turn .inside) (given .named))
+          ∙ rw (members-kept k p rest (omega arith) (t .0 .taken)) at (at .loop .inv .3),
     ))
     (λ t.
     let skipped = members-skipped k p rest (omega arith) (t .0 .left) in

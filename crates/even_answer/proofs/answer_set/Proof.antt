@@ -1,23 +1,22 @@
 -- `even_answer::answer_set` meets its contract: after `row` turns the answers to the rows from there on are still to be written.
-use mathlib.Core.Path.{_≡_, refl, sym, ap, ap₂, _∙_}
-use mathlib.Core.List.{List, [], _++_}
-use Prim.Native.Nat.{ℕ, suc, _+_, _-_, _*_, _^_, _≤_, _<_}
-use native.Mathlib.Nat.{sub-zero, zero-mul, one-mul, suc-mul, add-sub-cancel-left}
+use mathlib.Core.Path.{_≡_, refl, ap, _∙_}
+use mathlib.Core.List.{List, _++_}
+use Prim.Native.Nat.{ℕ, _+_, _-_, _*_, _≤_}
+use native.Mathlib.Nat.{sub-zero, zero-mul, add-sub-cancel-left}
 use native.Mathlib.Omega.{arith}
-use native.Mathlib.Numerals.{add-one}
 use borrow.Author.Needs.{needs}
 use lib.Count.{ones as count, ones-le}
-use lib.ListN.{length, take, drop, replicate, length-replicate, length-drop}
+use lib.ListN.{length, take, drop, replicate, length-replicate}
 use Rattle.lists.specs.Below.{Below}
-use Rattle.lists.proofs.Below.{below-drop}
 use Rattle.lists.proofs.Parts.{cut-length, put-part}
 use Rattle.lists.proofs.Sums.{All-replicate}
-use Rattle.lists.proofs.Writing.{Pending, rest-part, pending-start, pending-part, pending-as, pending-done}
+use Rattle.lists.proofs.Writing.{Pending, rest-part, pending-start, pending-as, pending-done}
 use Rattle.symbol.specs.Xor.{xor}
 use Rattle.even_scheme.specs.Even.{rowAnswer, rowAnswers}
 use Rattle.even_layout.specs.Layout.{setIn}
 use Rattle.even_layout.proofs.Firsts.{setIn-length}
-use Rattle.even_answer.proofs.RowLaws.{row-is, answers-length, next-fits, set-more}
+use Rattle.even_answer.proofs.RowLaws.{answers-length}
+use Rattle.even_answer.proofs.Turns.{row-turn, row-given, row-long, row-done}
 use Rattle.even_answer.proofs.answer_set.Statement.{statement}
 use Rattle.even_answer.proofs.answer_set.Tie as tie
 
@@ -54,103 +53,43 @@ mul-at : tie.Need-mul-at Inv-loop μ-loop
 mul-at c =
     let at = c .before in
     let start = at .before .before .before .before in
-    let n = start .args .n in
-    let k = start .args .k in
-    let s = start .args .s in
-    let store = start .args .store .now in
-    let set = start .args .set in
-    let rows = start .args .rows in
-    let numbers = start .args .numbers .now in
-    let given = start .pre .0 in
-    let row = at .loop .row in
-    let read = next-fits row rows (count set) (length numbers) (omega arith) (given .enough) in
-    let written = next-fits row rows s (length (start .args .out .now)) (omega arith) (start .pre .1) in
-    omega (arith, at .loop .inv .1 .long)
+    let turn = row-turn (at .loop .row) (start .pre .0) (start .pre .1) (omega arith) in
+    omega (arith, turn .read, turn .written, at .loop .inv .1 .long)
 
 mul-from : tie.Need-mul-from Inv-loop μ-loop
 mul-from c =
     let at = c .before in
     let start = at .before .before .before .before in
-    let n = start .args .n in
-    let k = start .args .k in
-    let s = start .args .s in
-    let store = start .args .store .now in
-    let set = start .args .set in
-    let rows = start .args .rows in
-    let numbers = start .args .numbers .now in
-    let given = start .pre .0 in
-    let row = at .loop .row in
-    let read = next-fits row rows (count set) (length numbers) (omega arith) (given .enough) in
-    let written = next-fits row rows s (length (start .args .out .now)) (omega arith) (start .pre .1) in
-    omega (arith, at .loop .inv .1 .long)
+    let turn = row-turn (at .loop .row) (start .pre .0) (start .pre .1) (omega arith) in
+    omega (arith, turn .read, turn .written, at .loop .inv .1 .long)
 
 add-to : tie.Need-add-to Inv-loop μ-loop
 add-to c =
     let at = c .before in
     let start = at .before .before .before .before in
-    let n = start .args .n in
-    let k = start .args .k in
-    let s = start .args .s in
-    let store = start .args .store .now in
-    let set = start .args .set in
-    let rows = start .args .rows in
-    let numbers = start .args .numbers .now in
-    let given = start .pre .0 in
-    let row = at .loop .row in
-    let read = next-fits row rows (count set) (length numbers) (omega arith) (given .enough) in
-    let written = next-fits row rows s (length (start .args .out .now)) (omega arith) (start .pre .1) in
-    omega (arith, at .loop .inv .1 .long)
+    let turn = row-turn (at .loop .row) (start .pre .0) (start .pre .1) (omega arith) in
+    omega (arith, turn .read, turn .written, at .loop .inv .1 .long)
 
 sub-answer-row : tie.Need-sub-answer-row Inv-loop μ-loop
 sub-answer-row c =
     let at = c .before in
     let start = at .before .before .before .before in
-    let n = start .args .n in
-    let k = start .args .k in
-    let s = start .args .s in
-    let store = start .args .store .now in
-    let set = start .args .set in
-    let rows = start .args .rows in
-    let numbers = start .args .numbers .now in
-    let given = start .pre .0 in
-    let row = at .loop .row in
-    let read = next-fits row rows (count set) (length numbers) (omega arith) (given .enough) in
-    let written = next-fits row rows s (length (start .args .out .now)) (omega arith) (start .pre .1) in
-    omega (arith, at .loop .inv .1 .long)
+    let turn = row-turn (at .loop .row) (start .pre .0) (start .pre .1) (omega arith) in
+    omega (arith, turn .read, turn .written, at .loop .inv .1 .long)
 
 part-answer-row-start : tie.Need-part-answer-row-start Inv-loop μ-loop
 part-answer-row-start c =
     let at = c .before in
     let start = at .before .before .before .before in
-    let n = start .args .n in
-    let k = start .args .k in
-    let s = start .args .s in
-    let store = start .args .store .now in
-    let set = start .args .set in
-    let rows = start .args .rows in
-    let numbers = start .args .numbers .now in
-    let given = start .pre .0 in
-    let row = at .loop .row in
-    let read = next-fits row rows (count set) (length numbers) (omega arith) (given .enough) in
-    let written = next-fits row rows s (length (start .args .out .now)) (omega arith) (start .pre .1) in
-    omega (arith, at .loop .inv .1 .long)
+    let turn = row-turn (at .loop .row) (start .pre .0) (start .pre .1) (omega arith) in
+    omega (arith, turn .read, turn .written, at .loop .inv .1 .long)
 
 part-answer-row-end : tie.Need-part-answer-row-end Inv-loop μ-loop
 part-answer-row-end c =
     let at = c .before in
     let start = at .before .before .before .before in
-    let n = start .args .n in
-    let k = start .args .k in
-    let s = start .args .s in
-    let store = start .args .store .now in
-    let set = start .args .set in
-    let rows = start .args .rows in
-    let numbers = start .args .numbers .now in
-    let given = start .pre .0 in
-    let row = at .loop .row in
-    let read = next-fits row rows (count set) (length numbers) (omega arith) (given .enough) in
-    let written = next-fits row rows s (length (start .args .out .now)) (omega arith) (start .pre .1) in
-    omega (arith, at .loop .inv .1 .long)
+    let turn = row-turn (at .loop .row) (start .pre .0) (start .pre .1) (omega arith) in
+    omega (arith, turn .read, turn .written, at .loop .inv .1 .long)
 
 sub-answer-row-2 : tie.Need-sub-answer-row-2 Inv-loop μ-loop
 sub-answer-row-2 c = omega arith
@@ -159,61 +98,24 @@ part-answer-row-start-2 : tie.Need-part-answer-row-start-2 Inv-loop μ-loop
 part-answer-row-start-2 c =
     let at = c .before .before in
     let start = at .before .before .before .before in
-    let n = start .args .n in
-    let k = start .args .k in
-    let s = start .args .s in
-    let store = start .args .store .now in
-    let set = start .args .set in
-    let rows = start .args .rows in
-    let numbers = start .args .numbers .now in
-    let given = start .pre .0 in
-    let row = at .loop .row in
-    let read = next-fits row rows (count set) (length numbers) (omega arith) (given .enough) in
-    let written = next-fits row rows s (length (start .args .out .now)) (omega arith) (start .pre .1) in
-    omega (arith, at .loop .inv .1 .long)
+    let turn = row-turn (at .loop .row) (start .pre .0) (start .pre .1) (omega arith) in
+    omega (arith, turn .read, turn .written, at .loop .inv .1 .long)
 
 part-answer-row-end-2 : tie.Need-part-answer-row-end-2 Inv-loop μ-loop
 part-answer-row-end-2 c =
     let at = c .before .before in
     let start = at .before .before .before .before in
-    let n = start .args .n in
-    let k = start .args .k in
-    let s = start .args .s in
-    let store = start .args .store .now in
-    let set = start .args .set in
-    let rows = start .args .rows in
-    let numbers = start .args .numbers .now in
-    let given = start .pre .0 in
-    let row = at .loop .row in
-    let read = next-fits row rows (count set) (length numbers) (omega arith) (given .enough) in
-    let written = next-fits row rows s (length (start .args .out .now)) (omega arith) (start .pre .1) in
-    omega (arith, at .loop .inv .1 .long)
+    let turn = row-turn (at .loop .row) (start .pre .0) (start .pre .1) (omega arith) in
+    omega (arith, turn .read, turn .written, at .loop .inv .1 .long)
 
 answer-row-requires : tie.Need-answer-row-requires Inv-loop μ-loop
 answer-row-requires c κs =
     let at = c .before .before .before in
     let start = at .before .before .before .before in
-    let n = start .args .n in
-    let k = start .args .k in
-    let s = start .args .s in
-    let store = start .args .store .now in
-    let set = start .args .set in
-    let rows = start .args .rows in
-    let numbers = start .args .numbers .now in
-    let given = start .pre .0 in
-    let row = at .loop .row in
-    let read = next-fits row rows (count set) (length numbers) (omega arith) (given .enough) in
-    let written = next-fits row rows s (length (start .args .out .now)) (omega arith) (start .pre .1) in
-    let from = row * s in (
-      rw (rest-part (row * count set) numbers) (record {
-        fits = given .fits;
-        whole = given .whole;
-        named = below-drop (n ^ k) (row * count set) numbers (given .named);
-        some = given .some;
-        inside = given .inside;
-        enough = omega (arith, one-mul (count set), length-drop (row * count set) numbers);
-      }),
-      rw (add-sub-cancel-left from s) (cut-length from s (at .loop .out) (omega (arith, at .loop .inv .1 .long))),
+    let turn = row-turn (at .loop .row) (start .pre .0) (start .pre .1) (omega arith) in
+    let from = at .loop .row * start .args .s in (
+      rw (rest-part (at .loop .row * count (start .args .set)) (start .args .numbers .now)) (row-given (start .pre .0) turn),
+      rw (add-sub-cancel-left from (start .args .s)) (cut-length from (start .args .s) (at .loop .out) (omega (arith, turn .written, at .loop .inv .1 .long))),
     )
 
 add-row : tie.Need-add-row Inv-loop μ-loop
@@ -226,32 +128,19 @@ loop-again : tie.Need-loop-again Inv-loop μ-loop
 loop-again c =
     let at = c .before .before .before .before .before .before in
     let start = at .before .before .before .before in
-    let n = start .args .n in
-    let k = start .args .k in
     let s = start .args .s in
-    let store = start .args .store .now in
-    let set = start .args .set in
-    let rows = start .args .rows in
+    let from = at .loop .row * s in
+    let out = at .loop .out in
     let numbers = start .args .numbers .now in
-    let given = start .pre .0 in
-    let row = at .loop .row in
-    let read = next-fits row rows (count set) (length numbers) (omega arith) (given .enough) in
-    let written = next-fits row rows s (length (start .args .out .now)) (omega arith) (start .pre .1) in
-    let bytes : Below 256 store = λ i l. at .before .before .before .shared-slice-known .given i .fits in
-    let A = setIn k set in
-    let from = row * s in
-    let rest = drop (row * count set) numbers in
-    let front = rowAnswer xor n k s store A rest in
-    let left = rowAnswers xor n k s store (replicate (rows - (row + 1)) A) (drop ((row + 1) * count set) numbers) in
-    let p = rw (set-more n k s store A numbers rows row (count set) (omega arith) (given .inside)) at (at .loop .inv .1) in
-    let long : length front ≡ s =
-    row-is n k s store (given .whole) bytes A rest (setIn-length k set) (below-drop (n ^ k) (row * count set) numbers (given .named)) .long in
-    let made = c .before .before .answer-row .ensures ∙ ap (rowAnswer xor n k s store A) (rest-part (row * count set) numbers) in
-    let end : (row + 1) * s ≡ row * s + length front = ap (λ (m : ℕ). m * s) (add-one row) ∙ suc-mul row s ∙ ap (λ (m : ℕ). row * s + m) (sym long) in (
+    let read = at .loop .row * count (start .args .set) in
+    let answered = rowAnswer xor (start .args .n) (start .args .k) s (start .args .store .now) (setIn (start .args .k) (start .args .set)) in
+    let bytes : Below 256 (start .args .store .now) = λ i l. at .before .before .before .shared-slice-known .given i .fits in
+    let made = c .before .before .answer-row .ensures ∙ ap answered (rest-part read numbers) in (
       omega arith,
-      pending-as end refl
-          (ap (λ (l : List ℕ). take from (at .loop .out) ++ (l ++ drop (from + s - from) (drop from (at .loop .out)))) made ∙ put-part from s front (at .loop .out) long)
-          (pending-part front left p),
+      pending-as refl refl
+          (ap (λ (l : List ℕ). take from out ++ (l ++ drop (from + s - from) (drop from out))) made
+          ∙ put-part from s (answered (drop read numbers)) out (row-long (start .pre .0) bytes (at .loop .row)))
+          (row-done (start .pre .0) bytes (at .loop .row) (omega arith) (at .loop .inv .1)),
     )
 
 same-length : tie.Need-same-length Inv-loop μ-loop

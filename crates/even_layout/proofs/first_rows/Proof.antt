@@ -1,10 +1,10 @@
 -- `even_layout::first_rows` meets its contract: after i turns the first rows of the sets from i on are still to be written.
-use mathlib.Core.Path.{_≡_, refl, sym, ap, _∙_}
-use mathlib.Core.List.{List, []}
-use Prim.Native.Nat.{ℕ, suc, _+_, _-_, _*_, _≤_, _<_}
+use mathlib.Core.Path.{_≡_, refl, sym, _∙_}
+use mathlib.Core.List.{[]}
+use Prim.Native.Nat.{_-_, _*_, _≤_, _<_}
 use native.Mathlib.Omega.{arith}
 use lib.ListN.{length, getD, drop, replicate, length-set, drop-of-length-le}
-use Rattle.even_places.specs.Sets.{byteOf, allSets}
+use Rattle.even_places.specs.Sets.{allSets}
 use Rattle.even_layout.specs.Layout.{rowsOf}
 use Rattle.even_layout.proofs.Blocks.{subsets-few, all-length}
 use Rattle.even_layout.proofs.Tables.{byte-at}

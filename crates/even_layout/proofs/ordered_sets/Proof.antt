@@ -1,13 +1,12 @@
 -- `even_layout::ordered_sets` meets its contract: after b turns the sets of the blocks from b on are still to be written.
-use mathlib.Core.Path.{_≡_, refl, sym, ap, _∙_}
-use mathlib.Core.List.{List, [], _++_, map}
-use Prim.Native.Nat.{ℕ, suc, _+_, _-_, _^_, _≤_}
+use mathlib.Core.Path.{refl, sym, ap, _∙_}
+use mathlib.Core.List.{_++_, map}
+use Prim.Native.Nat.{ℕ, _+_, _-_, _≤_}
 use native.Mathlib.Omega.{arith}
-use lib.ListN.{length, take, replicate, length-map, length-append, length-replicate}
-use Rattle.lists.specs.Padded.{padded}
+use lib.ListN.{length, replicate, length-map, length-append}
 use Rattle.lists.proofs.Writing.{Pending, pending-start, pending-part, pending-as, pending-done, put-padded}
 use Rattle.even_places.specs.Sets.{sets, byteOf, allSets}
-use Rattle.even_layout.specs.Layout.{subsets, ofBlock}
+use Rattle.even_layout.specs.Layout.{subsets}
 use Rattle.even_layout.proofs.Blocks.{subsets-few, table-length, table-front, front-length, block-front, all-length, blocksFrom, blocks-all, blocks-none, blocks-more}
 use Rattle.even_layout.proofs.ordered_sets.Statement.{statement}
 use Rattle.even_layout.proofs.ordered_sets.Tie as tie

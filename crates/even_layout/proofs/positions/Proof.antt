@@ -1,11 +1,11 @@
 -- `even_layout::positions` meets its contract: after i turns the positions of the sets from i on are still to be written.
-use mathlib.Core.Path.{_≡_, refl, sym, ap, _∙_}
-use mathlib.Core.List.{List, [], _++_, map}
-use Prim.Native.Nat.{ℕ, suc, _+_, _-_, _≤_, _<_}
+use mathlib.Core.Path.{refl, sym, ap, _∙_}
+use mathlib.Core.List.{[]}
+use Prim.Native.Nat.{ℕ, _+_, _-_, _≤_, _<_}
 use native.Mathlib.Omega.{arith}
-use lib.ListN.{length, getD, replicate, length-map, length-append}
+use lib.ListN.{length, getD, replicate, length-append}
 use Rattle.lists.proofs.Writing.{Pending, pending-start, pending-part, pending-as, pending-done, put-padded}
-use Rattle.even_places.specs.Sets.{byteOf, allSets}
+use Rattle.even_places.specs.Sets.{allSets}
 use Rattle.even_places.specs.Rule.{positions}
 use Rattle.even_layout.proofs.Blocks.{subsets-few, all-length}
 use Rattle.even_layout.proofs.Tables.{byte-at, set-positions, setPositions, positionsFrom, positions-all, positions-none, positions-more, positions-room}

@@ -1,9 +1,9 @@
 -- `even_layout::widened` meets its contract: the second half is written where the first half ends.
-use mathlib.Core.Path.{_≡_, sym, ap, _∙_}
-use mathlib.Core.List.{List, _++_}
-use Prim.Native.Nat.{ℕ, _+_, _*_, _≤_}
+use mathlib.Core.Path.{_≡_, ap, _∙_}
+use mathlib.Core.List.{List}
+use Prim.Native.Nat.{ℕ, _+_, _*_}
 use native.Mathlib.Omega.{arith}
-use lib.ListN.{length, replicate, length-map, length-replicate}
+use lib.ListN.{length, length-map}
 use Rattle.lists.specs.Parts.{put}
 use Rattle.lists.proofs.Writing.{put-two}
 use Rattle.even_layout.specs.Layout.{doubled}

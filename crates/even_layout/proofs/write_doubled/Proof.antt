@@ -1,10 +1,9 @@
 -- `even_layout::write_doubled` meets its contract: after i turns the bytes from i on are still to be written.
-use mathlib.Core.Path.{_≡_, refl, sym, ap, _∙_}
-use Prim.Native.Nat.{ℕ, suc, _+_, _-_, _*_, _≤_, _<_}
+use mathlib.Core.Path.{refl, sym}
+use Prim.Native.Nat.{_+_, _-_, _*_, _≤_}
 use native.Mathlib.Nat.{add-zero, add-assoc}
 use native.Mathlib.Omega.{arith}
-use borrow.Author.Needs.{needs}
-use lib.ListN.{length, drop, getD, length-map, drop-of-length-le}
+use lib.ListN.{length, drop, length-map, drop-of-length-le}
 use Rattle.lists.proofs.Writing.{Pending, pending-start, pending-byte, pending-as, pending-done}
 use Rattle.even_layout.specs.Layout.{doubled}
 use Rattle.even_layout.proofs.Bytes.{doubled-more}

@@ -1,10 +1,9 @@
 -- `even_layout::write_members` meets its contract: after p turns the set's messages from p on are still to be written.
-use mathlib.Core.Path.{_≡_, refl, sym, ap, _∙_}
+use mathlib.Core.Path.{_≡_, refl}
 use mathlib.Core.Logic.{⊎-elim}
-use Prim.Native.Nat.{ℕ, suc, _+_, _-_, _≤_, _<_}
+use Prim.Native.Nat.{_-_, _≤_}
 use native.Mathlib.Nat.{sub-zero}
 use native.Mathlib.Omega.{arith}
-use lib.ListN.{length}
 use Rattle.lists.proofs.Writing.{Pending, pending-start, pending-byte, pending-as, pending-ends, pending-done}
 use Rattle.even_places.specs.Sets.{members}
 use Rattle.even_layout.specs.Layout.{setIn}

@@ -1,10 +1,10 @@
 -- `even_layout::write_rows` meets its contract: after i turns the rows from i on are still to be written.
-use mathlib.Core.Path.{_≡_, refl, sym, ap, _∙_}
-use mathlib.Core.List.{List, _++_, flatMap}
-use Prim.Native.Nat.{ℕ, suc, _+_, _-_, _≤_}
+use mathlib.Core.Path.{_≡_, refl}
+use mathlib.Core.List.{List, flatMap}
+use Prim.Native.Nat.{ℕ, _+_, _-_, _≤_}
 use native.Mathlib.Nat.{sub-zero}
 use native.Mathlib.Omega.{arith}
-use lib.ListN.{length, replicate, length-append}
+use lib.ListN.{replicate, length-append}
 use Rattle.lists.proofs.Writing.{Pending, pending-start, pending-part, pending-as, pending-ends, pending-done}
 use Rattle.even_places.specs.Sets.{members}
 use Rattle.even_layout.specs.Layout.{setIn}
