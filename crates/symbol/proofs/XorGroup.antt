@@ -9,6 +9,8 @@ use Rattle.symbol.proofs.XorBytes.{xor-length, xor-below, xor-zeros, xo
 
 pub xor-group : (size : ℕ) → AbelianGroup xor size
 xor-group size = record {
+  plus-length = λ a b l m. xor-length a b ∙ l;
+  minus-length = λ a b l m. xor-length a b ∙ l;
   plus-symbol = λ {a} {b} p q. record { long = xor-length a b ∙ p .long; bytes = xor-below a b (p .bytes) (q .bytes) };
   plus-assoc = λ {a} {b} {c} p q r. xor-bytes-assoc a b c (q .long ∙ sym (r .long));
   plus-comm = λ {a} {b} p q. xor-bytes-comm a b (p .long ∙ sym (q .long));
