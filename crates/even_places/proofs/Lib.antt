@@ -7,7 +7,6 @@ pub mod Joined
 pub mod Order
 pub mod Positions
 pub mod Bytes
-pub mod Found
 pub mod Closed
 pub mod SetRuns
 pub mod RowNumbers
