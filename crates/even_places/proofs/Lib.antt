@@ -11,3 +11,4 @@ pub mod Hide
 pub mod Bytes
 pub mod Found
 pub mod Closed
+pub mod Ranked

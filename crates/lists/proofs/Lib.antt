@@ -1,3 +1,4 @@
 pub mod Below
 pub mod Parts
 pub mod Sums
+pub mod Reading
