@@ -5,45 +5,20 @@ use native.Mathlib.Nat.{zero-add, not-suc-le-zero}
 use native.Mathlib.Omega.{arith}
 use mathlib.Core.Path.{_≡_, refl, sym, ap, ap₂, _∙_}
 use mathlib.Core.Logic.{_≢_}
-use mathlib.Core.List.{List, [], _∷_, _++_, map, map-map, append-nil, append-assoc, flatMap}
-use mathlib.Core.Bool.{Bool, true, false, not, Bool·beq, _&&_}
-use lib.ListN.{length, set}
+use mathlib.Core.List.{List, [], _∷_, _++_, map, map-map, append-nil, flatMap}
+use mathlib.Core.Bool.{Bool, true, false, not}
+use lib.ListN.{set}
 use lib.Dec.{eqb}
 use Rattle.lists.specs.Sums.{bit, keep, keepIf, sum, All, allNil, allCons}
 use Rattle.lists.specs.Ranges.{range}
 use Rattle.lists.proofs.Sums.{sum-append, All-imp, All-every}
+use Rattle.lists.proofs.Keep.{keep-all, keep-map, flatMap-append, flatMap-nothing}
 use Rattle.even_places.specs.Sets.{has, ones, sets, allSets, alike}
-use Rattle.even_places.proofs.SetLaws.{keep-append, keep-nothing, keep-flatMap, map-append, alike-eq}
+use Rattle.even_places.proofs.SetLaws.{keep-append, keep-nothing, keep-flatMap, map-append}
 use Rattle.even_places.proofs.Counts.{sets-fit, sets-zero, has-none}
 use Rattle.even_places.proofs.Order.{range-append}
 use Rattle.even_places.proofs.Flat.{eqb-self, eqb-not}
 use Rattle.even_places.proofs.Closed.{before, beforeIf}
-
-module _ {A : Type 0} where
-  pub keep-all : (t : A → Bool) {xs : List A} → All (λ x. t x ≡ true) xs → keep t xs ≡ xs
-  unfolding keep keepIf
-  keep-all t allNil = refl
-  keep-all t (allCons {x = x} {xs = xs} e a) = rw (e, keep-all t a)
-
-module _ {A B : Type 0} where
-  pub keep-map : (t : B → Bool) (f : A → B) (xs : List A) → keep t (map f xs) ≡ map f (keep (λ x. t (f x)) xs)
-  unfolding keep keepIf
-  keep-map t f [] = refl
-  keep-map t f (x ∷ xs) = go (t (f x)) (keep-map t f xs)
-    where
-      go : (b : Bool) → keep t (map f xs) ≡ map f (keep (λ y. t (f y)) xs) → keepIf b (f x) (keep t (map f xs)) ≡ map f (keepIf b x (keep (λ y. t (f y)) xs))
-      go true e = ap (λ l. f x ∷ l) e
-      go false e = e
-
-  flatMap-append : (g : A → List B) (xs ys : List A) → flatMap g (xs ++ ys) ≡ flatMap g xs ++ flatMap g ys
-  unfolding flatMap
-  flatMap-append g [] ys = refl
-  flatMap-append g (x ∷ xs) ys = ap (λ l. g x ++ l) (flatMap-append g xs ys) ∙ sym (append-assoc (g x) (flatMap g xs) (flatMap g ys))
-
-  flatMap-nothing : (g : A → List B) {xs : List A} → All (λ x. g x ≡ []) xs → flatMap g xs ≡ []
-  unfolding flatMap
-  flatMap-nothing g allNil = refl
-  flatMap-nothing g (allCons {x = x} {xs = xs} e a) = rw (e, flatMap-nothing g a)
 
 -- ---- The sets with k, without it
 
@@ -149,7 +124,7 @@ alike-self [] = refl
 alike-self (true ∷ A) = alike-self A
 alike-self (false ∷ A) = alike-self A
 
-pub before-seam : (A : List Bool) (X Y : List (List Bool)) → sum (λ B. bit (alike A B)) (X ++ A ∷ Y) ≡ 1 → before A (X ++ A ∷ Y) ≡ X
+pub before-seam : (A : List Bool) (X Y : List (List Bool)) → sum (λ B. bit (alike A B)) (X ++ A ∷ Y) ≤ 1 → before A (X ++ A ∷ Y) ≡ X
 unfolding before beforeIf sum bit
 before-seam A [] Y e = rw (alike-self A)
 before-seam A (B ∷ X) Y e = go (alike A B) e (before-seam A X Y)
@@ -157,8 +132,8 @@ before-seam A (B ∷ X) Y e = go (alike A B) e (before-seam A X Y)
     again : 0 < sum (λ C. bit (alike A C)) (X ++ A ∷ Y)
     again = omega (arith, sum-append (λ C. bit (alike A C)) X (A ∷ Y), ap bit (alike-self A))
 
-    go : (t : Bool) → bit t + sum (λ C. bit (alike A C)) (X ++ A ∷ Y) ≡ 1
-        → (sum (λ C. bit (alike A C)) (X ++ A ∷ Y) ≡ 1 → before A (X ++ A ∷ Y) ≡ X)
+    go : (t : Bool) → bit t + sum (λ C. bit (alike A C)) (X ++ A ∷ Y) ≤ 1
+        → (sum (λ C. bit (alike A C)) (X ++ A ∷ Y) ≤ 1 → before A (X ++ A ∷ Y) ≡ X)
         → beforeIf t B (before A (X ++ A ∷ Y)) ≡ B ∷ X
     go true f ih = absurd (omega (arith, again))
     go false f ih = ap (λ l. B ∷ l) (ih (omega arith))

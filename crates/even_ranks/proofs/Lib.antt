@@ -1,1 +1,3 @@
-pub mod Try
+pub mod Counters
+pub mod Ranking
+pub mod Cells

@@ -2,3 +2,4 @@ pub mod Below
 pub mod Parts
 pub mod Sums
 pub mod Reading
+pub mod Keep
