@@ -1,3 +1,4 @@
 pub mod Counters
 pub mod Ranking
 pub mod Cells
+pub mod Walk
