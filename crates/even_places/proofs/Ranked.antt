@@ -12,7 +12,8 @@ use lib.Dec.{eqb}
 use Rattle.lists.specs.Sums.{bit, keep, keepIf, sum, All, allNil, allCons}
 use Rattle.lists.specs.Ranges.{range}
 use Rattle.lists.proofs.Sums.{sum-append, All-imp, All-every}
-use Rattle.lists.proofs.Keep.{keep-all, keep-map, flatMap-append, flatMap-nothing}
+use Rattle.lists.proofs.Keep.{keep-all, flatMap-nothing}
+use Rattle.lists.proofs.Flat.{keep-map, flatMap-append}
 use Rattle.even_places.specs.Sets.{has, ones, sets, allSets, alike}
 use Rattle.even_places.proofs.SetLaws.{keep-append, keep-nothing, keep-flatMap, map-append}
 use Rattle.even_places.proofs.Counts.{sets-fit, sets-zero, has-none}

@@ -23,8 +23,10 @@ use Rattle.even_places.specs.Rule.{used, sideSets, joins, ofSet, block, others}
 use Rattle.even_places.proofs.SetLaws.{ones-drop, has-drop}
 use Rattle.even_places.proofs.Positions.{joined-at}
 use Rattle.even_places.proofs.Closed.{before, side-at, wanted-at, wanted-first}
-use Rattle.even_ranks.specs.Ranks.{counter, noCounts, countersOf, countedAll, takers, taken, placeIn, placeOf, isJoined, plain, joined, originOf, totalsOf}
-use Rattle.even_ranks.proofs.Counters.{Known, all-known, ofKind, counts-tell}
+use Rattle.even_layout.proofs.Tables.{IsSet, all-sets}
+use Rattle.even_ranks.specs.Counts.{counter, noCounts, countersOf, countedAll, totalsOf, takers, taken}
+use Rattle.even_ranks.specs.Walk.{placeIn, placeOf, isJoined, plain, joined, originOf}
+use Rattle.even_ranks.proofs.Counters.{ones-most, ofKind, counts-tell}
 use Rattle.even_ranks.proofs.Ranking.{with-wanted, with-reduced, rank-side, rank-wanted, rank-below, side-total, sources-total, wanted-total}
 
 -- a set of one message has no other
@@ -40,15 +42,15 @@ unfolding has
 lone A k p many e d = sym (getD-set-other A k p false false d) ∙ empty (set A k false) p (omega (arith, ones-drop A k e))
 
 module _ (N K k : ℕ) (wide : 1 < N) (wanted : k < K) (few : K ≤ 8) where
-  takers-side : (b p : ℕ) → b < K → p < K → p ≢ k → takers N k (totalsOf K k) b p ≡ with p (keep (ofKind k false b) (allSets K))
+  takers-side : (b p : ℕ) → b < K → p < K → p ≢ k → takers k (totalsOf K k) b p ≡ with p (keep (ofKind k false b) (allSets K))
   unfolding takers totalsOf
   takers-side b p hb hp d =
-      ap (λ t. getD (countedAll k (allSets K) noCounts) (counter t b p) 0) (ne-eqb p k d) ∙ counts-tell K k few (all-known K) false b p (omega arith) hp
+      ap (λ t. getD (countedAll k (allSets K) noCounts) (counter t b p) 0) (ne-eqb p k d) ∙ counts-tell K k few (all-sets K) false b p (omega arith) hp
 
-  takers-wanted : (b : ℕ) → b < K → takers N k (totalsOf K k) b k ≡ with k (keep (ofKind k true b) (allSets K))
+  takers-wanted : (b : ℕ) → b < K → takers k (totalsOf K k) b k ≡ with k (keep (ofKind k true b) (allSets K))
   unfolding takers totalsOf
   takers-wanted b hb =
-      ap (λ t. getD (countedAll k (allSets K) noCounts) (counter t b k) 0) (eq-eqb k k refl) ∙ counts-tell K k few (all-known K) true b k (omega arith) wanted
+      ap (λ t. getD (countedAll k (allSets K) noCounts) (counter t b k) 0) (eq-eqb k k refl) ∙ counts-tell K k few (all-sets K) true b k (omega arith) wanted
 
   -- the places of other messages, taken by side rows
   place-side : (b p m rank r : ℕ) → b < K → p < K → p ≢ k
@@ -61,18 +63,18 @@ module _ (N K k : ℕ) (wide : 1 < N) (wanted : k < K) (few : K ≤ 8) where
       q = (N - 1) ^ b
 
       T : ℕ
-      T = takers N k (totalsOf K k) b p
+      T = takers k (totalsOf K k) b p
 
-      share : (j : ℕ) → j < K → (N - 1) ^ j * takers N k (totalsOf K k) j p ≡ with p (sideSets N K k j)
+      share : (j : ℕ) → j < K → (N - 1) ^ j * takers k (totalsOf K k) j p ≡ with p (sideSets N K k j)
       share j h = ap (λ s. (N - 1) ^ j * s) (takers-side j p h hp d) ∙ sym (side-total K k wanted N wide p j h)
 
-      before-b : sum (λ j. (N - 1) ^ j * takers N k (totalsOf K k) j p) (range 0 b) ≡ sum (λ j. with p (sideSets N K k j)) (range 0 b)
-      before-b = sum-range (λ j. (N - 1) ^ j * takers N k (totalsOf K k) j p) (λ j. with p (sideSets N K k j)) b (λ j l. share j (omega arith))
+      before-b : sum (λ j. (N - 1) ^ j * takers k (totalsOf K k) j p) (range 0 b) ≡ sum (λ j. with p (sideSets N K k j)) (range 0 b)
+      before-b = sum-range (λ j. (N - 1) ^ j * takers k (totalsOf K k) j p) (λ j. with p (sideSets N K k j)) b (λ j l. share j (omega arith))
 
   taken-wanted : (b : ℕ) → b < K → taken N k (totalsOf K k) b k ≡ sum (joins N K k) (range 0 b)
   unfolding taken
   taken-wanted b h =
-      sum-range (λ j. (N - 1) ^ j * takers N k (totalsOf K k) j k) (joins N K k) b
+      sum-range (λ j. (N - 1) ^ j * takers k (totalsOf K k) j k) (joins N K k) b
       (λ j l. ap (λ s. (N - 1) ^ j * s) (takers-wanted j (omega arith)) ∙ sym (wanted-total K k wanted N wide j (omega arith)))
 
   -- the places of the wanted message, in the first block and in the others
@@ -82,7 +84,7 @@ module _ (N K k : ℕ) (wide : 1 < N) (wanted : k < K) (few : K ≤ 8) where
       omega (arith, mul-zero N, ap (λ s. s * (n * T + rank)) (pow-zero (N - 1)), one-mul (n * T + rank), ap (λ s. n * s) one, mul-one n)
     where
       T : ℕ
-      T = takers N k (totalsOf K k) 0 k
+      T = takers k (totalsOf K k) 0 k
 
       one : T ≡ 1
       one = takers-wanted 0 (omega arith) ∙ sym (one-mul (with k (keep (ofKind k true 0) (allSets K)))) ∙ sym (wanted-total K k wanted N wide 0 (omega arith) ∙ ap (λ s. s * with k (keep (ofKind k true 0) (allSets K))) (pow-zero (N - 1)))
@@ -97,7 +99,7 @@ module _ (N K k : ℕ) (wide : 1 < N) (wanted : k < K) (few : K ≤ 8) where
       q = (N - 1) ^ b
 
       T : ℕ
-      T = takers N k (totalsOf K k) (suc b) k
+      T = takers k (totalsOf K k) (suc b) k
 
       size : length (sideSets N K k b) ≡ q * T
       size = sources-total K k wanted N wide b h ∙ ap (λ s. q * s) (sym (takers-wanted (suc b) h))
@@ -107,8 +109,8 @@ module _ (N K k : ℕ) (wide : 1 < N) (wanted : k < K) (few : K ≤ 8) where
 
   -- A stands among all sets, after those of D; `ranks` are its messages' counters then
   module _ (D L : List (List Bool)) (A : List Bool) (split : D ++ A ∷ L ≡ allSets K) where
-    known : Known K A
-    known = All-head (All-back D (A ∷ L) (subst (All (Known K)) (sym split) (all-known K)))
+    known : IsSet K A
+    known = All-head (All-back D (A ∷ L) (subst (All (IsSet K)) (sym split) (all-sets K)))
 
     ranks : List ℕ
     ranks = cut (countersOf k A) (length A) (countedAll k D noCounts)
@@ -118,7 +120,7 @@ module _ (N K k : ℕ) (wide : 1 < N) (wanted : k < K) (few : K ≤ 8) where
     ranks-tell b p many hp =
         cut-at (countersOf k A) (length A) p (countedAll k D noCounts) (omega (arith, known .long))
         ∙ ap (λ i. getD (countedAll k D noCounts) i 0) (let e : bit (has k A) * 64 + (ones A - 1) * 8 + 0 + p ≡ bit (has k A) * 64 + b * 8 + p = omega arith in e)
-        ∙ counts-tell K k few (All-front D (A ∷ L) (subst (All (Known K)) (sym split) (all-known K))) (has k A) b p (omega (arith, known .most)) hp
+        ∙ counts-tell K k few (All-front D (A ∷ L) (subst (All (IsSet K)) (sym split) (all-sets K))) (has k A) b p (omega (arith, ones-most A, known .long)) hp
 
     module _ (n : ℕ) (server : n < N) where
       At : ℕ → ℕ → ℕ → Option ℕ
@@ -126,7 +128,7 @@ module _ (N K k : ℕ) (wide : 1 < N) (wanted : k < K) (few : K ≤ 8) where
 
       -- the row's set lacks k
       side-cell : (b i p : ℕ) → ones A ≡ suc b → has k A ≡ false → i < (N - 1) ^ b → p < K → has p A ≡ true → p ≢ k
-          → At b i p ≡ some (placeOf N k (totalsOf K k) ranks (plain N k n A i) p)
+          → At b i p ≡ some (placeOf N k (totalsOf K k) ranks (plain N n (ones A) i) p)
       unfolding At placeOf plain
       side-cell b i p many lack hi hp g d =
           side-at N K k wide wanted b n i p A (known .long) many lack hp g hi
@@ -135,13 +137,13 @@ module _ (N K k : ℕ) (wide : 1 < N) (wanted : k < K) (few : K ≤ 8) where
           (ap (λ s. used N (λ j. with p (sideSets N K k j)) b n + (N - 1) ^ b * s + i) rank))
         where
           low : b < K
-          low = omega (arith, known .most)
+          low = omega (arith, ones-most A, known .long)
 
           rank : with p (before A (keep (λ B. not (has k B)) (sets K (suc b)))) ≡ getD ranks p 0
           rank = ap (with p) (rank-side K k wanted D L A split b low (known .long) many lack) ∙ sym (ranks-tell b p many hp ∙ ap (λ t. with p (keep (ofKind k t b) D)) lack)
 
       -- the row is of k alone
-      first-cell : (i : ℕ) → ones A ≡ 1 → has k A ≡ true → i < (N - 1) ^ 0 → At 0 i k ≡ some (placeOf N k (totalsOf K k) ranks (plain N k n A i) k)
+      first-cell : (i : ℕ) → ones A ≡ 1 → has k A ≡ true → i < (N - 1) ^ 0 → At 0 i k ≡ some (placeOf N k (totalsOf K k) ranks (plain N n (ones A) i) k)
       unfolding At placeOf plain joins
       first-cell i many g hi =
           ap (λ j. At 0 j k) zeroth
@@ -176,7 +178,7 @@ module _ (N K k : ℕ) (wide : 1 < N) (wanted : k < K) (few : K ≤ 8) where
         whole = div-add-mod' i q
 
         low : suc b < K
-        low = omega (arith, known .most)
+        low = omega (arith, ones-most A, known .long)
 
         r-low : r < q
         unfolding r q
@@ -199,7 +201,7 @@ module _ (N K k : ℕ) (wide : 1 < N) (wanted : k < K) (few : K ≤ 8) where
         two-less : ones A - 2 ≡ b
         two-less = omega arith
 
-        wanted-cell : At (suc b) i k ≡ some (placeOf N k (totalsOf K k) ranks (joined N k n A i) k)
+        wanted-cell : At (suc b) i k ≡ some (placeOf N k (totalsOf K k) ranks (joined N n (ones A) i) k)
         unfolding At placeOf joined q j r
         wanted-cell =
             ap (λ s. At (suc b) s k) (sym whole)
@@ -214,7 +216,7 @@ module _ (N K k : ℕ) (wide : 1 < N) (wanted : k < K) (few : K ≤ 8) where
                 ∙ length-map (keep (ofKind k true (suc b)) D) (λ B. set B k false)
                 ∙ sym (joined-ranks k wanted ∙ with-wanted K k wanted (suc b) D)
 
-        other-cell : (p : ℕ) → p < K → has p A ≡ true → p ≢ k → At (suc b) i p ≡ some (placeOf N k (totalsOf K k) ranks (joined N k n A i) p)
+        other-cell : (p : ℕ) → p < K → has p A ≡ true → p ≢ k → At (suc b) i p ≡ some (placeOf N k (totalsOf K k) ranks (joined N n (ones A) i) p)
         unfolding At placeOf joined q j r has
         other-cell p hp g d =
             ap (λ s. At (suc b) s p) (sym whole)
@@ -241,7 +243,7 @@ module _ (N K k : ℕ) (wide : 1 < N) (wanted : k < K) (few : K ≤ 8) where
       cell-is b i p many hi hp g = go (has k A) refl (ℕ-discrete p k) b many hi
         where
           go : (t : Bool) → has k A ≡ t → Dec (p ≡ k) → (c : ℕ) → ones A ≡ suc c → i < (N - 1) ^ c
-              → At c i p ≡ some (placeOf N k (totalsOf K k) ranks (cond (t && ltb 1 (ones A)) (joined N k n A i) (plain N k n A i)) p)
+              → At c i p ≡ some (placeOf N k (totalsOf K k) ranks (cond (t && ltb 1 (ones A)) (joined N n (ones A) i) (plain N n (ones A) i)) p)
           go false e (yes f) c m h = absurd (false≢true (sym e ∙ ap (λ s. has s A) (sym f) ∙ g))
           go false e (no d) c m h = side-cell c i p m e h hp g d
           go true e (yes f) zero m h = rw (le-ltb 1 (ones A) (omega arith), f) (first-cell i m e h)

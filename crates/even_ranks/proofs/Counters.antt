@@ -11,35 +11,21 @@ use lib.Dec.{eqb}
 use lib.ListN.{length, getD, length-replicate, getD-replicate}
 use borrow.Author.Tests.{eqb-true, eqb-false}
 use Rattle.lists.specs.Parts.{cut, put}
-use Rattle.lists.specs.Below.{Below}
-use Rattle.lists.specs.Ranges.{range}
 use Rattle.lists.specs.Sums.{bit, keep, sum, All, allNil, allCons}
 use Rattle.lists.proofs.Parts.{cut-length, put-length}
 use Rattle.lists.proofs.Reading.{cut-at, put-inside, put-before, put-after}
-use Rattle.lists.proofs.Sums.{sum-keep, All-imp, All-flatMap, All-every}
-use Rattle.even_places.specs.Sets.{has, ones, with, sets, allSets}
+use Rattle.lists.proofs.Sums.{sum-keep}
+use Rattle.even_places.specs.Sets.{has, ones, with}
 use Rattle.even_places.specs.Rule.{after}
 use Rattle.even_places.proofs.Rows.{after-at, after-length}
-use Rattle.even_places.proofs.Counts.{sets-fit}
-use Rattle.even_ranks.specs.Ranks.{counter, noCounts, countersOf, counted, countedAll}
+use Rattle.even_layout.proofs.Tables.{IsSet}
+use Rattle.even_ranks.specs.Counts.{counter, noCounts, countersOf, counted, countedAll}
 
--- a set of K messages that has some
-pub record Known (K : ℕ) (A : List Bool) : Type 0 where
-  pub long : length A ≡ K
-  pub some : 0 < ones A
-  pub most : ones A ≤ K
-
-ones-most : (A : List Bool) → ones A ≤ length A
+pub ones-most : (A : List Bool) → ones A ≤ length A
 unfolding ones sum bit
 ones-most [] = omega arith
 ones-most (true ∷ A) = omega (arith, ones-most A)
 ones-most (false ∷ A) = omega (arith, ones-most A)
-
-pub all-known : (K : ℕ) → All (Known K) (allSets K)
-unfolding allSets
-all-known K =
-    All-flatMap (λ b. sets K (suc b))
-    (All-every (λ b. All-imp (λ A f. record { long = f .0; some = omega (arith, f .1); most = omega (arith, f .0, ones-most A) }) (sets-fit K (suc b))) (range 0 K))
 
 -- A is of block b, and has k or not as t says
 unfoldable pub ofKind : ℕ → Bool → ℕ → List Bool → Bool
@@ -47,15 +33,15 @@ ofKind k t b A = Bool·beq t (has k A) && eqb (suc b) (ones A)
 
 module _ (K k : ℕ) (few : K ≤ 8) where
   -- the counters of A's block and kind lie inside the table
-  room : (A : List Bool) (counts : List ℕ) → Known K A → length counts ≡ 128 → countersOf k A + length A ≤ length counts
+  room : (A : List Bool) (counts : List ℕ) → IsSet K A → length counts ≡ 128 → countersOf k A + length A ≤ length counts
   unfolding countersOf counter bit
   room A counts h e = go (has k A)
     where
       go : (t : Bool) → bit t * 64 + (ones A - 1) * 8 + 0 + length A ≤ length counts
-      go true = omega (arith, h .long, h .most)
-      go false = omega (arith, h .long, h .most)
+      go true = omega (arith, h .long, ones-most A)
+      go false = omega (arith, h .long, ones-most A)
 
-  module _ (A : List Bool) (counts : List ℕ) (known : Known K A) (wide : length counts ≡ 128) where
+  module _ (A : List Bool) (counts : List ℕ) (known : IsSet K A) (wide : length counts ≡ 128) where
     part : List ℕ
     part = cut (countersOf k A) (length A) counts
 
@@ -127,15 +113,15 @@ module _ (K k : ℕ) (few : K ≤ 8) where
         go true true e false f = apart true e (eqb-false (suc b) (ones A) f) (decLt (suc b) (ones A))
         go false false e true f = here false e (eqb-true (suc b) (ones A) f)
         go false false e false f = apart false e (eqb-false (suc b) (ones A) f) (decLt (suc b) (ones A))
-        go true false e u f = none true (high (counter true b p) (omega (arith, at-is false e, known .long, known .most)))
+        go true false e u f = none true (high (counter true b p) (omega (arith, at-is false e, known .long, ones-most A)))
         go false true e u f = none false (low (counter false b p) (omega (arith, at-is true e)))
 
-  pub countedAll-length : {D : List (List Bool)} (counts : List ℕ) → All (Known K) D → length counts ≡ 128 → length (countedAll k D counts) ≡ 128
+  pub countedAll-length : {D : List (List Bool)} (counts : List ℕ) → All (IsSet K) D → length counts ≡ 128 → length (countedAll k D counts) ≡ 128
   unfolding countedAll
   countedAll-length counts allNil wide = wide
   countedAll-length counts (allCons {x = A} h a) wide = countedAll-length (counted k A counts) a (counted-length A counts h wide)
 
-  countedAll-sum : {D : List (List Bool)} (counts : List ℕ) → All (Known K) D → length counts ≡ 128 → (t : Bool) (b p : ℕ) → b < 8 → p < K
+  countedAll-sum : {D : List (List Bool)} (counts : List ℕ) → All (IsSet K) D → length counts ≡ 128 → (t : Bool) (b p : ℕ) → b < 8 → p < K
       → getD (countedAll k D counts) (counter t b p) 0 ≡ sum (λ A. bit (ofKind k t b A) * bit (has p A)) D + getD counts (counter t b p) 0
   unfolding countedAll sum
   countedAll-sum counts allNil wide t b p hb hp = omega arith
@@ -143,7 +129,7 @@ module _ (K k : ℕ) (few : K ≤ 8) where
       omega (arith, countedAll-sum (counted k A counts) a (counted-length A counts h wide) t b p hb hp, counted-at A counts h wide t b p hb hp)
 
   -- after the sets D, the counter of p tells how many of its kind have p
-  pub counts-tell : {D : List (List Bool)} → All (Known K) D → (t : Bool) (b p : ℕ) → b < 8 → p < K
+  pub counts-tell : {D : List (List Bool)} → All (IsSet K) D → (t : Bool) (b p : ℕ) → b < 8 → p < K
       → getD (countedAll k D noCounts) (counter t b p) 0 ≡ with p (keep (ofKind k t b) D)
   unfolding with noCounts counter bit
   counts-tell {D} a t b p hb hp =

@@ -13,7 +13,8 @@ use Rattle.lists.specs.Parts.{cut}
 use Rattle.lists.specs.Ranges.{range}
 use Rattle.lists.specs.Sums.{bit, sum, All}
 use Rattle.lists.proofs.Sums.{All-imp}
-use Rattle.lists.proofs.Keep.{flatMap-flatMap, All-back, All-head}
+use Rattle.lists.proofs.Keep.{All-back, All-head}
+use Rattle.lists.proofs.Flat.{flatMap-flatMap}
 use Rattle.even_places.specs.Sets.{has, ones, members, sets, allSets}
 use Rattle.even_places.specs.Rule.{Row, isSome, same, ofSet, bySet, block, rows, cells, queryCells}
 use Rattle.even_places.proofs.SetLaws.{setOf, keep-sets, map-append, map-flatMap, flatMap-all}
@@ -21,8 +22,9 @@ use Rattle.even_places.proofs.Counts.{sets-fit}
 use Rattle.even_places.proofs.Flat.{inside, query-length}
 use Rattle.even_places.proofs.Joined.{group-size}
 use Rattle.even_places.proofs.Positions.{group-length}
-use Rattle.even_ranks.specs.Ranks.{noCounts, countersOf, counted, countedAll, placeOf, originOf, rowPlaces, setPlaces, setsPlaces, totalsOf, walked}
-use Rattle.even_ranks.proofs.Counters.{Known, all-known}
+use Rattle.even_layout.proofs.Tables.{IsSet, all-sets}
+use Rattle.even_ranks.specs.Counts.{noCounts, countersOf, counted, countedAll, totalsOf}
+use Rattle.even_ranks.specs.Walk.{placeOf, originOf, rowPlaces, setPlaces, setsPlaces, walked}
 use Rattle.even_ranks.proofs.Cells.{cell-is}
 
 -- the places of rows, in order
@@ -65,15 +67,15 @@ module _ (N K k n : ℕ) (wide : 1 < N) (wanted : k < K) (few : K ≤ 8) (server
   ofOne : List Bool → List Row
   ofOne A = ofSet A (block N K k (ones A - 1) n)
 
-  set-is : (D L : List (List Bool)) (A : List Bool) → D ++ A ∷ L ≡ allSets K → setPlaces N k n (totalsOf K k) (countedAll k D noCounts) A ≡ placesIn (ofOne A)
+  set-is : (D L : List (List Bool)) (A : List Bool) → D ++ A ∷ L ≡ allSets K → setPlaces N k n (totalsOf K k) (cut (countersOf k A) (length A) (countedAll k D noCounts)) A ≡ placesIn (ofOne A)
   unfolding setPlaces rowPlaces ofOne
   set-is D L A split = sym (rows-are places 0 (ofOne A) row ∙ ap (λ s. flatMap places (range 0 s)) size)
     where
       b : ℕ
       b = ones A - 1
 
-      known : Known K A
-      known = All-head (All-back D (A ∷ L) (subst (All (Known K)) (sym split) (all-known K)))
+      known : IsSet K A
+      known = All-head (All-back D (A ∷ L) (subst (All (IsSet K)) (sym split) (all-sets K)))
 
       many : ones A ≡ suc b
       many = omega (arith, known .some)

@@ -1,8 +1,8 @@
--- What a test keeps of a list: all of it, of a mapped list, by two tests, and its sums; and lists joined by `flatMap`.
-use Prim.Native.Nat.{ℕ, zero, suc, _≤_}
+-- What a test keeps of a list: all of it, what two tests keep, and its sums; and what holds of the parts of a list.
+use Prim.Native.Nat.{ℕ, _≤_}
 use native.Mathlib.Omega.{arith}
-use mathlib.Core.Path.{_≡_, refl, sym, ap, _∙_}
-use mathlib.Core.List.{List, [], _∷_, _++_, map, append-assoc, flatMap}
+use mathlib.Core.Path.{_≡_, refl}
+use mathlib.Core.List.{List, [], _∷_, _++_, flatMap}
 use mathlib.Core.Bool.{Bool, true, false, _&&_}
 use Rattle.lists.specs.Sums.{keep, keepIf, sum, All, allNil, allCons}
 
@@ -35,30 +35,10 @@ module _ {A : Type 0} where
       go false ih = omega arith
 
 module _ {A B : Type 0} where
-  pub keep-map : (t : B → Bool) (f : A → B) (xs : List A) → keep t (map f xs) ≡ map f (keep (λ x. t (f x)) xs)
-  unfolding keep keepIf
-  keep-map t f [] = refl
-  keep-map t f (x ∷ xs) = go (t (f x)) (keep-map t f xs)
-    where
-      go : (b : Bool) → keep t (map f xs) ≡ map f (keep (λ y. t (f y)) xs) → keepIf b (f x) (keep t (map f xs)) ≡ map f (keepIf b x (keep (λ y. t (f y)) xs))
-      go true e = ap (λ l. f x ∷ l) e
-      go false e = e
-
-  pub flatMap-append : (g : A → List B) (xs ys : List A) → flatMap g (xs ++ ys) ≡ flatMap g xs ++ flatMap g ys
-  unfolding flatMap
-  flatMap-append g [] ys = refl
-  flatMap-append g (x ∷ xs) ys = ap (λ l. g x ++ l) (flatMap-append g xs ys) ∙ sym (append-assoc (g x) (flatMap g xs) (flatMap g ys))
-
   pub flatMap-nothing : (g : A → List B) {xs : List A} → All (λ x. g x ≡ []) xs → flatMap g xs ≡ []
   unfolding flatMap
   flatMap-nothing g allNil = refl
   flatMap-nothing g (allCons {x = x} {xs = xs} e a) = rw (e, flatMap-nothing g a)
-
-module _ {A B C : Type 0} where
-  pub flatMap-flatMap : (g : B → List C) (f : A → List B) (xs : List A) → flatMap g (flatMap f xs) ≡ flatMap (λ x. flatMap g (f x)) xs
-  unfolding flatMap
-  flatMap-flatMap g f [] = refl
-  flatMap-flatMap g f (x ∷ xs) = flatMap-append g (f x) (flatMap f xs) ∙ ap (λ l. flatMap g (f x) ++ l) (flatMap-flatMap g f xs)
 
 -- what holds of each element of two lists joined
 module _ {A : Type 0} {P : A → Type 0} where
