@@ -2,3 +2,4 @@ pub mod Counters
 pub mod Ranking
 pub mod Cells
 pub mod Walk
+pub mod Steps

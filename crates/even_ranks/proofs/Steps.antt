@@ -1,0 +1,105 @@
+-- One turn more of each loop: of counting a set's messages, and of adding up what was taken; and bounds on both.
+use Prim.Native.Nat.{ℕ, zero, suc, _+_, _-_, _*_, _/_, _%_, _^_, _≤_, _<_}
+use native.Mathlib.Nat.{mod-lt, sub-self, sub-zero, add-comm, not-suc-le-zero, le-of-suc-le-suc, mul-le-mul, pow-le-pow-left, pow-le-pow-right}
+use native.Mathlib.Numerals.{add-one}
+use native.Mathlib.Omega.{arith}
+use mathlib.Core.Path.{_≡_, refl, sym, ap, _∙_}
+use mathlib.Core.List.{List, [], _∷_, _++_, append-assoc, append-nil}
+use mathlib.Core.Bool.{Bool, true, false}
+use lib.Dec.{eqb}
+use lib.ListN.{length, getD, take, drop, set}
+use lib.Seq.{take-all, drop-cons, take-suc-set, drop-set-lt}
+use borrow.Author.Tests.{eqb-true, eqb-false}
+use Rattle.lists.specs.Below.{Below}
+use Rattle.lists.specs.Ranges.{range}
+use Rattle.lists.specs.Sums.{bit, sum}
+use Rattle.lists.proofs.Below.{below-cons, below-append, below-take, below-drop}
+use Rattle.lists.proofs.Sums.{sum-next}
+use Rattle.even_places.specs.Rule.{after}
+use Rattle.even_layout.specs.Layout.{setIn}
+use Rattle.even_ranks.specs.Counts.{counter, countersOf, counted, takers, taken}
+
+-- the lowest bit of a byte
+bit-of : (rest : ℕ) → bit (eqb (rest % 2) 1) ≡ rest % 2
+unfolding bit
+bit-of rest = go (eqb (rest % 2) 1) refl
+  where
+    go : (t : Bool) → eqb (rest % 2) 1 ≡ t → bit t ≡ rest % 2
+    go true e = sym (eqb-true (rest % 2) 1 e)
+    go false e = let d = eqb-false (rest % 2) 1 e in omega (arith, mod-lt rest {m = 2} (omega arith), two d)
+      where
+        two : (rest % 2 ≡ 1 → ⊥) → rest % 2 ≡ 0
+        two d = omega (arith, mod-lt rest {m = 2} (omega arith), d)
+
+-- the counters from p on are still to be counted, by what is left of the set's byte
+unfoldable pub countsFrom : ℕ → ℕ → ℕ → List ℕ → List ℕ
+countsFrom k p rest counts = take p counts ++ after (setIn (k - p) rest) (drop p counts)
+
+pub counts-more : (k p rest : ℕ) (counts : List ℕ) → p < k → length counts ≡ k
+    → countsFrom k p rest counts ≡ countsFrom k (p + 1) (rest / 2) (set counts p (getD counts p 0 + rest % 2))
+unfolding countsFrom after setIn
+counts-more k p rest counts h e =
+    let left : k - p ≡ suc (k - (p + 1)) = omega arith in
+    let inside : p < length counts = omega arith in
+    let next = getD counts p 0 + rest % 2 in
+    let tail = after (setIn (k - suc p) (rest / 2)) (drop (suc p) counts) in
+    rw (left, drop-cons counts p 0 inside, bit-of rest, add-one p, take-suc-set counts p next inside, drop-set-lt (suc p) counts p next (omega arith), add-comm (rest % 2) (getD counts p 0))
+    (sym (append-assoc (take p counts) (next ∷ []) tail))
+
+pub counts-done : (k rest : ℕ) (counts : List ℕ) → length counts ≡ k → countsFrom k k rest counts ≡ counts
+unfolding countsFrom after setIn
+counts-done k rest counts e = rw (sub-self k, append-nil (take k counts), take-all k counts (omega arith))
+
+pub counts-start : (k rest : ℕ) (counts : List ℕ) → countsFrom k 0 rest counts ≡ after (setIn k rest) counts
+unfolding countsFrom
+counts-start k rest counts = rw (sub-zero k)
+
+-- a counter grows by one at most
+after-below : (c : ℕ) (A : List Bool) (counts : List ℕ) → Below c counts → Below (suc c) (after A counts)
+unfolding after bit
+after-below c [] counts b = λ i h. absurd (not-suc-le-zero h)
+after-below c (a ∷ A) [] b = λ i h. absurd (not-suc-le-zero h)
+after-below c (true ∷ A) (x ∷ counts) b = below-cons (suc c) (1 + x) (after A counts) (omega (arith, b 0 (omega arith))) (after-below c A counts (λ i h. b (suc i) (omega arith)))
+after-below c (false ∷ A) (x ∷ counts) b = below-cons (suc c) (0 + x) (after A counts) (omega (arith, b 0 (omega arith))) (after-below c A counts (λ i h. b (suc i) (omega arith)))
+
+pub counted-below : (c k : ℕ) (A : List Bool) (counts : List ℕ) → Below c counts → Below (suc c) (counted k A counts)
+unfolding counted
+counted-below c k A counts b =
+    let at = countersOf k A in
+    let made = after A (take (length A) (drop at counts)) in
+    let more : Below (suc c) counts = λ i h. omega (arith, b i h) in
+    below-append (suc c) (take at counts) (made ++ drop (length made) (drop at counts)) (below-take (suc c) at counts more)
+    (below-append (suc c) made (drop (length made) (drop at counts))
+    (after-below c A (take (length A) (drop at counts)) (below-take c (length A) (drop at counts) (below-drop c at counts b)))
+    (below-drop (suc c) (length made) (drop at counts) (below-drop (suc c) at counts more)))
+
+-- what is taken in one block more, and how much it can be
+module _ (N k : ℕ) (totals : List ℕ) where
+  pub taken-none : (p : ℕ) → taken N k totals 0 p ≡ 0
+  unfolding taken sum range
+  taken-none p = refl
+
+  pub taken-more : (b p : ℕ) → taken N k totals (b + 1) p ≡ taken N k totals b p + (N - 1) ^ b * takers k totals b p
+  unfolding taken
+  taken-more b p = rw (add-one b) (sum-next (λ j. (N - 1) ^ j * takers k totals j p) b)
+
+  module _ (few : N ≤ 16) (long : length totals ≡ 128) (small : Below 65536 totals) (p : ℕ) (low : p < 8) where
+    takers-small : (b : ℕ) → b < 8 → takers k totals b p ≤ 65536
+    unfolding takers counter bit
+    takers-small b h = go (eqb p k)
+      where
+        go : (t : Bool) → getD totals (bit t * 64 + b * 8 + p) 0 ≤ 65536
+        go true = omega (arith, small (1 * 64 + b * 8 + p) (omega arith))
+        go false = omega (arith, small (0 * 64 + b * 8 + p) (omega arith))
+
+    pub rows-small : (b : ℕ) → b ≤ 8 → (N - 1) ^ b ≤ 4294967296
+    rows-small b h =
+        omega (arith, (let w : (N - 1) ^ b ≤ 16 ^ b = pow-le-pow-left (omega arith) b in w), (let w : 16 ^ b ≤ 16 ^ 8 = pow-le-pow-right {n = 16} (omega arith) h in w))
+
+    -- each block takes at most 2^48
+    pub share-small : (b : ℕ) → b < 8 → (N - 1) ^ b * takers k totals b p ≤ 281474976710656
+    share-small b h = omega (arith, mul-le-mul (rows-small b (omega arith)) (takers-small b h))
+
+    pub taken-small : (b : ℕ) → b ≤ 8 → taken N k totals b p ≤ b * 281474976710656
+    taken-small zero h = omega (arith, taken-none p)
+    taken-small (suc b) h = omega (arith, taken-more b p, ap (λ j. taken N k totals j p) (add-one b), taken-small b (omega arith), share-small b h)
