@@ -33,7 +33,7 @@ ofKind k t b A = Bool·beq t (has k A) && eqb (suc b) (ones A)
 
 module _ (K k : ℕ) (few : K ≤ 8) where
   -- the counters of A's block and kind lie inside the table
-  room : (A : List Bool) (counts : List ℕ) → IsSet K A → length counts ≡ 128 → countersOf k A + length A ≤ length counts
+  pub room : (A : List Bool) (counts : List ℕ) → IsSet K A → length counts ≡ 128 → countersOf k A + length A ≤ length counts
   unfolding countersOf counter bit
   room A counts h e = go (has k A)
     where

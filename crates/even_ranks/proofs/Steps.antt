@@ -1,23 +1,32 @@
 -- One turn more of each loop: of counting a set's messages, and of adding up what was taken; and bounds on both.
 use Prim.Native.Nat.{ℕ, zero, suc, _+_, _-_, _*_, _/_, _%_, _^_, _≤_, _<_}
-use native.Mathlib.Nat.{mod-lt, sub-self, sub-zero, add-comm, not-suc-le-zero, le-of-suc-le-suc, mul-le-mul, pow-le-pow-left, pow-le-pow-right}
+use native.Mathlib.Nat.{add-sub-cancel-left, mod-lt, sub-self, sub-zero, add-comm, not-suc-le-zero, le-of-suc-le-suc, mul-le-mul, pow-le-pow-left, pow-le-pow-right}
 use native.Mathlib.Numerals.{add-one}
 use native.Mathlib.Omega.{arith}
 use mathlib.Core.Path.{_≡_, refl, sym, ap, _∙_}
-use mathlib.Core.List.{List, [], _∷_, _++_, append-assoc, append-nil}
+use mathlib.Core.List.{List, [], _∷_, _++_, map, append-nil}
 use mathlib.Core.Bool.{Bool, true, false}
+use lib.Count.{ones as count}
 use lib.Dec.{eqb}
-use lib.ListN.{length, getD, take, drop, set}
-use lib.Seq.{take-all, drop-cons, take-suc-set, drop-set-lt}
+use lib.ListN.{length, getD, take, drop, set, replicate, length-map, length-replicate}
+use lib.Seq.{take-all, drop-cons, drop-set-lt}
 use borrow.Author.Tests.{eqb-true, eqb-false}
 use Rattle.lists.specs.Below.{Below}
 use Rattle.lists.specs.Ranges.{range}
 use Rattle.lists.specs.Sums.{bit, sum}
 use Rattle.lists.proofs.Below.{below-cons, below-append, below-take, below-drop}
+use Rattle.lists.proofs.Parts.{cut-length, put-part}
+use Rattle.lists.proofs.Reading.{write-more}
 use Rattle.lists.proofs.Sums.{sum-next}
+use Rattle.even_places.specs.Sets.{has, ones, byteOf, allSets}
 use Rattle.even_places.specs.Rule.{after}
+use Rattle.even_places.proofs.Rows.{after-length}
+use Rattle.even_places.proofs.Bytes.{byte-has, byte-ones}
 use Rattle.even_layout.specs.Layout.{setIn}
-use Rattle.even_ranks.specs.Counts.{counter, countersOf, counted, takers, taken}
+use Rattle.even_layout.proofs.Blocks.{subsets-few}
+use Rattle.even_layout.proofs.Tables.{IsSet, byte-at}
+use Rattle.even_ranks.proofs.Counters.{room}
+use Rattle.even_ranks.specs.Counts.{counter, Stands, countersOf, counted, countedAll, takers, taken, takenTable}
 
 -- the lowest bit of a byte
 bit-of : (rest : ℕ) → bit (eqb (rest % 2) 1) ≡ rest % 2
@@ -42,9 +51,7 @@ counts-more k p rest counts h e =
     let left : k - p ≡ suc (k - (p + 1)) = omega arith in
     let inside : p < length counts = omega arith in
     let next = getD counts p 0 + rest % 2 in
-    let tail = after (setIn (k - suc p) (rest / 2)) (drop (suc p) counts) in
-    rw (left, drop-cons counts p 0 inside, bit-of rest, add-one p, take-suc-set counts p next inside, drop-set-lt (suc p) counts p next (omega arith), add-comm (rest % 2) (getD counts p 0))
-    (sym (append-assoc (take p counts) (next ∷ []) tail))
+    rw (left, drop-cons counts p 0 inside, bit-of rest, add-comm (rest % 2) (getD counts p 0), write-more p next counts _ inside, add-one p, drop-set-lt (suc p) counts p next (omega arith))
 
 pub counts-done : (k rest : ℕ) (counts : List ℕ) → length counts ≡ k → countsFrom k k rest counts ≡ counts
 unfolding countsFrom after setIn
@@ -103,3 +110,80 @@ module _ (N k : ℕ) (totals : List ℕ) where
     pub taken-small : (b : ℕ) → b ≤ 8 → taken N k totals b p ≤ b * 281474976710656
     taken-small zero h = omega (arith, taken-none p)
     taken-small (suc b) h = omega (arith, taken-more b p, ap (λ j. taken N k totals j p) (add-one b), taken-small b (omega arith), share-small b h)
+
+-- the entries of the table from i on
+unfoldable pub takenFrom : ℕ → ℕ → List ℕ → ℕ → List ℕ
+takenFrom N k totals i = map (λ j. taken N k totals (j / 8) (j % 8)) (range i (64 - i))
+
+pub table-more : (N k i : ℕ) (totals : List ℕ) → i < 64 → takenFrom N k totals i ≡ taken N k totals (i / 8) (i % 8) ∷ takenFrom N k totals (i + 1)
+unfolding takenFrom range
+table-more N k i totals h =
+    let left : 64 - i ≡ suc (64 - (i + 1)) = omega arith in
+    rw (left, add-one i)
+
+pub table-start : (N k : ℕ) (totals : List ℕ) → takenFrom N k totals 0 ≡ takenTable N k totals
+unfolding takenFrom takenTable
+table-start N k totals = refl
+
+pub table-done : (N k : ℕ) (totals : List ℕ) → takenFrom N k totals 64 ≡ []
+unfolding takenFrom range
+table-done N k totals = refl
+
+-- the byte at index i of the sets in order
+pub stands-at : (K i : ℕ) (sets : List ℕ) → 1 ≤ K → K ≤ 8 → sets ≡ map byteOf (allSets K) → i < length sets
+    → Stands K (getD sets i 0) × (setIn K (getD sets i 0) ≡ getD (allSets K) i [])
+stands-at K i sets low high e h =
+    let s = byte-at 2 K i sets [] (record { servers-low = omega arith; messages-low = low; messages-high = high; symbols-high = subsets-few K high })
+    (e ∙ sym (append-nil (map byteOf (allSets K)))) (omega (arith, ap length e, length-map (allSets K) byteOf)) in
+    (record { encoded = ap byteOf (s .decoded) ∙ sym (s .byte); some = rw (s .decoded) (s .is .some) }, s .decoded)
+
+-- a set's counters by its byte
+pub counters-byte : (k set : ℕ) (A : List Bool) → set ≡ byteOf A → counter (eqb (set / 2 ^ k % 2) 1) (count set - 1) 0 ≡ countersOf k A
+unfolding countersOf bit
+counters-byte k set A e = rw (e, byte-has A k, byte-ones A) (ap (λ t. counter t (ones A - 1) 0) (go (has k A)))
+  where
+    go : (t : Bool) → eqb (bit t) 1 ≡ t
+    go true = refl
+    go false = refl
+
+pub stands-count : (K byte : ℕ) → Stands K byte → count byte ≡ ones (setIn K byte)
+stands-count K byte s = ap count (sym (s .encoded)) ∙ byte-ones (setIn K byte)
+
+pub setIn-length : (K byte : ℕ) → length (setIn K byte) ≡ K
+unfolding setIn
+setIn-length zero byte = refl
+setIn-length (suc K) byte = ap suc (setIn-length K (byte / 2))
+
+pub stands-set : (K byte : ℕ) → Stands K byte → IsSet K (setIn K byte)
+stands-set K byte s = record { long = setIn-length K byte; some = s .some }
+
+-- the counters that are lent for a set, from `at` on
+pub record Lent (K k byte at : ℕ) : Type 0 where
+  pub set : IsSet K (setIn K byte)
+  pub begins : at ≡ countersOf k (setIn K byte)
+  pub fits : at + K ≤ 128
+
+pub lent : (K k byte at : ℕ) → K ≤ 8 → Stands K byte → at ≡ counter (eqb (byte / 2 ^ k % 2) 1) (count byte - 1) 0 → Lent K k byte at
+lent K k byte at few s e =
+    let A = setIn K byte in
+    let known = stands-set K byte s in
+    let here : at ≡ countersOf k A = e ∙ counters-byte k byte A (sym (s .encoded)) in
+    record { set = known; begins = here; fits = omega (arith, room K k few A (replicate 128 0) known (length-replicate {A = ℕ} 128 0), length-replicate {A = ℕ} 128 0, known .long) }
+
+-- the counters given back: the part that was lent is counted
+pub counted-part : (K k byte at : ℕ) (counts : List ℕ) → length counts ≡ 128 → Lent K k byte at
+    → take at counts ++ (after (setIn K byte) (take (at + K - at) (drop at counts)) ++ drop (at + K - at) (drop at counts)) ≡ counted k (setIn K byte) counts
+unfolding counted
+counted-part K k byte at counts long l =
+    let A = setIn K byte in
+    let part = take K (drop at counts) in
+    let made : length (after A part) ≡ K = after-length A part (l .set .long ∙ sym (cut-length at K counts (omega (arith, l .fits)))) ∙ cut-length at K counts (omega (arith, l .fits)) in
+    ap (λ (n : ℕ). take at counts ++ (after A (take n (drop at counts)) ++ drop (at + K - at) (drop at counts))) (add-sub-cancel-left at K)
+    ∙ put-part at K (after A part) counts made
+    ∙ rw (l .set .long, l .begins) refl
+
+-- one set more is counted
+pub counted-more : (k i : ℕ) (L : List (List Bool)) (counts : List ℕ) → i < length L
+    → countedAll k (drop i L) counts ≡ countedAll k (drop (i + 1) L) (counted k (getD L i []) counts)
+unfolding countedAll
+counted-more k i L counts h = rw (add-one i, drop-cons L i [] h)

@@ -1,7 +1,8 @@
 -- Counting the sets of an even query (document 01, 'Even code'; source 003, section IV-B), where k is the wanted message.
 -- A block, counted from 0, takes places set by set: so many sets with a message, so many next places of it. The counters tell how
 -- many sets have each message, in each block, twice: for the sets without k (false) and for those with it (true).
-use Prim.Native.Nat.{ℕ, _+_, _-_, _*_, _/_, _%_, _^_}
+use mathlib.Core.Path.{_≡_}
+use Prim.Native.Nat.{ℕ, _+_, _-_, _*_, _/_, _%_, _^_, _≤_}
 use mathlib.Core.Bool.{Bool}
 use mathlib.Core.List.{List, [], _∷_, map}
 use lib.Dec.{eqb}
@@ -9,8 +10,9 @@ use lib.ListN.{length, getD, replicate}
 use Rattle.lists.specs.Parts.{cut, put}
 use Rattle.lists.specs.Ranges.{range}
 use Rattle.lists.specs.Sums.{bit, sum}
-use Rattle.even_places.specs.Sets.{has, ones, allSets}
+use Rattle.even_places.specs.Sets.{has, ones, byteOf, allSets}
 use Rattle.even_places.specs.Rule.{after}
+use Rattle.even_layout.specs.Layout.{setIn}
 
 -- where the counter of message p stands
 unfoldable pub counter : Bool → ℕ → ℕ → ℕ
@@ -18,6 +20,11 @@ counter t b p = bit t * 64 + b * 8 + p
 
 unfoldable pub noCounts : List ℕ
 noCounts = replicate 128 0
+
+-- a byte that stands for a set of K messages, one of them at least
+pub record Stands (K byte : ℕ) : Type 0 where
+  pub encoded : byteOf (setIn K byte) ≡ byte
+  pub some : 1 ≤ ones (setIn K byte)
 
 module _ (k : ℕ) where
   -- where the counters of A's block and kind begin

@@ -9,7 +9,7 @@ ghost use Rattle.lists.specs.Below.{Below};
 ghost use Rattle.even_places.specs.Sets.{byteOf, allSets};
 ghost use Rattle.even_places.specs.Rule.{after};
 ghost use Rattle.even_layout.specs.Layout.{setIn};
-ghost use Rattle.even_ranks.specs.Counts.{«counter» as counterAt, totalsOf, «takers» as takersOf, taken, takenTable};
+ghost use Rattle.even_ranks.specs.Counts.{«counter» as counterAt, Stands, counted, totalsOf, «takers» as takersOf, taken, takenTable};
 
 // Where the places of a row come from.
 pub struct Origin {
@@ -40,7 +40,7 @@ pub fn counters_of(wanted: usize, set: u8) -> usize
 }
 
 // Adds one to the counter of each message in the set, where `counts` are the counters of its block and kind.
-pub fn count_members(k: usize, set: u8, counts: &mut [usize])
+fn count_members(k: usize, set: u8, counts: &mut [usize])
     requires { ⌜ (length (now counts) ≡ k) × Below 65536 (now counts) ⌝ }
     ensures { λ _. ⌜ now (counts .exit) ≡ after (setIn k set) (now (counts .entry)) ⌝ }
 {
@@ -53,6 +53,15 @@ pub fn count_members(k: usize, set: u8, counts: &mut [usize])
     }
 }
 
+// Counts a set.
+pub fn count_set(k: usize, wanted: usize, set: u8, counts: &mut [usize])
+    requires { ⌜ (k ≤ 8) × (wanted < k) × Stands k set × (length (now counts) ≡ 128) × Below 65536 (now counts) ⌝ }
+    ensures { λ _. ⌜ now (counts .exit) ≡ counted wanted (setIn k set) (now (counts .entry)) ⌝ }
+{
+    let at = counters_of(wanted, set);
+    count_members(k, set, &mut counts[at..at + k]);
+}
+
 // The counts of all sets, which are given in order.
 pub fn totals(k: usize, wanted: usize, sets: &[u8]) -> [usize; 128]
     requires { ⌜ (k ≤ 8) × (wanted < k) × (now sets ≡ map byteOf (allSets k)) ⌝ }
@@ -61,9 +70,7 @@ pub fn totals(k: usize, wanted: usize, sets: &[u8]) -> [usize; 128]
     let mut counts = [0usize; 128];
     let mut i = 0;
     while i < sets.len() {
-        let set = sets[i];
-        let at = counters_of(wanted, set);
-        count_members(k, set, &mut counts[at..at + k]);
+        count_set(k, wanted, sets[i], &mut counts);
         i += 1;
     }
     counts

@@ -1,10 +1,11 @@
--- Reading what was written: an element of a buffer with a part put into it, and bounds on the parts of a list.
+-- Reading what was written: an element of a buffer with a part put into it, bounds on the parts of a list, and one element more.
 use mathlib.Core.Path.{_≡_, sym, ap, _∙_}
-use mathlib.Core.List.{List, _++_}
+use mathlib.Core.List.{List, [], _∷_, _++_, append-assoc}
 use Prim.Native.Nat.{ℕ, _+_, _≤_, _<_}
+use native.Mathlib.Numerals.{add-one}
 use native.Mathlib.Omega.{arith}
-use lib.ListN.{length, take, drop, getD, length-append, List·getD-append}
-use lib.Seq.{length-take-le, getD-take, getD-drop, getD-append-add}
+use lib.ListN.{length, take, drop, getD, set, length-append, List·getD-append}
+use lib.Seq.{length-take-le, getD-take, getD-drop, getD-append-add, take-suc-set}
 use Rattle.lists.specs.Parts.{cut, put}
 use Rattle.lists.specs.Below.{Below}
 
@@ -42,3 +43,7 @@ module _ (n : ℕ) (front back : List ℕ) (small : Below n (front ++ back)) whe
   pub below-back : Below n back
   below-back i h =
       rw (getD-append-add front back i 0) at (small (length front + i) (let e = length-append front back in omega arith))
+
+-- an element written after the first i
+pub write-more : (i x : ℕ) (buffer rest : List ℕ) → i < length buffer → take (i + 1) (set buffer i x) ++ rest ≡ take i buffer ++ (x ∷ rest)
+write-more i x buffer rest h = rw (add-one i, take-suc-set buffer i x h) (append-assoc (take i buffer) (x ∷ []) rest)
