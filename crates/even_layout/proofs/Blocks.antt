@@ -72,8 +72,12 @@ pub subsets-bytes : (K : ℕ) → map byteOf (subsets (suc K)) ≡ doubled 1 (ma
 unfolding subsets doubled byteOf bit
 subsets-bytes K =
     map-append byteOf (map (λ A. true ∷ A) (subsets K)) (map (λ A. false ∷ A) (subsets K))
-    ∙ rw (map-map byteOf (λ A. true ∷ A) (subsets K), map-map byteOf (λ A. false ∷ A) (subsets K),
-    map-map (λ x. x * 2 + 1) byteOf (subsets K), map-map (λ x. x * 2 + 0) byteOf (subsets K))
+    ∙ rw (
+      map-map byteOf (λ A. true ∷ A) (subsets K),
+      map-map byteOf (λ A. false ∷ A) (subsets K),
+      map-map (λ x. x * 2 + 1) byteOf (subsets K),
+      map-map (λ x. x * 2 + 0) byteOf (subsets K),
+    )
 
 bytes-below : (K : ℕ) {L : List (List Bool)} → All (λ A. length A ≡ K) L → Below (2 ^ K) (map byteOf L)
 bytes-below K allNil = λ i h. absurd (not-suc-le-zero h)

@@ -47,12 +47,15 @@ setIn-byte (false ∷ A) = rw (digits-mod (byteOf A) {m = 2} {r = 0} (omega arit
 pub set-in : (K : ℕ) (A : List Bool) → length A ≡ K → setIn K (byteOf A) ≡ A
 set-in K A e = rw (← e) (setIn-byte A)
 
+pub ones-few : (A : List Bool) → ones A ≤ length A
+ones-few A = omega (arith, ones-le (length A) (byteOf A) (byte-below A), byte-ones A)
+
 -- a set has no more rows than a message has symbols, and one at least
 module _ (N K : ℕ) (bounds : Bounds N K) (A : List Bool) (s : IsSet K A) where
   pub rows-high : rowsOf N A ≤ 256
   unfolding rowsOf
   rows-high =
-      let few : ones A ≤ K = omega (arith, ones-le (length A) (byteOf A) (byte-below A), byte-ones A, s .long) in
+      let few : ones A ≤ K = omega (arith, ones-few A, s .long) in
       let fewer : (N - 1) ^ (ones A - 1) ≤ N ^ (ones A - 1) = pow-le-pow-left (omega (arith, bounds .servers-low)) (ones A - 1) in
       let all : N ^ (ones A - 1) ≤ N ^ K = pow-le-pow-right {n = N} (omega (arith, bounds .servers-low)) (let w : ones A - 1 ≤ K = omega arith in w) in
       omega (arith, bounds .symbols-high)
@@ -67,6 +70,7 @@ module _ (N K : ℕ) (bounds : Bounds N K) (A : List Bool) (s : IsSet K A) where
 pub record SetByte (N K set : ℕ) (A : List Bool) : Type 0 where
   pub is : IsSet K A
   pub byte : set ≡ byteOf A
+  pub small : set < 256
   pub decoded : setIn K set ≡ A
   pub some : 1 ≤ count set
   pub rows : (N - 1) ^ (count set - 1) ≡ rowsOf N A
@@ -79,6 +83,7 @@ set-byte N K set A bounds s e =
     record {
       is = s;
       byte = e;
+      small = omega (arith, rw (s .long) at (byte-below A), pow-le-pow-right {n = 2} (omega arith) {j = 8} (bounds .messages-high));
       decoded = ap (setIn K) e ∙ set-in K A (s .long);
       some = omega (arith, s .some);
       rows = ap (λ (n : ℕ). (N - 1) ^ (n - 1)) ones-set;

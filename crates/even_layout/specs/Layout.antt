@@ -38,6 +38,9 @@ ofBlock block bytes = keep (λ byte. eqb (count byte) block) bytes
 unfoldable pub rowsOf : ℕ → List Bool → ℕ
 rowsOf N A = (N - 1) ^ (ones A - 1)
 
--- for each byte the number of its set's first row in a query, and 0 if it is no set of K messages or the empty one
+-- the number of the first row of a byte's set in a query, and 0 if the byte is no set of K messages or the empty one
+unfoldable pub firstRowOf : ℕ → ℕ → ℕ → ℕ
+firstRowOf N K byte = cond (ltb 0 byte && ltb byte (2 ^ K)) (firstRow (setIn K byte) (layout N K)) 0
+
 unfoldable pub firstRows : ℕ → ℕ → List ℕ
-firstRows N K = map (λ byte. cond (ltb 0 byte && ltb byte (2 ^ K)) (firstRow (setIn K byte) (layout N K)) 0) (range 0 256)
+firstRows N K = map (firstRowOf N K) (range 0 256)

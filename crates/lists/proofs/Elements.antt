@@ -15,6 +15,10 @@ module _ {A : Type 0} where
   All-at (allCons p a) zero d h = p
   All-at (allCons p a) (suc i) d h = All-at a i d (le-of-suc-le-suc h)
 
+  pub All-both : {P Q : A → Type 0} {xs : List A} → All P xs → All Q xs → All (λ x. P x × Q x) xs
+  All-both allNil allNil = allNil
+  All-both (allCons p a) (allCons q b) = allCons (p, q) (All-both a b)
+
   pub sum-none : (t : A → Bool) (xs : List A) → sum (λ x. bit (t x)) xs ≡ 0 → All (λ x. t x ≡ false) xs
   unfolding sum bit
   sum-none t [] e = allNil

@@ -1,72 +1,126 @@
+-- `even_layout::first_rows` meets its contract: after i turns the first rows of the sets from i on are still to be written.
+use mathlib.Core.Path.{_≡_, refl, sym, ap, _∙_}
+use mathlib.Core.List.{List, []}
+use Prim.Native.Nat.{ℕ, suc, _+_, _-_, _*_, _≤_, _<_}
+use native.Mathlib.Omega.{arith}
+use lib.ListN.{length, getD, drop, replicate, length-set, drop-of-length-le}
+use Rattle.even_places.specs.Sets.{byteOf, allSets}
+use Rattle.even_layout.specs.Layout.{rowsOf}
+use Rattle.even_layout.proofs.Blocks.{subsets-few, all-length}
+use Rattle.even_layout.proofs.Tables.{byte-at}
+use Rattle.even_layout.proofs.Firsts.{filled, filled-more, filled-firsts}
 use Rattle.even_layout.proofs.first_rows.Statement.{statement}
 use Rattle.even_layout.proofs.first_rows.Tie as tie
-use Rattle.even_layout.proofs.first_rows.Reads as reads
-use Rattle.even_layout.proofs.first_rows.Lts as lts
-use Rattle.even_layout.proofs.ordered_sets.Reads as ordered-sets-reads
-use Rattle.even_layout.proofs.power.Reads as power-reads
-use Rattle.even_layout.proofs.rows_of.Reads as rows-of-reads
 
 abbrev Inv-loop : tie.InvT-loop
-Inv-loop n k sets count firsts₀ row₀ i₀ firsts row i = ?
+Inv-loop n k sets count firsts₀ row₀ i₀ firsts row i = (i ≤ count) × (length firsts ≡ 256) × (row ≤ 256 * i) × (filled n row (drop i (allSets k)) firsts ≡ filled n 0 (allSets k) firsts₀)
 
 abbrev μ-loop : tie.MeasureT-loop
-μ-loop n k sets count firsts₀ row₀ i₀ firsts row i = ?
+μ-loop n k sets count firsts₀ row₀ i₀ firsts row i = count - i
 
--- src/lib.rt:167:16
 ordered-sets-requires : tie.Need-ordered-sets-requires Inv-loop μ-loop
-ordered-sets-requires c κs = ?
+ordered-sets-requires c κs = c .pre .messages-high
 
--- src/lib.rt:168:17
 power-requires : tie.Need-power-requires Inv-loop μ-loop
-power-requires c κs = ?
+power-requires c κs = omega (arith, subsets-few (c .before .args .k) (c .before .pre .messages-high))
 
--- src/lib.rt:168:17
 sub-count : tie.Need-sub-count Inv-loop μ-loop
-sub-count c = ?
+sub-count c = omega (arith, c .power .ensures, all-length (c .before .before .args .k))
 
--- src/lib.rt:172:5
 loop-holds : tie.Need-loop-holds Inv-loop μ-loop
-loop-holds c = ?
+loop-holds c = (omega arith, refl, omega arith, refl)
 
--- src/lib.rt:173:19
 array-read-set : tie.Need-array-read-set Inv-loop μ-loop
-array-read-set c = ?
+array-read-set c =
+    let k = c .before .before .before .before .args .k in
+    omega (arith, c .before .before .power .ensures, subsets-few k (c .before .before .before .before .pre .messages-high))
 
--- src/lib.rt:174:16
 cast-firsts : tie.Need-cast-firsts Inv-loop μ-loop
-cast-firsts c = ?
+cast-firsts c =
+    let at = c .before in
+    let start = at .before .before .before in
+    let n = start .args .n in
+    let k = start .args .k in
+    let i = at .loop .i in
+    let inside : i < length (allSets k) = omega (arith, at .before .power .ensures, all-length k) in
+    let s = byte-at n k i (at .before .before .ordered-sets .result) (replicate (256 - length (allSets k)) 0) (start .pre) (at .before .before .ordered-sets .ensures) inside in
+    omega (arith, s .small)
 
--- src/lib.rt:174:9
 mul-firsts : tie.Need-mul-firsts Inv-loop μ-loop
-mul-firsts c = ?
+mul-firsts c =
+    let at = c .before in
+    let start = at .before .before .before in
+    let n = start .args .n in
+    let k = start .args .k in
+    let i = at .loop .i in
+    let inside : i < length (allSets k) = omega (arith, at .before .power .ensures, all-length k) in
+    let s = byte-at n k i (at .before .before .ordered-sets .result) (replicate (256 - length (allSets k)) 0) (start .pre) (at .before .before .ordered-sets .ensures) inside in
+    omega (arith, s .small)
 
--- src/lib.rt:174:9
 array-write-firsts : tie.Need-array-write-firsts Inv-loop μ-loop
-array-write-firsts c = ?
+array-write-firsts c =
+    let at = c .before in
+    let start = at .before .before .before in
+    let n = start .args .n in
+    let k = start .args .k in
+    let i = at .loop .i in
+    let inside : i < length (allSets k) = omega (arith, at .before .power .ensures, all-length k) in
+    let s = byte-at n k i (at .before .before .ordered-sets .result) (replicate (256 - length (allSets k)) 0) (start .pre) (at .before .before .ordered-sets .ensures) inside in
+    omega (arith, s .small)
 
--- src/lib.rt:175:16
 rows-of-requires : tie.Need-rows-of-requires Inv-loop μ-loop
-rows-of-requires c κs = ?
+rows-of-requires c κs =
+    let at = c .before in
+    let start = at .before .before .before in
+    let n = start .args .n in
+    let k = start .args .k in
+    let i = at .loop .i in
+    let inside : i < length (allSets k) = omega (arith, at .before .power .ensures, all-length k) in
+    let s = byte-at n k i (at .before .before .ordered-sets .result) (replicate (256 - length (allSets k)) 0) (start .pre) (at .before .before .ordered-sets .ensures) inside in
+    (omega (arith, start .pre .servers-low), s .some, omega (arith, s .rows, s .high))
 
--- src/lib.rt:175:9
 add-row : tie.Need-add-row Inv-loop μ-loop
-add-row c = ?
+add-row c =
+    let at = c .before .before in
+    let start = at .before .before .before in
+    let n = start .args .n in
+    let k = start .args .k in
+    let i = at .loop .i in
+    let inside : i < length (allSets k) = omega (arith, at .before .power .ensures, all-length k) in
+    let s = byte-at n k i (at .before .before .ordered-sets .result) (replicate (256 - length (allSets k)) 0) (start .pre) (at .before .before .ordered-sets .ensures) inside in
+    omega (arith, c .rows-of .ensures, s .rows, s .high, subsets-few k (start .pre .messages-high), at .before .power .ensures)
 
--- src/lib.rt:176:9
 add-i : tie.Need-add-i Inv-loop μ-loop
-add-i c = ?
+add-i c = omega arith
 
--- src/lib.rt:172:5
 loop-less : tie.Need-loop-less Inv-loop μ-loop
-loop-less c = ?
+loop-less c = omega arith
 
--- src/lib.rt:172:5
 loop-again : tie.Need-loop-again Inv-loop μ-loop
-loop-again c = ?
+loop-again c =
+    let at = c .before .before in
+    let start = at .before .before .before in
+    let n = start .args .n in
+    let k = start .args .k in
+    let i = at .loop .i in
+    let inside : i < length (allSets k) = omega (arith, at .before .power .ensures, all-length k) in
+    let s = byte-at n k i (at .before .before .ordered-sets .result) (replicate (256 - length (allSets k)) 0) (start .pre) (at .before .before .ordered-sets .ensures) inside in
+    let A = getD (allSets k) i [] in
+    let rows : c .rows-of .result ≡ rowsOf n A = c .rows-of .ensures ∙ s .rows in (
+      omega arith,
+      simp length-set (at .loop .inv .1),
+      omega (arith, s .high),
+      rw (s .byte, rows) (sym (filled-more n k (at .loop .row) i (at .loop .firsts) inside) ∙ at .loop .inv .3),
+    )
 
--- src/lib.rt:163:1
 returns : tie.Need-returns Inv-loop μ-loop
-returns c = ?
+unfolding filled
+returns c =
+    let at = c .before in
+    let start = at .before .before .before in
+    let k = start .args .k in
+    let none = drop-of-length-le (allSets k) {i = at .loop .i} (omega (arith, at .before .power .ensures, all-length k)) in
+    rw none at (at .loop .inv .3) ∙ filled-firsts (start .args .n) k (start .pre)
 
 pub first-rows-spec : {M : Type 1} → statement M
 first-rows-spec =

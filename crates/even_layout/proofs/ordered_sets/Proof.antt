@@ -11,11 +11,6 @@ use Rattle.even_layout.specs.Layout.{subsets, ofBlock}
 use Rattle.even_layout.proofs.Blocks.{subsets-few, table-length, table-front, front-length, block-front, all-length, blocksFrom, blocks-all, blocks-none, blocks-more}
 use Rattle.even_layout.proofs.ordered_sets.Statement.{statement}
 use Rattle.even_layout.proofs.ordered_sets.Tie as tie
-use Rattle.even_layout.proofs.ordered_sets.Reads as reads
-use Rattle.even_layout.proofs.ordered_sets.Lts as lts
-use Rattle.even_layout.proofs.power.Reads as power-reads
-use Rattle.even_layout.proofs.subsets.Reads as subsets-reads
-use Rattle.even_layout.proofs.write_block.Reads as write-block-reads
 
 abbrev Inv-loop : tie.InvT-loop
 Inv-loop k all count sets₀ at₀ block₀ sets at block = (block ≤ k) × Pending 0 (map byteOf (allSets k)) sets₀ at (map byteOf (blocksFrom k block)) sets
@@ -23,15 +18,12 @@ Inv-loop k all count sets₀ at₀ block₀ sets at block = (block ≤ k) × Pen
 abbrev μ-loop : tie.MeasureT-loop
 μ-loop k all count sets₀ at₀ block₀ sets at block = k - block
 
--- src/lib.rt:91:15
 subsets-requires : tie.Need-subsets-requires Inv-loop μ-loop
 subsets-requires c κs = c .pre
 
--- src/lib.rt:92:9
 power-requires : tie.Need-power-requires Inv-loop μ-loop
 power-requires c κs = omega (arith, subsets-few (c .before .args .k) (c .before .pre))
 
--- src/lib.rt:96:5
 loop-holds : tie.Need-loop-holds Inv-loop μ-loop
 loop-holds c =
     let k = c .before .before .args .k in
@@ -39,18 +31,15 @@ loop-holds c =
     omega (arith, length-map (allSets k) byteOf, all-length k, subsets-few k (c .before .before .pre)) in
     (omega arith, rw (blocks-all k) (pending-start room))
 
--- src/lib.rt:97:9
 add-block : tie.Need-add-block Inv-loop μ-loop
 add-block c = omega arith
 
--- src/lib.rt:98:26
 array-share-prefix-all : tie.Need-array-share-prefix-all Inv-loop μ-loop
 array-share-prefix-all c =
     let start = c .before .before .before .before in
     let k = start .args .k in
     omega (arith, c .before .before .power .ensures, subsets-few k (start .pre), ap length (c .before .before .before .subsets .ensures), table-length k (start .pre))
 
--- src/lib.rt:98:26
 slice-aggregate-write-block : tie.Need-slice-aggregate-write-block Inv-loop μ-loop
 slice-aggregate-write-block c =
     let start = c .before .before .before .before .before in
@@ -59,11 +48,9 @@ slice-aggregate-write-block c =
     let size = c .before .before .before .power in
     omega (arith, size .ensures, ap length (table-front k (start .pre) (size .result) (made .result) (size .ensures) (made .ensures)), front-length k (start .pre))
 
--- src/lib.rt:98:48
 slice-aggregate-write-block-2 : tie.Need-slice-aggregate-write-block-2 Inv-loop μ-loop
 slice-aggregate-write-block-2 c = sym (c .before .before .before .loop .inv .1 .long)
 
--- src/lib.rt:98:9
 write-block-requires : tie.Need-write-block-requires Inv-loop μ-loop
 write-block-requires c κs =
     let at = c .before .before .before in
@@ -76,11 +63,9 @@ write-block-requires c κs =
     let many = length-append (map byteOf (sets k (at .loop .block + 1))) (map byteOf (blocksFrom k (at .loop .block + 1))) in
     omega (arith, p .room, ap length block)
 
--- src/lib.rt:96:5
 loop-less : tie.Need-loop-less Inv-loop μ-loop
 loop-less c = omega arith
 
--- src/lib.rt:96:5
 loop-again : tie.Need-loop-again Inv-loop μ-loop
 loop-again c =
     let at = c .before .before .before .before .before in
@@ -94,7 +79,6 @@ loop-again c =
     let p = rw (blocks-more k (at .loop .block) (omega arith)) at (at .loop .inv .1) in
     (omega arith, pending-as (rw block at (written .ensures .0)) refl (rw block at (written .ensures .1)) (pending-part (map byteOf (sets k b)) (map byteOf (blocksFrom k b)) p))
 
--- src/lib.rt:87:1
 returns : tie.Need-returns Inv-loop μ-loop
 returns c =
     let at = c .before in

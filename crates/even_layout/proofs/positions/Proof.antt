@@ -11,12 +11,6 @@ use Rattle.even_layout.proofs.Blocks.{subsets-few, all-length}
 use Rattle.even_layout.proofs.Tables.{byte-at, set-positions, setPositions, positionsFrom, positions-all, positions-none, positions-more, positions-room}
 use Rattle.even_layout.proofs.positions.Statement.{statement}
 use Rattle.even_layout.proofs.positions.Tie as tie
-use Rattle.even_layout.proofs.positions.Reads as reads
-use Rattle.even_layout.proofs.positions.Lts as lts
-use Rattle.even_layout.proofs.ordered_sets.Reads as ordered-sets-reads
-use Rattle.even_layout.proofs.power.Reads as power-reads
-use Rattle.even_layout.proofs.rows_of.Reads as rows-of-reads
-use Rattle.even_layout.proofs.write_rows.Reads as write-rows-reads
 
 abbrev Inv-loop : tie.InvT-loop
 Inv-loop n k sets count out₀ at₀ i₀ out at i = (i ≤ count) × Pending 0 (positions n k) out₀ at (positionsFrom n k i) out
@@ -24,19 +18,15 @@ Inv-loop n k sets count out₀ at₀ i₀ out at i = (i ≤ count) × Pending 0 
 abbrev μ-loop : tie.MeasureT-loop
 μ-loop n k sets count out₀ at₀ i₀ out at i = count - i
 
--- src/lib.rt:149:16
 ordered-sets-requires : tie.Need-ordered-sets-requires Inv-loop μ-loop
 ordered-sets-requires c κs = c .pre .messages-high
 
--- src/lib.rt:150:17
 power-requires : tie.Need-power-requires Inv-loop μ-loop
 power-requires c κs = omega (arith, subsets-few (c .before .args .k) (c .before .pre .messages-high))
 
--- src/lib.rt:150:17
 sub-count : tie.Need-sub-count Inv-loop μ-loop
 sub-count c = omega (arith, c .power .ensures, all-length (c .before .before .args .k))
 
--- src/lib.rt:154:5
 loop-holds : tie.Need-loop-holds Inv-loop μ-loop
 loop-holds c =
     let start = c .before .before in
@@ -44,13 +34,11 @@ loop-holds c =
     omega (arith, positions-room (start .args .n) (start .args .k) (start .pre)) in
     (omega arith, rw (positions-all (start .args .n) (start .args .k)) (pending-start room))
 
--- src/lib.rt:155:19
 array-read-set : tie.Need-array-read-set Inv-loop μ-loop
 array-read-set c =
     let k = c .before .before .before .before .args .k in
     omega (arith, c .before .before .power .ensures, subsets-few k (c .before .before .before .before .pre .messages-high))
 
--- src/lib.rt:156:33
 rows-of-requires : tie.Need-rows-of-requires Inv-loop μ-loop
 rows-of-requires c κs =
     let at = c .before in
@@ -62,11 +50,9 @@ rows-of-requires c κs =
     let s = byte-at n k i (at .before .before .ordered-sets .result) (replicate (256 - length (allSets k)) 0) (start .pre) (at .before .before .ordered-sets .ensures) inside in
     (omega (arith, start .pre .servers-low), s .some, omega (arith, s .rows, s .high))
 
--- src/lib.rt:156:50
 slice-aggregate-write-rows : tie.Need-slice-aggregate-write-rows Inv-loop μ-loop
 slice-aggregate-write-rows c = sym (c .before .before .before .loop .inv .1 .long)
 
--- src/lib.rt:156:9
 write-rows-requires : tie.Need-write-rows-requires Inv-loop μ-loop
 write-rows-requires c κs =
     let at = c .before .before .before in
@@ -81,15 +67,12 @@ write-rows-requires c κs =
     let many = length-append (setPositions n (getD (allSets k) i [])) (positionsFrom n k (i + 1)) in
     (start .pre .messages-high, omega (arith, p .room, ap length rows))
 
--- src/lib.rt:157:9
 add-i : tie.Need-add-i Inv-loop μ-loop
 add-i c = omega arith
 
--- src/lib.rt:154:5
 loop-less : tie.Need-loop-less Inv-loop μ-loop
 loop-less c = omega arith
 
--- src/lib.rt:154:5
 loop-again : tie.Need-loop-again Inv-loop μ-loop
 loop-again c =
     let at = c .before .before .before .before .before in
@@ -106,7 +89,6 @@ loop-again c =
     let written = c .before .write-rows in
     (omega arith, pending-as (rw rows at (written .ensures .0)) refl (rw rows at (written .ensures .1)) (pending-part (setPositions n A) (positionsFrom n k (i + 1)) p))
 
--- src/lib.rt:145:1
 returns : tie.Need-returns Inv-loop μ-loop
 returns c =
     let at = c .before in

@@ -7,8 +7,6 @@ use native.Mathlib.Omega.{arith}
 use Rattle.even_layout.proofs.Bytes.{power-fits}
 use Rattle.even_layout.proofs.power.Statement.{statement}
 use Rattle.even_layout.proofs.power.Tie as tie
-use Rattle.even_layout.proofs.power.Reads as reads
-use Rattle.even_layout.proofs.power.Lts as lts
 
 abbrev Inv-loop : tie.InvT-loop
 Inv-loop base exponent result₀ i₀ result i = (i ≤ exponent) × (result ≡ base ^ i)
@@ -16,11 +14,9 @@ Inv-loop base exponent result₀ i₀ result i = (i ≤ exponent) × (result ≡
 abbrev μ-loop : tie.MeasureT-loop
 μ-loop base exponent result₀ i₀ result i = exponent - i
 
--- src/lib.rt:21:5
 loop-holds : tie.Need-loop-holds Inv-loop μ-loop
 loop-holds c = (omega arith, sym (pow-zero _))
 
--- src/lib.rt:22:9
 mul-result : tie.Need-mul-result Inv-loop μ-loop
 mul-result c =
     let base = c .before .before .args .base in
@@ -30,22 +26,18 @@ mul-result c =
     let now : c .before .loop .result * base ≡ base ^ i * base = ap (λ (r : ℕ). r * base) (c .before .loop .inv .1) in
     record { fits = omega arith }
 
--- src/lib.rt:23:9
 add-i : tie.Need-add-i Inv-loop μ-loop
 add-i c = omega arith
 
--- src/lib.rt:21:5
 loop-less : tie.Need-loop-less Inv-loop μ-loop
 loop-less c = omega arith
 
--- src/lib.rt:21:5
 loop-again : tie.Need-loop-again Inv-loop μ-loop
 loop-again c =
     let base = c .before .before .args .base in
     let i = c .before .loop .i in
     (omega arith, ap (λ (r : ℕ). r * base) (c .before .loop .inv .1) ∙ sym (pow-suc base i) ∙ ap (λ (n : ℕ). base ^ n) (sym (add-one i)))
 
--- src/lib.rt:15:1
 returns : tie.Need-returns Inv-loop μ-loop
 returns c =
     let e : c .before .loop .i ≡ c .before .before .args .exponent = omega arith in

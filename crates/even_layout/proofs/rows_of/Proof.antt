@@ -4,27 +4,19 @@ use lib.Count.{ones-le}
 use borrow.Author.Needs.{needs}
 use Rattle.even_layout.proofs.rows_of.Statement.{statement}
 use Rattle.even_layout.proofs.rows_of.Tie as tie
-use Rattle.even_layout.proofs.rows_of.Reads as reads
-use Rattle.even_layout.proofs.rows_of.Lts as lts
-use Rattle.even_layout.proofs.power.Reads as power-reads
 
--- src/lib.rt:107:11
 sub-power : tie.Need-sub-power
 sub-power c = search needs
 
--- src/lib.rt:107:18
 cast-power : tie.Need-cast-power
 cast-power c = omega (arith, ones-le 8 (c .args .set) (search needs))
 
--- src/lib.rt:107:18
 sub-power-2 : tie.Need-sub-power-2
 sub-power-2 c = search needs
 
--- src/lib.rt:107:5
 power-requires : tie.Need-power-requires
 power-requires c κs = search needs
 
--- src/lib.rt:103:1
 returns : tie.Need-returns
 returns c = search needs
 

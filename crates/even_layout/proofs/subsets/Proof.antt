@@ -13,9 +13,6 @@ use Rattle.even_layout.specs.Layout.{subsets, doubled}
 use Rattle.even_layout.proofs.Blocks.{subsets-bytes, subsets-below, subsets-few, table-length, table-front, front-length}
 use Rattle.even_layout.proofs.subsets.Statement.{statement}
 use Rattle.even_layout.proofs.subsets.Tie as tie
-use Rattle.even_layout.proofs.subsets.Reads as reads
-use Rattle.even_layout.proofs.subsets.Lts as lts
-use Rattle.even_layout.proofs.widened.Reads as widened-reads
 
 abbrev Inv-loop : tie.InvT-loop
 Inv-loop k bytes₀ count₀ i₀ bytes count i = (i ≤ k) × (count ≡ 2 ^ i) × (bytes ≡ padded 256 (map byteOf (subsets i)))
@@ -23,18 +20,15 @@ Inv-loop k bytes₀ count₀ i₀ bytes count i = (i ≤ k) × (count ≡ 2 ^ i)
 abbrev μ-loop : tie.MeasureT-loop
 μ-loop k bytes₀ count₀ i₀ bytes count i = k - i
 
--- src/lib.rt:59:5
 loop-holds : tie.Need-loop-holds Inv-loop μ-loop
 unfolding subsets byteOf bit
 loop-holds c = (omega arith, refl, refl)
 
--- src/lib.rt:60:25
 array-share-prefix-bytes : tie.Need-array-share-prefix-bytes Inv-loop μ-loop
 array-share-prefix-bytes c =
     let i = c .before .loop .i in
     omega (arith, ap length (c .before .loop .inv .2), table-length i (omega arith), subsets-few i (omega arith))
 
--- src/lib.rt:60:25
 slice-aggregate-widened : tie.Need-slice-aggregate-widened Inv-loop μ-loop
 slice-aggregate-widened c =
     let at = c .before .before in
@@ -42,7 +36,6 @@ slice-aggregate-widened c =
     let front = table-front i (omega arith) (at .loop .count) (at .loop .bytes) (at .loop .inv .1) (at .loop .inv .2) in
     omega (arith, ap length front, front-length i (omega arith))
 
--- src/lib.rt:60:17
 widened-requires : tie.Need-widened-requires Inv-loop μ-loop
 widened-requires c κs =
     let at = c .before .before in
@@ -51,21 +44,17 @@ widened-requires c κs =
     let few : 2 ^ i ≤ 2 ^ 7 = pow-le-pow-right {n = 2} (omega arith) {j = 7} (omega arith) in
     rw front ((λ j h. omega (arith, subsets-below i j h)), omega (arith, front-length i (omega arith)))
 
--- src/lib.rt:61:9
 mul-count : tie.Need-mul-count Inv-loop μ-loop
 mul-count c =
     let at = c .before .before .before in
     omega (arith, subsets-few (at .loop .i) (omega arith))
 
--- src/lib.rt:62:9
 add-i : tie.Need-add-i Inv-loop μ-loop
 add-i c = omega arith
 
--- src/lib.rt:59:5
 loop-less : tie.Need-loop-less Inv-loop μ-loop
 loop-less c = omega arith
 
--- src/lib.rt:59:5
 loop-again : tie.Need-loop-again Inv-loop μ-loop
 loop-again c =
     let at = c .before .before .before in
@@ -79,7 +68,6 @@ loop-again c =
           ∙ ap (λ (n : ℕ). padded 256 (map byteOf (subsets n))) (sym (add-one i)),
     )
 
--- src/lib.rt:52:1
 returns : tie.Need-returns Inv-loop μ-loop
 returns c =
     let at = c .before in

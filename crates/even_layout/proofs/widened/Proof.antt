@@ -10,27 +10,19 @@ use Rattle.even_layout.specs.Layout.{doubled}
 use borrow.Author.Needs.{needs}
 use Rattle.even_layout.proofs.widened.Statement.{statement}
 use Rattle.even_layout.proofs.widened.Tie as tie
-use Rattle.even_layout.proofs.widened.Reads as reads
-use Rattle.even_layout.proofs.widened.Lts as lts
-use Rattle.even_layout.proofs.write_doubled.Reads as write-doubled-reads
 
--- src/lib.rt:46:29
 slice-aggregate-write-doubled : tie.Need-slice-aggregate-write-doubled
 slice-aggregate-write-doubled c = search needs
 
--- src/lib.rt:46:5
 write-doubled-requires : tie.Need-write-doubled-requires
 write-doubled-requires c κs = search needs
 
--- src/lib.rt:47:29
 slice-aggregate-write-doubled-2 : tie.Need-slice-aggregate-write-doubled-2
 slice-aggregate-write-doubled-2 c = search needs
 
--- src/lib.rt:47:5
 write-doubled-requires-2 : tie.Need-write-doubled-requires-2
 write-doubled-requires-2 c κs = search needs
 
--- src/lib.rt:41:1
 returns : tie.Need-returns
 unfolding doubled
 returns c =

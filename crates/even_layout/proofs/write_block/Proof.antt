@@ -11,8 +11,6 @@ use Rattle.even_layout.specs.Layout.{ofBlock}
 use Rattle.even_layout.proofs.Bytes.{block-kept, block-skipped}
 use Rattle.even_layout.proofs.write_block.Statement.{statement}
 use Rattle.even_layout.proofs.write_block.Tie as tie
-use Rattle.even_layout.proofs.write_block.Reads as reads
-use Rattle.even_layout.proofs.write_block.Lts as lts
 
 abbrev Inv-loop : tie.InvT-loop
 Inv-loop subsets block out₀ at end₀ i₀ out end i = (i ≤ length subsets) × Pending at (ofBlock block subsets) out₀ end (ofBlock block (drop i subsets)) out
@@ -20,41 +18,33 @@ Inv-loop subsets block out₀ at end₀ i₀ out end i = (i ≤ length subsets) 
 abbrev μ-loop : tie.MeasureT-loop
 μ-loop subsets block out₀ at end₀ i₀ out end i = length subsets - i
 
--- src/lib.rt:74:5
 loop-holds : tie.Need-loop-holds Inv-loop μ-loop
 loop-holds c = (omega arith, pending-start (c .pre))
 
--- src/lib.rt:75:22
 shared-slice-read-subset : tie.Need-shared-slice-read-subset Inv-loop μ-loop
 shared-slice-read-subset c = omega arith
 
--- src/lib.rt:76:12
 cast-if1 : tie.Need-cast-if1 Inv-loop μ-loop
 cast-if1 c = omega (arith, ones-le 8 (getD (c .before .before .before .args .subsets .now) (c .before .before .loop .i) 0) (c .shared-slice-known .given (c .before .before .loop .i) .fits))
 
--- src/lib.rt:77:13
 slice-write-out : tie.Need-slice-write-out Inv-loop μ-loop
 slice-write-out c =
     let at = c .before .before .before in
     let p = rw (block-kept (at .before .args .block) (at .loop .i) (at .before .args .subsets .now) (omega arith) (c .if1 .taken)) at (at .loop .inv .1) in
     omega (arith, p .room)
 
--- src/lib.rt:78:13
 add-end : tie.Need-add-end Inv-loop μ-loop
 add-end c =
     let at = c .before .before .before in
     let p = rw (block-kept (at .before .args .block) (at .loop .i) (at .before .args .subsets .now) (omega arith) (c .if1 .taken)) at (at .loop .inv .1) in
     omega (arith, p .room)
 
--- src/lib.rt:80:9
 add-i : tie.Need-add-i Inv-loop μ-loop
 add-i c = omega arith
 
--- src/lib.rt:74:5
 loop-less : tie.Need-loop-less Inv-loop μ-loop
 loop-less c = omega arith
 
--- src/lib.rt:74:5
 loop-again : tie.Need-loop-again Inv-loop μ-loop
 loop-again c =
     let at = c .before .before .before in
@@ -68,11 +58,9 @@ loop-again c =
           (c .if1 .came),
     )
 
--- src/lib.rt:68:1
 same-length : tie.Need-same-length Inv-loop μ-loop
 same-length c = c .before .loop .inv .1 .long
 
--- src/lib.rt:68:1
 returns : tie.Need-returns Inv-loop μ-loop
 unfolding ofBlock keep
 returns c =

@@ -10,8 +10,6 @@ use Rattle.even_layout.specs.Layout.{doubled}
 use Rattle.even_layout.proofs.Bytes.{doubled-more}
 use Rattle.even_layout.proofs.write_doubled.Statement.{statement}
 use Rattle.even_layout.proofs.write_doubled.Tie as tie
-use Rattle.even_layout.proofs.write_doubled.Reads as reads
-use Rattle.even_layout.proofs.write_doubled.Lts as lts
 
 abbrev Inv-loop : tie.InvT-loop
 Inv-loop bytes low out₀ at i₀ out i = (i ≤ length bytes) × Pending at (doubled low bytes) out₀ (at + i) (doubled low (drop i bytes)) out
@@ -19,7 +17,6 @@ Inv-loop bytes low out₀ at i₀ out i = (i ≤ length bytes) × Pending at (do
 abbrev μ-loop : tie.MeasureT-loop
 μ-loop bytes low out₀ at i₀ out i = length bytes - i
 
--- src/lib.rt:34:5
 loop-holds : tie.Need-loop-holds Inv-loop μ-loop
 unfolding doubled
 loop-holds c =
@@ -27,35 +24,27 @@ loop-holds c =
     let long = length-map bytes (λ byte. byte * 2 + c .args .low) in
     (omega arith, pending-as (add-zero _) refl refl (pending-start (omega arith)))
 
--- src/lib.rt:35:23
 shared-slice-read-out : tie.Need-shared-slice-read-out Inv-loop μ-loop
 shared-slice-read-out c = omega arith
 
--- src/lib.rt:35:23
 mul-out : tie.Need-mul-out Inv-loop μ-loop
 mul-out c = omega (arith, c .before .before .before .pre .1 (c .before .before .loop .i) (omega arith))
 
--- src/lib.rt:35:23
 add-out : tie.Need-add-out Inv-loop μ-loop
 add-out c = omega (arith, c .before .before .before .pre .1 (c .before .before .loop .i) (omega arith))
 
--- src/lib.rt:35:13
 add-out-2 : tie.Need-add-out-2 Inv-loop μ-loop
 add-out-2 c = omega arith
 
--- src/lib.rt:35:9
 slice-write-out : tie.Need-slice-write-out Inv-loop μ-loop
 slice-write-out c = omega (arith, c .before .before .loop .inv .1 .long)
 
--- src/lib.rt:36:9
 add-i : tie.Need-add-i Inv-loop μ-loop
 add-i c = omega arith
 
--- src/lib.rt:34:5
 loop-less : tie.Need-loop-less Inv-loop μ-loop
 loop-less c = omega arith
 
--- src/lib.rt:34:5
 loop-again : tie.Need-loop-again Inv-loop μ-loop
 loop-again c =
     let bytes = c .before .before .before .args .bytes .now in
@@ -64,11 +53,9 @@ loop-again c =
       pending-as (sym (add-assoc (c .before .before .before .args .at) i 1)) refl refl (pending-byte (rw (doubled-more (c .before .before .before .args .low) i bytes (omega arith)) at (c .before .before .loop .inv .1))),
     )
 
--- src/lib.rt:29:1
 same-length : tie.Need-same-length Inv-loop μ-loop
 same-length c = c .before .loop .inv .1 .long
 
--- src/lib.rt:29:1
 returns : tie.Need-returns Inv-loop μ-loop
 unfolding doubled
 returns c =

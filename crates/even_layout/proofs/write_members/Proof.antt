@@ -11,8 +11,6 @@ use Rattle.even_layout.specs.Layout.{setIn}
 use Rattle.even_layout.proofs.Bytes.{membersFrom, members-kept, members-skipped}
 use Rattle.even_layout.proofs.write_members.Statement.{statement}
 use Rattle.even_layout.proofs.write_members.Tie as tie
-use Rattle.even_layout.proofs.write_members.Reads as reads
-use Rattle.even_layout.proofs.write_members.Lts as lts
 
 abbrev Inv-loop : tie.InvT-loop
 Inv-loop k set out₀ at rest₀ end₀ p₀ out rest end p = (p ≤ k) × Pending at (members 0 (setIn k set)) out₀ end (membersFrom k p rest) out
@@ -20,37 +18,30 @@ Inv-loop k set out₀ at rest₀ end₀ p₀ out rest end p = (p ≤ k) × Pendi
 abbrev μ-loop : tie.MeasureT-loop
 μ-loop k set out₀ at rest₀ end₀ p₀ out rest end p = k - p
 
--- src/lib.rt:118:5
 loop-holds : tie.Need-loop-holds Inv-loop μ-loop
 loop-holds c = (omega arith, rw (sub-zero (c .args .k)) (pending-start (c .pre .1)))
 
--- src/lib.rt:120:24
 cast-out : tie.Need-cast-out Inv-loop μ-loop
 cast-out c = omega arith
 
--- src/lib.rt:120:13
 slice-write-out : tie.Need-slice-write-out Inv-loop μ-loop
 slice-write-out c =
     let at = c .before .before in
     let p = rw (members-kept (at .before .args .k) (at .loop .p) (at .loop .rest) (omega arith) (c .if1 .taken)) at (at .loop .inv .1) in
     omega (arith, p .room)
 
--- src/lib.rt:121:13
 add-end : tie.Need-add-end Inv-loop μ-loop
 add-end c =
     let at = c .before .before in
     let p = rw (members-kept (at .before .args .k) (at .loop .p) (at .loop .rest) (omega arith) (c .if1 .taken)) at (at .loop .inv .1) in
     omega (arith, p .room)
 
--- src/lib.rt:124:9
 add-p : tie.Need-add-p Inv-loop μ-loop
 add-p c = omega arith
 
--- src/lib.rt:118:5
 loop-less : tie.Need-loop-less Inv-loop μ-loop
 loop-less c = omega arith
 
--- src/lib.rt:118:5
 loop-again : tie.Need-loop-again Inv-loop μ-loop
 loop-again c =
     let at = c .before .before in
@@ -64,11 +55,9 @@ loop-again c =
           (c .if1 .came),
     )
 
--- src/lib.rt:111:1
 same-length : tie.Need-same-length Inv-loop μ-loop
 same-length c = c .before .loop .inv .1 .long
 
--- src/lib.rt:111:1
 returns : tie.Need-returns Inv-loop μ-loop
 unfolding members setIn
 returns c =

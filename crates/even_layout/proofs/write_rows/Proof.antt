@@ -9,12 +9,8 @@ use Rattle.lists.proofs.Writing.{Pending, pending-start, pending-part, pending-
 use Rattle.even_places.specs.Sets.{members}
 use Rattle.even_layout.specs.Layout.{setIn}
 use Rattle.even_layout.proofs.Bytes.{rows-more}
-
 use Rattle.even_layout.proofs.write_rows.Statement.{statement}
 use Rattle.even_layout.proofs.write_rows.Tie as tie
-use Rattle.even_layout.proofs.write_rows.Reads as reads
-use Rattle.even_layout.proofs.write_rows.Lts as lts
-use Rattle.even_layout.proofs.write_members.Reads as write-members-reads
 
 abbrev rowMembers : ℕ → ℕ → ℕ → List ℕ
 rowMembers k set count = flatMap (members 0) (replicate count (setIn k set))
@@ -25,11 +21,9 @@ Inv-loop k set count out₀ at end₀ i₀ out end i = (i ≤ count) × Pending 
 abbrev μ-loop : tie.MeasureT-loop
 μ-loop k set count out₀ at end₀ i₀ out end i = count - i
 
--- src/lib.rt:136:5
 loop-holds : tie.Need-loop-holds Inv-loop μ-loop
 loop-holds c = (omega arith, rw (sub-zero (c .before .args .count)) (pending-start (c .before .pre .1)))
 
--- src/lib.rt:137:9
 write-members-requires : tie.Need-write-members-requires Inv-loop μ-loop
 write-members-requires c κs =
     let at = c .before .before in
@@ -39,15 +33,12 @@ write-members-requires c κs =
     let many = length-append (members 0 A) (flatMap (members 0) (replicate (count - (at .loop .i + 1)) A)) in
     (at .before .before .pre .0, omega (arith, p .room))
 
--- src/lib.rt:138:9
 add-i : tie.Need-add-i Inv-loop μ-loop
 add-i c = omega arith
 
--- src/lib.rt:136:5
 loop-less : tie.Need-loop-less Inv-loop μ-loop
 loop-less c = omega arith
 
--- src/lib.rt:136:5
 loop-again : tie.Need-loop-again Inv-loop μ-loop
 loop-again c =
     let at = c .before .before .before .before .before in
@@ -58,11 +49,9 @@ loop-again c =
     let left = flatMap (members 0) (replicate (count - (at .loop .i + 1)) A) in
     (omega arith, pending-as (written .ensures .0) refl (written .ensures .1) (pending-part (members 0 A) left p))
 
--- src/lib.rt:130:1
 same-length : tie.Need-same-length Inv-loop μ-loop
 same-length c = c .before .loop .inv .1 .long
 
--- src/lib.rt:130:1
 returns : tie.Need-returns Inv-loop μ-loop
 unfolding flatMap
 returns c =
