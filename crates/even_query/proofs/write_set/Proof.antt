@@ -2,10 +2,11 @@
 use mathlib.Core.Path.{_≡_, refl, sym, ap, _∙_}
 use mathlib.Core.Bool.{true}
 use mathlib.Core.List.{List, _++_}
-use Prim.Native.Nat.{ℕ, _+_, _-_, _^_, _≤_, _<_}
+use Prim.Native.Nat.{ℕ, _+_, _-_, _/_, _%_, _^_, _≤_, _<_}
 use native.Mathlib.Omega.{arith}
 use borrow.Author.Needs.{needs}
-use lib.Count.{ones-le}
+use lib.Count.{ones as count, ones-le}
+use lib.Dec.{eqb}
 use lib.ListN.{length, length-append}
 use Rattle.lists.specs.Below.{Below}
 use Rattle.lists.proofs.Reading.{below-front, below-back}
@@ -70,7 +71,7 @@ origin-requires c κs =
       asks .servers-high,
       asks .server-low,
       omega (arith, many, stands .some),
-      (λ e. joined-two _ _ (sym (at .before .before .is-joined .ensures) ∙ e)),
+      (λ e. joined-two (eqb (a .set / 2 ^ a .wanted % 2) 1) (count (a .set)) (sym (at .before .before .is-joined .ensures) ∙ e)),
       omega (arith, at .before .rows-of .ensures),
       rows-fit (a .n) (a .k) (a .set) (asks .bounds) stands,
     )
