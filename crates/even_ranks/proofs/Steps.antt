@@ -1,6 +1,6 @@
 -- One turn more of each loop: of counting a set's messages, and of adding up what was taken; and bounds on both.
 use Prim.Native.Nat.{ℕ, zero, suc, _+_, _-_, _*_, _/_, _%_, _^_, _≤_, _<_}
-use native.Mathlib.Nat.{add-sub-cancel-left, mod-lt, sub-self, sub-zero, add-comm, not-suc-le-zero, le-of-suc-le-suc, mul-le-mul, pow-le-pow-left, pow-le-pow-right}
+use native.Mathlib.Nat.{add-zero, add-suc, suc-add, add-sub-cancel-left, mod-lt, sub-self, sub-zero, add-comm, not-suc-le-zero, le-of-suc-le-suc, mul-le-mul, pow-le-pow-left, pow-le-pow-right}
 use native.Mathlib.Numerals.{add-one}
 use native.Mathlib.Omega.{arith}
 use mathlib.Core.Path.{_≡_, refl, sym, ap, _∙_}
@@ -14,7 +14,7 @@ use borrow.Author.Tests.{eqb-true, eqb-false}
 use Rattle.lists.specs.Below.{Below}
 use Rattle.lists.specs.Ranges.{range}
 use Rattle.lists.specs.Sums.{bit, sum}
-use Rattle.lists.proofs.Below.{below-cons, below-append, below-take, below-drop}
+use Rattle.lists.proofs.Below.{below-cons, below-append, below-take, below-drop, below-zeros}
 use Rattle.lists.proofs.Parts.{cut-length, put-part}
 use Rattle.lists.proofs.Reading.{write-more}
 use Rattle.lists.proofs.Sums.{sum-next}
@@ -23,10 +23,10 @@ use Rattle.even_places.specs.Rule.{after}
 use Rattle.even_places.proofs.Rows.{after-length}
 use Rattle.even_places.proofs.Bytes.{byte-has, byte-ones}
 use Rattle.even_layout.specs.Layout.{setIn}
-use Rattle.even_layout.proofs.Blocks.{subsets-few}
-use Rattle.even_layout.proofs.Tables.{IsSet, byte-at}
-use Rattle.even_ranks.proofs.Counters.{room}
-use Rattle.even_ranks.specs.Counts.{counter, Stands, countersOf, counted, countedAll, takers, taken, takenTable}
+use Rattle.even_layout.proofs.Blocks.{all-length, subsets-few}
+use Rattle.even_layout.proofs.Tables.{IsSet, all-sets, byte-at}
+use Rattle.even_ranks.proofs.Counters.{room, countedAll-length}
+use Rattle.even_ranks.specs.Counts.{counter, noCounts, Stands, countersOf, counted, countedAll, totalsOf, takers, taken, takenTable}
 
 -- the lowest bit of a byte
 bit-of : (rest : ℕ) → bit (eqb (rest % 2) 1) ≡ rest % 2
@@ -187,3 +187,17 @@ pub counted-more : (k i : ℕ) (L : List (List Bool)) (counts : List ℕ) → i 
     → countedAll k (drop i L) counts ≡ countedAll k (drop (i + 1) L) (counted k (getD L i []) counts)
 unfolding countedAll
 counted-more k i L counts h = rw (add-one i, drop-cons L i [] h)
+
+countedAll-below : (c k : ℕ) (L : List (List Bool)) (counts : List ℕ) → Below c counts → Below (c + length L) (countedAll k L counts)
+unfolding countedAll
+countedAll-below c k [] counts b = rw (add-zero c) b
+countedAll-below c k (A ∷ L) counts b = rw (add-suc c (length L), ← suc-add c (length L)) (countedAll-below (suc c) k L (counted k A counts) (counted-below c k A counts b))
+
+-- the counts of all sets: as many as there is room for, and small
+pub totals-length : (K k : ℕ) → K ≤ 8 → length (totalsOf K k) ≡ 128
+unfolding totalsOf noCounts
+totals-length K k few = countedAll-length K k few noCounts (all-sets K) (length-replicate {A = ℕ} 128 0)
+
+pub totals-below : (K k : ℕ) → K ≤ 8 → Below 65536 (totalsOf K k)
+unfolding totalsOf noCounts
+totals-below K k few = λ i h. omega (arith, countedAll-below 1 k (allSets K) noCounts (below-zeros 1 128 (omega arith)) i h, all-length K, subsets-few K few)
