@@ -1,6 +1,5 @@
 // A server's query of the even code (source 003, section IV-B): its places, row by row in one pass over the sets, and the key's entries for them.
 use even_ranks::Origin;
-
 ghost use mathlib.Core.Path.{_≡_};
 ghost use mathlib.Core.Bool.{true, cond, _&&_};
 ghost use mathlib.Core.List.{map};
@@ -85,26 +84,80 @@ fn origin(n: usize, server: usize, joins: bool, ones: usize, i: usize) -> Origin
 }
 
 // The place of message p in a row of one block, by whose turn it is, its set's rank and its number in the set.
-fn place_in(n: usize, wanted: usize, totals: &[usize], taken: &[usize], block: usize, p: usize, rows: usize, turn: usize, rank: usize, number: usize) -> usize
+fn place_in(
+    n: usize,
+    wanted: usize,
+    totals: &[usize],
+    taken: &[usize],
+    block: usize,
+    p: usize,
+    rows: usize,
+    turn: usize,
+    rank: usize,
+    number: usize,
+) -> usize
     requires { ⌜ Tables n wanted (now totals) (now taken) × (block < 8) × (p < 8) × (1 ≤ rows) × (placeIn n wanted (now totals) block p rows turn rank number < 256) ⌝ }
     ensures { λ r. ⌜ r ≡ placeIn n wanted (now (totals .entry)) block p rows turn rank number ⌝ }
 {
-    n * taken[block * 8 + p] + rows * (turn * even_ranks::takers(wanted, totals, block, p) + rank) + number
+    n * taken[block * 8 + p]
+        + rows * (turn * even_ranks::takers(wanted, totals, block, p) + rank)
+        + number
 }
 
 // The place of message p in a row, by its set's ranks.
-fn place(n: usize, wanted: usize, totals: &[usize], taken: &[usize], ranks: &[usize], o: Origin, p: usize) -> usize
+fn place(
+    n: usize,
+    wanted: usize,
+    totals: &[usize],
+    taken: &[usize],
+    ranks: &[usize],
+    o: Origin,
+    p: usize,
+) -> usize
     requires { ⌜ Tables n wanted (now totals) (now taken) × Within o × (p < 8) × (p < length (now ranks)) × (placeOf n wanted (now totals) (now ranks) o p < 256) ⌝ }
     ensures { λ r. ⌜ r ≡ placeOf n wanted (now (totals .entry)) (now (ranks .entry)) o p ⌝ }
 {
     if p == wanted {
-        return place_in(n, wanted, totals, taken, o.block, p, o.rows, o.turn, ranks[p], o.number);
+        return place_in(
+            n,
+            wanted,
+            totals,
+            taken,
+            o.block,
+            p,
+            o.rows,
+            o.turn,
+            ranks[p],
+            o.number,
+        );
     }
-    place_in(n, wanted, totals, taken, o.source, p, o.rows, o.server, ranks[p], o.number)
+    place_in(
+        n,
+        wanted,
+        totals,
+        taken,
+        o.source,
+        p,
+        o.rows,
+        o.server,
+        ranks[p],
+        o.number,
+    )
 }
 
 // Writes the places of a row from `at` on, and gives where they end.
-fn write_row(n: usize, k: usize, wanted: usize, totals: &[usize], taken: &[usize], ranks: &[usize], o: Origin, set: u8, out: &mut [u8], at: usize) -> usize
+fn write_row(
+    n: usize,
+    k: usize,
+    wanted: usize,
+    totals: &[usize],
+    taken: &[usize],
+    ranks: &[usize],
+    o: Origin,
+    set: u8,
+    out: &mut [u8],
+    at: usize,
+) -> usize
     requires { ⌜ Tables n wanted (now totals) (now taken) × Within o × (k ≤ 8) × (length (now ranks) ≡ k) × Below 256 (map (placeOf n wanted (now totals) (now ranks) o) (members 0 (setIn k set))) × (at + length (members 0 (setIn k set)) ≤ length (now out)) ⌝ }
     ensures { λ r. ⌜ (r ≡ at + length (members 0 (setIn k set))) × (now (out .exit) ≡ put at (map (placeOf n wanted (now (totals .entry)) (now (ranks .entry)) o) (members 0 (setIn k set))) (now (out .entry))) ⌝ }
 {
@@ -123,7 +176,18 @@ fn write_row(n: usize, k: usize, wanted: usize, totals: &[usize], taken: &[usize
 }
 
 // Writes the places of all rows of a set from `at` on, and gives where they end.
-fn write_set(n: usize, k: usize, wanted: usize, server: usize, totals: &[usize], taken: &[usize], ranks: &[usize], set: u8, out: &mut [u8], at: usize) -> usize
+fn write_set(
+    n: usize,
+    k: usize,
+    wanted: usize,
+    server: usize,
+    totals: &[usize],
+    taken: &[usize],
+    ranks: &[usize],
+    set: u8,
+    out: &mut [u8],
+    at: usize,
+) -> usize
     requires { ⌜ Asks n k wanted server × Tables n wanted (now totals) (now taken) × Stands k set × (length (now ranks) ≡ k) × Below 256 (setPlaces n wanted server (now totals) (now ranks) (setIn k set)) × (at + length (setPlaces n wanted server (now totals) (now ranks) (setIn k set)) ≤ length (now out)) ⌝ }
     ensures { λ r. ⌜ (r ≡ at + length (setPlaces n wanted server (now (totals .entry)) (now (ranks .entry)) (setIn k set))) × (now (out .exit) ≡ put at (setPlaces n wanted server (now (totals .entry)) (now (ranks .entry)) (setIn k set)) (now (out .entry))) ⌝ }
 {
@@ -141,7 +205,16 @@ fn write_set(n: usize, k: usize, wanted: usize, server: usize, totals: &[usize],
 }
 
 // Writes the places of all rows of the sets, which are given in order; each set is counted once its rows are written.
-fn write_sets(n: usize, k: usize, wanted: usize, server: usize, totals: &[usize], taken: &[usize], sets: &[u8], out: &mut [u8])
+fn write_sets(
+    n: usize,
+    k: usize,
+    wanted: usize,
+    server: usize,
+    totals: &[usize],
+    taken: &[usize],
+    sets: &[u8],
+    out: &mut [u8],
+)
     requires { ⌜ Asks n k wanted server × Tables n wanted (now totals) (now taken) × (now sets ≡ map byteOf (allSets k)) × Below 256 (setsPlaces n wanted server (now totals) noCounts (allSets k)) × (length (setsPlaces n wanted server (now totals) noCounts (allSets k)) ≤ length (now out)) ⌝ }
     ensures { λ _. ⌜ now (out .exit) ≡ put 0 (setsPlaces n wanted server (now (totals .entry)) noCounts (allSets k)) (now (out .entry)) ⌝ }
 {
@@ -151,7 +224,18 @@ fn write_sets(n: usize, k: usize, wanted: usize, server: usize, totals: &[usize]
     while i < sets.len() {
         let set = sets[i];
         let at = even_ranks::counters_of(wanted, set);
-        end = write_set(n, k, wanted, server, totals, taken, &counts[at..at + k], set, out, end);
+        end = write_set(
+            n,
+            k,
+            wanted,
+            server,
+            totals,
+            taken,
+            &counts[at..at + k],
+            set,
+            out,
+            end,
+        );
         even_ranks::count_set(k, wanted, set, &mut counts);
         i += 1;
     }
@@ -194,5 +278,11 @@ pub fn query(n: usize, k: usize, wanted: usize, server: usize, key: &[u8], out: 
     let messages = even_layout::positions(n, k);
     let places = places(n, k, wanted, server);
     let count = k * even_layout::power(n, k - 1);
-    look_up(even_layout::power(n, k), key, &messages[..count], &places[..count], out);
+    look_up(
+        even_layout::power(n, k),
+        key,
+        &messages[..count],
+        &places[..count],
+        out,
+    );
 }

@@ -87,8 +87,7 @@ write-sets-requires c κs =
     let table = c .before .before .before .before .before .before .before .before .ordered-sets in
     let size = sets-length (a .k) (c .before .before .before .before .before .before .before .power .result) (c .before .before .before .before .before .before .before .power .ensures) in
     let totals = c .before .before .before .before .before .totals in
-    let are = places-are (a .n) (a .k) (a .wanted) (a .server) p (totals .result) (totals .ensures) in
-    (
+    let are = places-are (a .n) (a .k) (a .wanted) (a .server) p (totals .result) (totals .ensures) in (
       p,
       record { long = ap length (totals .ensures) ∙ totals-length (a .k) (a .wanted) (p .bounds .messages-high); filled = c .before .before .before .takings .ensures },
       front-is (c .before .before .before .before .before .before .before .power .result - 1) (table .result) bytes more (table .ensures) size,

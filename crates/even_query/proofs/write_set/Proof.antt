@@ -65,8 +65,7 @@ origin-requires c κs =
     let asks = start .pre .0 in
     let stands = start .pre .2 in
     let many = stands-count (a .k) (a .set) stands in
-    let rows : at .before .rows-of .result ≡ (a .n - 1) ^ (ones A - 1) = at .before .rows-of .ensures ∙ ap (λ (m : ℕ). (a .n - 1) ^ (m - 1)) many in
-    (
+    let rows : at .before .rows-of .result ≡ (a .n - 1) ^ (ones A - 1) = at .before .rows-of .ensures ∙ ap (λ (m : ℕ). (a .n - 1) ^ (m - 1)) many in (
       asks .bounds .servers-low,
       asks .servers-high,
       asks .server-low,
@@ -94,8 +93,7 @@ write-row-requires c κs =
     let more = rows-more (a .n) (a .wanted) (a .server) (a .totals .now) (a .ranks .now) A i (omega (arith, rows)) in
     let small = rw more at (at .loop .inv .1) in
     let left = rw more at (at .loop .inv .2) in
-    let size = row-length (a .n) (a .wanted) (a .server) (a .totals .now) (a .ranks .now) A i in
-    (
+    let size = row-length (a .n) (a .wanted) (a .server) (a .totals .now) (a .ranks .now) A i in (
       start .pre .1,
       t .within,
       asks .bounds .messages-high,
@@ -129,8 +127,7 @@ loop-again c =
     let small = rw more at (at .loop .inv .1) in
     let left = rw more at (at .loop .inv .2) in
     let size = row-length (a .n) (a .wanted) (a .server) (a .totals .now) (a .ranks .now) A i in
-    let written = c .before .before .write-row .ensures in
-    (
+    let written = c .before .before .write-row .ensures in (
       omega arith,
       below-back 256 row rest small,
       pending-as (written .0 ∙ ap (λ (m : ℕ). at .loop .end + m) (sym size)) refl (rw (t .row) at (written .1)) (pending-part row rest left),

@@ -136,8 +136,7 @@ write-set-requires c κs =
     let more = sets-more (a .n) (a .wanted) (a .server) (a .totals .now) counts (allSets (a .k)) A i inside (here .1) in
     let small = rw more at (at .loop .inv .3) in
     let left = rw more at (at .loop .inv .4) in
-    let size = add-sub-cancel-left (from .result) (a .k) in
-    (
+    let size = add-sub-cancel-left (from .result) (a .k) in (
       asks,
       start .pre .1,
       here .0,
@@ -191,8 +190,7 @@ loop-again c =
     let small = rw more at (at .loop .inv .3) in
     let left = rw more at (at .loop .inv .4) in
     let next = c .before .count-set .ensures in
-    let written = c .before .before .before .before .before .write-set .ensures in
-    (
+    let written = c .before .before .before .before .before .write-set .ensures in (
       omega arith,
       ap length next ∙ counted-length (a .k) (a .wanted) (asks .bounds .messages-high) A counts (stands-set (a .k) byte (here .0)) (at .loop .inv .1),
       rw (next, add-one i) (counted-below (suc i) (a .wanted) A counts (at .loop .inv .2)),
