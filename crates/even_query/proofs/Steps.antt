@@ -1,17 +1,15 @@
 -- What the steps of a query rest on: a place read off the tables, a row's origin by its set's byte, and one row or set more.
-use Prim.Native.Nat.{ℕ, zero, suc, _+_, _-_, _*_, _/_, _%_, _^_, _≤_, _<_}
+use Prim.Native.Nat.{ℕ, suc, _+_, _-_, _*_, _/_, _%_, _^_, _≤_, _<_}
 use native.Mathlib.Nat.{zero-add, one-mul, mul-le-mul, one-le-pow, pow-succ', div-lt-iff-lt-mul}
-use native.Mathlib.Numerals.{add-one}
 use native.Mathlib.Omega.{arith}
 use mathlib.Core.Path.{_≡_, refl, sym, ap, ap₂, _∙_}
 use mathlib.Core.Bool.{Bool, true, false, cond, _&&_}
-use mathlib.Core.List.{List, [], _∷_, _++_, map, flatMap}
+use mathlib.Core.List.{List}
 use borrow.Author.Tests.{ltb-true}
 use lib.Arith.{digits-div, digits-mod}
 use lib.Count.{ones as count}
 use lib.Dec.{eqb, ltb}
-use lib.ListN.{length, getD, drop, length-map}
-use lib.Seq.{drop-cons}
+use lib.ListN.{length, getD, length-map}
 use Rattle.lists.specs.Ranges.{range}
 use Rattle.lists.specs.Sums.{bit}
 use Rattle.lists.proofs.Elements.{map-range-at}
@@ -19,8 +17,8 @@ use Rattle.even_places.specs.Sets.{has, ones}
 use Rattle.even_places.proofs.Bytes.{byte-has}
 use Rattle.even_places.proofs.Counts.{range-length}
 use Rattle.even_layout.specs.Layout.{setIn}
-use Rattle.even_ranks.specs.Counts.{Stands, takers, taken, takenTable, counted, countersOf}
-use Rattle.even_ranks.specs.Walk.{placeIn, plain, joined, isJoined, originOf, rowPlaces, setPlaces, setsPlaces}
+use Rattle.even_ranks.specs.Counts.{Stands, takers, taken, takenTable}
+use Rattle.even_ranks.specs.Walk.{placeIn, plain, joined, isJoined, originOf}
 use Rattle.even_ranks.proofs.Counters.{ones-most}
 use Rattle.even_ranks.proofs.Steps.{stands-count, setIn-length}
 use Rattle.even_query.specs.Query.{Tables, Within}

@@ -1,5 +1,5 @@
 -- The whole query: the places that are written are the rule's, and the key's entries for them are the query of the scheme.
-use Prim.Native.Nat.{ℕ, zero, suc, _+_, _-_, _*_, _^_, _≤_, _<_}
+use Prim.Native.Nat.{ℕ, suc, _-_, _*_, _^_, _≤_, _<_}
 use native.Mathlib.Omega.{arith}
 use mathlib.Core.Path.{_≡_, refl, sym, ap, ap₂, _∙_}
 use mathlib.Core.List.{List, [], _∷_, _++_, map, zipWith}
@@ -17,7 +17,7 @@ use Rattle.even_layout.proofs.Blocks.{all-length}
 use Rattle.even_layout.proofs.Tables.{positions-length, positions-room}
 use Rattle.even_ranks.specs.Counts.{noCounts, totalsOf}
 use Rattle.even_ranks.specs.Walk.{setsPlaces, walked}
-use Rattle.even_ranks.proofs.Walk.{walked-is, walked-length, walked-below}
+use Rattle.even_ranks.proofs.Walk.{walked-is, walked-below}
 use Rattle.even_query.specs.Query.{Asks, Keyed, entries}
 
 -- the entries for cells are the numbers that they stand for

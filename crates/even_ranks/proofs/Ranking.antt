@@ -1,16 +1,16 @@
 -- The counters before a set are its ranks, and the counters of all sets the numbers of places, in the closed forms of the rule.
-use Prim.Native.Nat.{ℕ, zero, suc, _+_, _-_, _*_, _^_, _≤_, _<_}
-use native.Mathlib.Nat.{mul-one, one-mul, mul-assoc, pow-zero, pow-succ'}
+use Prim.Native.Nat.{ℕ, zero, suc, _-_, _*_, _^_, _≤_, _<_}
+use native.Mathlib.Nat.{mul-assoc, pow-zero, pow-succ'}
 use native.Mathlib.Omega.{arith}
 use mathlib.Core.Path.{_≡_, refl, sym, ap, _∙_, fun-ext}
 use mathlib.Core.Logic.{_≢_}
-use mathlib.Core.List.{List, [], _∷_, _++_, map}
+use mathlib.Core.List.{List, _∷_, _++_, map}
 use mathlib.Core.Bool.{Bool, true, false, not, Bool·beq, _&&_}
 use lib.Dec.{eqb}
 use lib.ListN.{length, set, length-set, length-map}
 use lib.Seq.{getD-set-other}
 use borrow.Author.Tests.{eq-eqb}
-use Rattle.lists.specs.Sums.{bit, keep, keepIf, sum, All}
+use Rattle.lists.specs.Sums.{bit, keep, keepIf, sum}
 use Rattle.lists.proofs.Sums.{sum-append, sum-map, sum-ext, sum-all, sum-one, sum-keep, All-imp, All-keep, All-every}
 use Rattle.lists.proofs.Keep.{keep-and, sum-keep-most}
 use Rattle.even_places.specs.Sets.{has, ones, with, sets, allSets, alike}

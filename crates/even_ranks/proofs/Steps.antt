@@ -1,6 +1,6 @@
 -- One turn more of each loop: of counting a set's messages, and of adding up what was taken; and bounds on both.
 use Prim.Native.Nat.{ℕ, zero, suc, _+_, _-_, _*_, _/_, _%_, _^_, _≤_, _<_}
-use native.Mathlib.Nat.{add-zero, add-suc, suc-add, add-sub-cancel-left, mod-lt, sub-self, sub-zero, add-comm, not-suc-le-zero, le-of-suc-le-suc, mul-le-mul, pow-le-pow-left, pow-le-pow-right}
+use native.Mathlib.Nat.{add-zero, add-suc, suc-add, add-sub-cancel-left, mod-lt, sub-self, sub-zero, add-comm, not-suc-le-zero, mul-le-mul, pow-le-pow-left, pow-le-pow-right}
 use native.Mathlib.Numerals.{add-one}
 use native.Mathlib.Omega.{arith}
 use mathlib.Core.Path.{_≡_, refl, sym, ap, _∙_}

@@ -1,12 +1,12 @@
 -- The walk over the sets with counters writes the places of the rule: `walked-is`, for all N, K, k and servers.
-use Prim.Native.Nat.{ℕ, zero, suc, _+_, _-_, _*_, _^_, _≤_, _<_}
+use Prim.Native.Nat.{ℕ, suc, _+_, _-_, _^_, _≤_, _<_}
 use native.Mathlib.Nat.{zero-add, add-zero}
 use native.Mathlib.Omega.{arith}
 use native.Mathlib.Decide.{decLt}
 use mathlib.Core.Path.{_≡_, refl, sym, ap, ap₂, _∙_, subst, fun-ext}
 use mathlib.Core.List.{List, [], _∷_, _++_, map, append-assoc, flatMap}
 use mathlib.Core.Bool.{Bool, true, false, false≢true}
-use mathlib.Core.Option.{Option, none, some}
+use mathlib.Core.Option.{none, some}
 use lib.ListN.{length, getD, length-map, List·getD-map, List·getD-eq-default, getD-replicate}
 use Rattle.lists.specs.Below.{Below}
 use Rattle.lists.specs.Parts.{cut}
@@ -19,7 +19,7 @@ use Rattle.even_places.specs.Sets.{has, ones, members, sets, allSets}
 use Rattle.even_places.specs.Rule.{Row, isSome, same, ofSet, bySet, block, rows, cells, queryCells}
 use Rattle.even_places.proofs.SetLaws.{setOf, keep-sets, map-append, map-flatMap, flatMap-all}
 use Rattle.even_places.proofs.Counts.{sets-fit}
-use Rattle.even_places.proofs.Flat.{inside, query-length}
+use Rattle.even_places.proofs.Flat.{inside}
 use Rattle.even_places.proofs.Joined.{group-size}
 use Rattle.even_places.proofs.Positions.{group-length}
 use Rattle.even_layout.proofs.Tables.{IsSet, all-sets}
@@ -132,9 +132,6 @@ module _ (N K k n : ℕ) (wide : 1 < N) (wanted : k < K) (few : K ≤ 8) (server
       (ap placesIn rows-by-set
       ∙ ap (map (λ e. e .1)) (flatMap-flatMap (cells 0) ofOne (allSets K))
       ∙ map-flatMap (λ e. e .1) (λ A. flatMap (cells 0) (ofOne A)) (allSets K))
-
-  pub walked-length : length (walked N K k n) ≡ K * N ^ (K - 1)
-  walked-length = ap length walked-is ∙ length-map (queryCells N K k n) (λ e. e .1) ∙ query-length N K k wide wanted n server
 
   pub walked-below : Below (N ^ K) (walked N K k n)
   walked-below = rw walked-is (λ i h. rw (List·getD-map (λ e. e .1) (queryCells N K k n) i (0, 0)) (inside N K k wide wanted n i server (omega (arith, length-map (queryCells N K k n) (λ e. e .1))) .1))

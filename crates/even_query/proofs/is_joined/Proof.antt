@@ -1,5 +1,4 @@
 -- `even_query::is_joined` meets its contract: the shifted byte's lowest bit says whether the set has the wanted message.
-use mathlib.Core.Path.{_≡_, sym}
 use borrow.Author.Needs.{needs}
 use borrow.Author.Tests.{eq-eqb, ne-eqb}
 use Rattle.even_query.proofs.is_joined.Statement.{statement}

@@ -6,9 +6,8 @@ use native.Mathlib.Omega.{arith}
 use borrow.Author.Needs.{needs}
 use lib.ListN.{getD}
 use Rattle.even_places.specs.Rule.{others}
-use Rattle.even_ranks.specs.declared.Origin.{Origin}
 use Rattle.even_ranks.specs.Walk.{joined}
-use Rattle.even_query.proofs.Steps.{Before, rows-before}
+use Rattle.even_query.proofs.Steps.{rows-before}
 use Rattle.even_query.proofs.joined.Statement.{statement}
 use Rattle.even_query.proofs.joined.Tie as tie
 

@@ -1,10 +1,7 @@
 -- `even_query::look_up` meets its contract: after i turns the entries from i on are still to be written.
-use mathlib.Core.Path.{_≡_, refl, sym, ap, _∙_}
-use mathlib.Core.List.{List, []}
-use Prim.Native.Nat.{ℕ, _+_, _-_, _*_, _≤_, _<_}
+use Prim.Native.Nat.{_-_, _≤_}
 use native.Mathlib.Omega.{arith}
-use borrow.Author.Needs.{needs}
-use lib.ListN.{length, getD, drop}
+use lib.ListN.{length}
 use Rattle.lists.proofs.Writing.{Pending, pending-start, pending-byte, pending-done}
 use Rattle.even_query.specs.Query.{entries}
 use Rattle.even_query.proofs.Entries.{entriesFrom, entries-start, entries-more, entries-done, entries-length}

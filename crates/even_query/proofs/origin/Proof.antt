@@ -1,5 +1,4 @@
 -- `even_query::origin` meets its contract: each way gives its record.
-use mathlib.Core.Path.{_≡_, sym, _∙_}
 use borrow.Author.Needs.{needs}
 use Rattle.even_query.proofs.origin.Statement.{statement}
 use Rattle.even_query.proofs.origin.Tie as tie

@@ -1,6 +1,5 @@
 -- `even_query::other_server` meets its contract: below `server` the others are counted from 0, above it they are one further on.
 use native.Mathlib.Numerals.{add-one}
-use native.Mathlib.Omega.{arith}
 use mathlib.Core.Path.{sym, _∙_}
 use borrow.Author.Needs.{needs}
 use Rattle.even_places.proofs.Positions.{others-low, others-high}

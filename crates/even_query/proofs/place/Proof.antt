@@ -1,6 +1,4 @@
 -- `even_query::place` meets its contract: the wanted message's place is of the row's own block and turn, the others' of its source.
-use mathlib.Core.Path.{_≡_, sym, _∙_}
-use Prim.Native.Nat.{ℕ, _<_}
 use borrow.Author.Needs.{needs}
 use borrow.Author.Tests.{eq-eqb, ne-eqb}
 use Rattle.even_ranks.specs.Walk.{placeOf}

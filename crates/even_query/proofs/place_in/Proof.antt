@@ -1,10 +1,10 @@
 -- `even_query::place_in` meets its contract: it is the definition's sum, and no part of it is larger than the place.
-use mathlib.Core.Path.{_≡_, ap, _∙_}
-use Prim.Native.Nat.{ℕ, _+_, _*_, _<_}
+use mathlib.Core.Path.{ap, _∙_}
+use Prim.Native.Nat.{ℕ, _+_, _*_}
 use native.Mathlib.Omega.{arith}
 use borrow.Author.Needs.{needs}
 use lib.ListN.{length, getD}
-use Rattle.even_ranks.specs.Counts.{takers, takenTable}
+use Rattle.even_ranks.specs.Counts.{takers}
 use Rattle.even_query.proofs.Steps.{table-length, place-read, factor-small}
 use Rattle.even_query.proofs.place_in.Statement.{statement}
 use Rattle.even_query.proofs.place_in.Tie as tie

@@ -1,5 +1,5 @@
 -- `even_query::places` meets its contract: the walk over the sets in order, with the tables of their counts, writes the rule's places.
-use mathlib.Core.Path.{_≡_, sym, ap, _∙_}
+use mathlib.Core.Path.{sym, ap, _∙_}
 use mathlib.Core.List.{List, map}
 use Prim.Native.Nat.{ℕ, _-_}
 use native.Mathlib.Omega.{arith}

@@ -1,8 +1,7 @@
 -- `even_query::plain` meets its contract: it is the record that the definition is.
-use mathlib.Core.Path.{_≡_, ap}
+use mathlib.Core.Path.{ap}
 use Prim.Native.Nat.{ℕ, _-_}
 use borrow.Author.Needs.{needs}
-use Rattle.even_ranks.specs.declared.Origin.{Origin}
 use Rattle.even_ranks.specs.Walk.{plain}
 use Rattle.even_query.proofs.plain.Statement.{statement}
 use Rattle.even_query.proofs.plain.Tie as tie

@@ -1,5 +1,5 @@
 -- `even_query::query` meets its contract: the entries for the messages and places of the rule are the scheme's query.
-use mathlib.Core.Path.{_≡_, sym, ap, ap₂, _∙_}
+use mathlib.Core.Path.{_≡_, sym, ap, _∙_}
 use mathlib.Core.List.{List, map}
 use Prim.Native.Nat.{ℕ, _-_, _*_, _^_, _≤_}
 use native.Mathlib.Nat.{pow-le-pow-right}
@@ -8,7 +8,6 @@ use borrow.Author.Needs.{needs}
 use lib.ListN.{length, replicate}
 use Rattle.lists.specs.Parts.{put}
 use Rattle.even_places.specs.Rule.{queryCells, positions}
-use Rattle.even_query.specs.Query.{Keyed, entries}
 use Rattle.even_query.proofs.Whole.{places-length, messages-length, query-room, keyed, entries-are, front-is, front-fits}
 use Rattle.even_query.proofs.query.Statement.{statement}
 use Rattle.even_query.proofs.query.Tie as tie

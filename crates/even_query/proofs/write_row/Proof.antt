@@ -1,11 +1,11 @@
 -- `even_query::write_row` meets its contract: after p turns the places of the set's messages from p on are still to be written.
-use mathlib.Core.Path.{_≡_, refl, sym, ap, _∙_}
+use mathlib.Core.Path.{_≡_, refl, ap, _∙_}
 use mathlib.Core.Logic.{⊎-elim}
 use mathlib.Core.List.{List, map}
-use Prim.Native.Nat.{ℕ, suc, _+_, _-_, _≤_, _<_}
+use Prim.Native.Nat.{ℕ, suc, _-_, _≤_}
 use native.Mathlib.Nat.{sub-zero}
 use native.Mathlib.Omega.{arith}
-use lib.ListN.{length, set, length-map}
+use lib.ListN.{set, length-map}
 use Rattle.lists.specs.Below.{Below}
 use Rattle.lists.proofs.Writing.{Pending, pending-start, pending-byte, pending-as, pending-ends, pending-done}
 use Rattle.even_places.specs.Sets.{members}

@@ -1,17 +1,15 @@
 -- `even_query::write_set` meets its contract: after i turns the places of the rows from i on are still to be written.
 use mathlib.Core.Path.{_≡_, refl, sym, ap, _∙_}
-use mathlib.Core.Bool.{true}
-use mathlib.Core.List.{List, _++_}
-use Prim.Native.Nat.{ℕ, _+_, _-_, _/_, _%_, _^_, _≤_, _<_}
+use Prim.Native.Nat.{ℕ, _+_, _-_, _/_, _%_, _^_, _≤_}
 use native.Mathlib.Omega.{arith}
 use borrow.Author.Needs.{needs}
 use lib.Count.{ones as count, ones-le}
 use lib.Dec.{eqb}
-use lib.ListN.{length, length-append}
+use lib.ListN.{length-append}
 use Rattle.lists.specs.Below.{Below}
 use Rattle.lists.proofs.Reading.{below-front, below-back}
 use Rattle.lists.proofs.Writing.{Pending, pending-start, pending-part, pending-as, pending-ends, pending-done}
-use Rattle.even_places.specs.Sets.{ones, members}
+use Rattle.even_places.specs.Sets.{ones}
 use Rattle.even_layout.specs.Layout.{setIn}
 use Rattle.even_ranks.specs.Walk.{rowPlaces, setPlaces}
 use Rattle.even_ranks.proofs.Steps.{stands-count}

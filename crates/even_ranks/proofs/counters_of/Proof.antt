@@ -1,9 +1,8 @@
 -- `even_ranks::counters_of` meets its contract: the shifted byte's lowest bit says whether the set has the wanted message.
-use Prim.Native.Nat.{ℕ, _+_, _-_, _*_, _/_, _%_, _^_}
 use native.Mathlib.Omega.{arith}
 use borrow.Author.Needs.{needs}
 use borrow.Author.Tests.{eq-eqb, ne-eqb}
-use lib.Count.{ones, ones-le}
+use lib.Count.{ones-le}
 use Rattle.lists.specs.Sums.{bit}
 use Rattle.even_ranks.specs.Counts.{counter}
 use Rattle.even_ranks.proofs.counters_of.Statement.{statement}
