@@ -14,3 +14,4 @@ pub mod SourceRows
 pub mod Lexicographic
 pub mod Flat
 pub mod Process
+pub mod Ranked

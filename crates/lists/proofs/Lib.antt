@@ -18,6 +18,8 @@ pub mod Pairs
 pub mod Each
 pub mod Marks
 pub mod Passes
+pub mod Reading
+pub mod Keep
 pub mod Writing
 pub mod Flat
 pub mod Elements
