@@ -18,7 +18,7 @@ use Rattle.even_places.specs.Sets.{has, ones, sets, allSets, alike}
 use Rattle.even_places.proofs.SetLaws.{keep-append, keep-nothing, keep-flatMap, map-append}
 use Rattle.even_places.proofs.Counts.{sets-fit, sets-zero, has-none}
 use Rattle.even_places.proofs.Order.{range-append}
-use Rattle.even_places.proofs.Flat.{eqb-self, eqb-not}
+use borrow.Author.Tests.{eq-eqb, ne-eqb}
 use Rattle.even_places.proofs.Closed.{before, beforeIf}
 
 -- ---- The sets with k, without it
@@ -97,7 +97,7 @@ of-block K b h =
     ∙ ap (flatMap g) whole
     ∙ flatMap-append g (range 0 b) (b ∷ range (suc b) (K - suc b))
     ∙ rw (flatMap-nothing g (low 0 b (λ i l e. absurd (omega arith))), flatMap-nothing g (low (suc b) (K - suc b) (λ i l e. absurd (omega arith))), append-nil (g b))
-    (keep-all t (All-imp (λ A f. ap (eqb (suc b)) (f .1) ∙ eqb-self (suc b)) (sets-fit K (suc b))))
+    (keep-all t (All-imp (λ A f. ap (eqb (suc b)) (f .1) ∙ eq-eqb (suc b) (suc b) refl) (sets-fit K (suc b))))
   where
     t : List Bool → Bool
     t A = eqb (suc b) (ones A)
@@ -106,7 +106,7 @@ of-block K b h =
     g j = keep t (sets K (suc j))
 
     other : (j : ℕ) → j ≢ b → g j ≡ []
-    other j d = keep-nothing t (All-imp (λ A f. ap (eqb (suc b)) (f .1) ∙ eqb-not (suc b) (suc j) (λ e. d (omega arith))) (sets-fit K (suc j)))
+    other j d = keep-nothing t (All-imp (λ A f. ap (eqb (suc b)) (f .1) ∙ ne-eqb (suc b) (suc j) (λ e. d (omega arith))) (sets-fit K (suc j)))
 
     low : (a n : ℕ) → ((i : ℕ) → i < n → a + i ≢ b) → All (λ j. g j ≡ []) (range a n)
     low a zero d = allNil
