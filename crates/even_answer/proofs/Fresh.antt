@@ -16,7 +16,7 @@ use Rattle.lists.specs.Below.{allBelow, Below}
 use Rattle.lists.specs.Distinct.{stands, distinct}
 use Rattle.lists.specs.Ranges.{every}
 use Rattle.lists.specs.Sums.{keep, keepIf}
-use Rattle.lists.proofs.Every.{every-true, every-one}
+use Rattle.lists.proofs.EveryOne.{every-always, every-one}
 use Rattle.lists.proofs.Marks.{unmarked, unmarked-blank, unmarked-set}
 use Rattle.even_answer.specs.Answering.{cellOf}
 
@@ -97,8 +97,8 @@ stands-cell size q x (r ∷ messages) (y ∷ numbers) h b =
 pub distinct-cells : (size K : ℕ) (messages numbers : List ℕ) → Below K messages → Below size numbers
     → distinct (zipWith (cellOf size) messages numbers) ≡ every K (λ p. distinct (named p messages numbers))
 unfolding distinct named zip zipWith keep keepIf
-distinct-cells size K [] numbers m b = sym (every-true K)
-distinct-cells size K (q ∷ messages) [] m b = sym (every-true K)
+distinct-cells size K [] numbers m b = sym (every-always K)
+distinct-cells size K (q ∷ messages) [] m b = sym (every-always K)
 distinct-cells size K (q ∷ messages) (x ∷ numbers) m b =
     ap₂ (λ (s t : Bool). not s && t)
     (stands-cell size q x messages numbers (b 0 (omega arith)) below)

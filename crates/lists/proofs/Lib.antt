@@ -5,4 +5,4 @@ pub mod Writing
 pub mod Flat
 pub mod Elements
 pub mod Marks
-pub mod Every
+pub mod EveryOne

@@ -15,10 +15,10 @@ unfolding every
 every-ext zero f g e = refl
 every-ext (suc count) f g e = ap₂ (λ (a b : Bool). a && b) (every-ext count f g (λ p h. e p (omega arith))) (e count (omega arith))
 
-pub every-true : (count : ℕ) → every count (λ p. true) ≡ true
+pub every-always : (count : ℕ) → every count (λ p. true) ≡ true
 unfolding every
-every-true zero = refl
-every-true (suc count) = rw (every-true count)
+every-always zero = refl
+every-always (suc count) = rw (every-always count)
 
 -- f is g but at q, where it asks t besides
 pub every-one : (count q : ℕ) (t : Bool) (f g : ℕ → Bool) → q < count → f q ≡ t && g q → ((p : ℕ) → p ≢ q → f p ≡ g p)
