@@ -29,4 +29,4 @@ pub mod SumsAt
 pub mod Ordered
 pub mod Kept
 pub mod Rests
-pub mod EveryOther
+pub mod EveryOne
