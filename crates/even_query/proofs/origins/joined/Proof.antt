@@ -1,4 +1,4 @@
--- `even_query::joined` meets its contract: it is the record that the definition is, with the rows of the block before.
+-- `even_query::origins::joined` meets its contract: it is the record that the definition is, with the rows of the block before.
 use mathlib.Core.Path.{_≡_, ap, _∙_}
 use Prim.Native.Nat.{ℕ, _+_, _-_, _*_, _/_, _%_, _^_, _≤_, _<_}
 use native.Mathlib.Nat.{mul-le-mul}
@@ -8,8 +8,8 @@ use lib.ListN.{getD}
 use Rattle.even_places.specs.Rule.{others}
 use Rattle.even_ranks.specs.Walk.{joined}
 use Rattle.even_query.proofs.Steps.{rows-before}
-use Rattle.even_query.proofs.joined.Statement.{statement}
-use Rattle.even_query.proofs.joined.Tie as tie
+use Rattle.even_query.proofs.origins.joined.Statement.{statement}
+use Rattle.even_query.proofs.origins.joined.Tie as tie
 
 sub-power : tie.Need-sub-power
 sub-power c = search needs
