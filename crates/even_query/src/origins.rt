@@ -1,6 +1,5 @@
 // Where a row of an even query comes from: all its messages take their next places, or it is joined from another server's row.
 use even_ranks::Origin;
-
 ghost use mathlib.Core.Path.{_≡_};
 ghost use mathlib.Core.Bool.{true, cond, _&&_};
 ghost use Prim.Native.Nat.{_-_, _/_, _%_, _^_, _≤_, _<_};
