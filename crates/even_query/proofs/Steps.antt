@@ -40,8 +40,22 @@ unfolding placeIn
 place-read N k b p rows turn rank number totals table t hb hp =
     ap (λ s. N * s + rows * (turn * takers k totals b p + rank) + number) (ap (λ l. getD l (b * 8 + p) 0) (t .filled) ∙ table-at N k b p totals hb hp)
 
-pub factor-small : (rows x : ℕ) → 1 ≤ rows → x ≤ rows * x
+factor-small : (rows x : ℕ) → 1 ≤ rows → x ≤ rows * x
 factor-small rows x h = omega (arith, one-mul x, mul-le-mul h (let w : x ≤ x = omega arith in w))
+
+-- no part of a small place is larger
+pub record Parts (N t rows turn T rank number : ℕ) : Type 0 where
+  pub first : N * t < 256
+  pub turns : turn * T < 256
+  pub sets : turn * T + rank < 256
+  pub scaled : rows * (turn * T + rank) < 256
+  pub sum : N * t + rows * (turn * T + rank) < 256
+  pub whole : N * t + rows * (turn * T + rank) + number < 256
+
+pub parts : (N t rows turn T rank number : ℕ) → 1 ≤ rows → N * t + rows * (turn * T + rank) + number < 256 → Parts N t rows turn T rank number
+parts N t rows turn T rank number h small =
+    let scaled = factor-small rows (turn * T + rank) h in
+    record { first = omega arith; turns = omega arith; sets = omega arith; scaled = omega arith; sum = omega arith; whole = small }
 
 -- the rows of the block before, of a set of m messages, and which of the other servers row i is joined from
 pub record Before (N m i : ℕ) : Type 0 where

@@ -1,11 +1,11 @@
 // A server's query of the even code (source 003, section IV-B): its places, row by row in one pass over the sets, and the key's entries for them.
 use even_ranks::Origin;
+
+mod origins;
+
 ghost use mathlib.Core.Path.{_≡_};
-ghost use mathlib.Core.Bool.{true, cond, _&&_};
 ghost use mathlib.Core.List.{map};
-ghost use Prim.Native.Nat.{_+_, _-_, _*_, _/_, _%_, _^_, _≤_, _<_};
-ghost use lib.Count.{ones as count};
-ghost use lib.Dec.{eqb, ltb};
+ghost use Prim.Native.Nat.{_+_, _-_, _*_, _^_, _≤_, _<_};
 ghost use lib.ListN.{length};
 ghost use Rattle.lists.specs.Below.{Below};
 ghost use Rattle.lists.specs.Padded.{padded};
@@ -15,73 +15,8 @@ ghost use Rattle.even_places.specs.Rule.{queryCells};
 ghost use Rattle.even_scheme.specs.Even.{evenQuery};
 ghost use Rattle.even_layout.specs.Layout.{setIn};
 ghost use Rattle.even_ranks.specs.Counts.{Stands, noCounts};
-ghost use Rattle.even_ranks.specs.Walk.{placeIn, placeOf, «plain» as plainOf, «joined» as joinedOf, setPlaces, setsPlaces};
-ghost use Rattle.even_query.specs.Query.{Asks, IsOther, Tables, Within, Keyed, entries};
-
-// The one numbered `other` of the servers that are not `server`, in ascending order.
-fn other_server(server: usize, other: usize) -> usize
-    requires { ⌜ other < 16 ⌝ }
-    ensures { λ r. ⌜ IsOther server other r ⌝ }
-{
-    if other < server {
-        return other;
-    }
-    other + 1
-}
-
-// Where a row comes from: the one numbered i of a set of `ones` messages, all of which take their next places.
-fn plain(n: usize, server: usize, ones: usize, i: usize) -> Origin
-    requires { ⌜ (1 ≤ n) × (1 ≤ ones) × ((n - 1) ^ (ones - 1) ≤ 256) ⌝ }
-    ensures { λ r. ⌜ r ≡ plainOf n server ones i ⌝ }
-{
-    let rows = even_layout::power(n - 1, ones - 1);
-    Origin {
-        block: ones - 1,
-        source: ones - 1,
-        rows,
-        turn: server,
-        server,
-        number: i,
-    }
-}
-
-// The same of a row that is joined from another server's.
-fn joined(n: usize, server: usize, ones: usize, i: usize) -> Origin
-    requires { ⌜ (2 ≤ n) × (n ≤ 16) × (server < n) × (2 ≤ ones) × (i < (n - 1) ^ (ones - 1)) × ((n - 1) ^ (ones - 1) ≤ 256) ⌝ }
-    ensures { λ r. ⌜ r ≡ joinedOf n server ones i ⌝ }
-{
-    let rows = even_layout::power(n - 1, ones - 2);
-    let other = i / rows;
-    Origin {
-        block: ones - 1,
-        source: ones - 2,
-        rows,
-        turn: server * (n - 1) + other,
-        server: other_server(server, other),
-        number: i % rows,
-    }
-}
-
-// Whether a set's rows are joined: it has the wanted message and another.
-fn is_joined(wanted: usize, set: u8) -> bool
-    requires { ⌜ wanted < 8 ⌝ }
-    ensures { λ r. ⌜ r ≡ eqb (set / 2 ^ wanted % 2) 1 && ltb 1 (count set) ⌝ }
-{
-    if (set >> wanted) % 2 == 1 {
-        return 1 < u8::count_ones(set);
-    }
-    false
-}
-
-fn origin(n: usize, server: usize, joins: bool, ones: usize, i: usize) -> Origin
-    requires { ⌜ (2 ≤ n) × (n ≤ 16) × (server < n) × (1 ≤ ones) × (joins ≡ true → 2 ≤ ones) × (i < (n - 1) ^ (ones - 1)) × ((n - 1) ^ (ones - 1) ≤ 256) ⌝ }
-    ensures { λ r. ⌜ r ≡ cond joins (joinedOf n server ones i) (plainOf n server ones i) ⌝ }
-{
-    if joins {
-        return joined(n, server, ones, i);
-    }
-    plain(n, server, ones, i)
-}
+ghost use Rattle.even_ranks.specs.Walk.{placeIn, placeOf, setPlaces, setsPlaces};
+ghost use Rattle.even_query.specs.Query.{Asks, Tables, Within, Keyed, entries};
 
 // The place of message p in a row of one block, by whose turn it is, its set's rank and its number in the set.
 fn place_in(
@@ -192,12 +127,12 @@ fn write_set(
     ensures { λ r. ⌜ (r ≡ at + length (setPlaces n wanted server (now (totals .entry)) (now (ranks .entry)) (setIn k set))) × (now (out .exit) ≡ put at (setPlaces n wanted server (now (totals .entry)) (now (ranks .entry)) (setIn k set)) (now (out .entry))) ⌝ }
 {
     let ones = u8::count_ones(set) as usize;
-    let joins = is_joined(wanted, set);
+    let joins = origins::is_joined(wanted, set);
     let rows = even_layout::rows_of(n, set);
     let mut end = at;
     let mut i = 0;
     while i < rows {
-        let o = origin(n, server, joins, ones, i);
+        let o = origins::origin(n, server, joins, ones, i);
         end = write_row(n, k, wanted, totals, taken, ranks, o, set, out, end);
         i += 1;
     }

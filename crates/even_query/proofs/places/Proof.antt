@@ -1,10 +1,10 @@
 -- `even_query::places` meets its contract: the walk over the sets in order, with the tables of their counts, writes the rule's places.
-use mathlib.Core.Path.{sym, ap, _∙_}
+use mathlib.Core.Path.{_≡_, sym, ap, _∙_}
 use mathlib.Core.List.{List, map}
 use Prim.Native.Nat.{ℕ, _-_}
 use native.Mathlib.Omega.{arith}
 use borrow.Author.Needs.{needs}
-use lib.ListN.{length, replicate}
+use lib.ListN.{length, take, replicate}
 use Rattle.lists.specs.Parts.{put}
 use Rattle.lists.proofs.Writing.{put-padded}
 use Rattle.even_places.specs.Sets.{byteOf, allSets}
@@ -14,6 +14,21 @@ use Rattle.even_ranks.proofs.Steps.{totals-length, totals-below}
 use Rattle.even_query.proofs.Whole.{places-are, places-below, places-length, query-room, front-is, front-fits, sets-length}
 use Rattle.even_query.proofs.places.Statement.{statement}
 use Rattle.even_query.proofs.places.Tie as tie
+
+-- the first sets of the table are all sets
+bytesOf : tie.After-power → List ℕ
+bytesOf c = map byteOf (allSets (c .before .before .args .k))
+
+moreOf : tie.After-power → List ℕ
+moreOf c = replicate (256 - length (allSets (c .before .before .args .k))) 0
+
+sets-many : (c : tie.After-power) → length (bytesOf c) ≡ c .power .result - 1
+unfolding bytesOf
+sets-many c = sets-length (c .before .before .args .k) (c .power .result) (c .power .ensures)
+
+sets-front : (c : tie.After-power) → take (c .power .result - 1) (c .before .ordered-sets .result) ≡ map byteOf (allSets (c .before .before .args .k))
+unfolding bytesOf moreOf
+sets-front c = front-is (c .power .result - 1) (c .before .ordered-sets .result) (bytesOf c) (moreOf c) (c .before .ordered-sets .ensures) (sets-many c)
 
 ordered-sets-requires : tie.Need-ordered-sets-requires
 ordered-sets-requires c κs = search needs
@@ -25,37 +40,17 @@ sub-count : tie.Need-sub-count
 sub-count c = omega (arith, c .power .ensures, all-length (c .before .before .args .k))
 
 array-share-prefix-table : tie.Need-array-share-prefix-table
-array-share-prefix-table c =
-    let start = c .before .before in
-    let a = start .args in
-    let p = start .pre in
-    let bytes = map byteOf (allSets (a .k)) in
-    let more = replicate {A = ℕ} (256 - length (allSets (a .k))) 0 in
-    let table = c .before .ordered-sets in
-    let size = sets-length (a .k) (c .power .result) (c .power .ensures) in
-    front-fits (c .power .result - 1) (table .result) bytes more (table .ensures) size
+unfolding bytesOf moreOf
+array-share-prefix-table c = front-fits (c .power .result - 1) (c .before .ordered-sets .result) (bytesOf c) (moreOf c) (c .before .ordered-sets .ensures) (sets-many c)
 
 slice-aggregate-sets : tie.Need-slice-aggregate-sets
-slice-aggregate-sets c =
-    let start = c .before .before .before in
-    let a = start .args in
-    let p = start .pre in
-    let bytes = map byteOf (allSets (a .k)) in
-    let more = replicate {A = ℕ} (256 - length (allSets (a .k))) 0 in
-    let table = c .before .before .ordered-sets in
-    let size = sets-length (a .k) (c .before .power .result) (c .before .power .ensures) in
-    sym (ap length (front-is (c .before .power .result - 1) (table .result) bytes more (table .ensures) size) ∙ size)
+unfolding bytesOf
+slice-aggregate-sets c = sym (ap length (sets-front (c .before)) ∙ sets-many (c .before))
 
 totals-requires : tie.Need-totals-requires
 totals-requires c κs =
-    let start = c .before .before .before in
-    let a = start .args in
-    let p = start .pre in
-    let bytes = map byteOf (allSets (a .k)) in
-    let more = replicate {A = ℕ} (256 - length (allSets (a .k))) 0 in
-    let table = c .before .before .ordered-sets in
-    let size = sets-length (a .k) (c .before .power .result) (c .before .power .ensures) in
-    (p .bounds .messages-high, p .message, front-is (c .before .power .result - 1) (table .result) bytes more (table .ensures) size)
+    let p = c .before .before .before .pre in
+    (p .bounds .messages-high, p .message, sets-front (c .before))
 
 slice-aggregate-takings : tie.Need-slice-aggregate-takings
 slice-aggregate-takings c = search needs
@@ -79,18 +74,14 @@ slice-aggregate-write-sets-3 c = search needs
 
 write-sets-requires : tie.Need-write-sets-requires
 write-sets-requires c κs =
-    let start = c .before .before .before .before .before .before .before .before .before in
-    let a = start .args in
-    let p = start .pre in
-    let bytes = map byteOf (allSets (a .k)) in
-    let more = replicate {A = ℕ} (256 - length (allSets (a .k))) 0 in
-    let table = c .before .before .before .before .before .before .before .before .ordered-sets in
-    let size = sets-length (a .k) (c .before .before .before .before .before .before .before .power .result) (c .before .before .before .before .before .before .before .power .ensures) in
+    let power = c .before .before .before .before .before .before .before in
     let totals = c .before .before .before .before .before .totals in
+    let a = power .before .before .args in
+    let p = power .before .before .pre in
     let are = places-are (a .n) (a .k) (a .wanted) (a .server) p (totals .result) (totals .ensures) in (
       p,
       record { long = ap length (totals .ensures) ∙ totals-length (a .k) (a .wanted) (p .bounds .messages-high); filled = c .before .before .before .takings .ensures },
-      front-is (c .before .before .before .before .before .before .before .power .result - 1) (table .result) bytes more (table .ensures) size,
+      sets-front power,
       rw are (places-below (a .n) (a .k) (a .wanted) (a .server) p),
       rw are (omega (arith, places-length (a .n) (a .k) (a .wanted) (a .server) p, query-room (a .n) (a .k) (a .wanted) (a .server) p)),
     )

@@ -5,12 +5,44 @@ use Prim.Native.Nat.{ℕ, _-_, _*_, _^_, _≤_}
 use native.Mathlib.Nat.{pow-le-pow-right}
 use native.Mathlib.Omega.{arith}
 use borrow.Author.Needs.{needs}
-use lib.ListN.{length, replicate}
+use lib.ListN.{length, take, replicate}
 use Rattle.lists.specs.Parts.{put}
 use Rattle.even_places.specs.Rule.{queryCells, positions}
 use Rattle.even_query.proofs.Whole.{places-length, messages-length, query-room, keyed, entries-are, front-is, front-fits}
 use Rattle.even_query.proofs.query.Statement.{statement}
 use Rattle.even_query.proofs.query.Tie as tie
+
+abbrev begin : tie.After-power → tie.Start
+begin c = c .before .before .before .before .before
+
+-- the messages and the places of the rule, and how many of each there are
+abbrev messagesOf : tie.Start → List ℕ
+messagesOf s = positions (s .args .n) (s .args .k)
+
+abbrev placesOf : tie.Start → List ℕ
+placesOf s = map (λ cell. cell .1) (queryCells (s .args .n) (s .args .k) (s .args .wanted) (s .args .server))
+
+abbrev countOf : tie.After-power → ℕ
+countOf c = begin c .args .k * c .power .result
+
+count-is : (c : tie.After-power) → countOf c ≡ begin c .args .k * begin c .args .n ^ (begin c .args .k - 1)
+count-is c = ap (λ (x : ℕ). begin c .args .k * x) (c .power .ensures)
+
+messages-many : (c : tie.After-power) → length (messagesOf (begin c)) ≡ countOf c
+messages-many c = let a = begin c .args in messages-length (a .n) (a .k) (a .wanted) (a .server) (begin c .pre .0) ∙ sym (count-is c)
+
+places-many : (c : tie.After-power) → length (placesOf (begin c)) ≡ countOf c
+places-many c = let a = begin c .args in places-length (a .n) (a .k) (a .wanted) (a .server) (begin c .pre .0) ∙ sym (count-is c)
+
+messages-front : (c : tie.After-power) → take (countOf c) (c .before .before .positions .result) ≡ messagesOf (begin c)
+messages-front c =
+    front-is (countOf c) (c .before .before .positions .result) (messagesOf (begin c)) (replicate (1024 - length (messagesOf (begin c))) 0)
+    (c .before .before .positions .ensures) (messages-many c)
+
+places-front : (c : tie.After-power) → take (countOf c) (c .before .places .result) ≡ placesOf (begin c)
+places-front c =
+    front-is (countOf c) (c .before .places .result) (placesOf (begin c)) (replicate (1024 - length (placesOf (begin c))) 0)
+    (c .before .places .ensures) (places-many c)
 
 positions-requires : tie.Need-positions-requires
 positions-requires c κs = search needs
@@ -24,136 +56,55 @@ sub-power c = search needs
 power-requires : tie.Need-power-requires
 power-requires c κs =
     let start = c .before .before .before .before in
+    let a = start .args in
     let p = start .pre .0 in
-    let less : start .args .n ^ (start .args .k - 1) ≤ start .args .n ^ start .args .k = pow-le-pow-right {n = start .args .n} (omega (arith, p .bounds .servers-low)) (omega arith) in
+    let less : a .n ^ (a .k - 1) ≤ a .n ^ a .k = pow-le-pow-right {n = a .n} (omega (arith, p .bounds .servers-low)) (omega arith) in
     omega (arith, p .bounds .symbols-high)
 
 mul-count : tie.Need-mul-count
 mul-count c =
-    let start = c .before .before .before .before .before in
-    let a = start .args in
-    let p = start .pre .0 in
-    let messages = positions (a .n) (a .k) in
-    let places = map (λ cell. cell .1) (queryCells (a .n) (a .k) (a .wanted) (a .server)) in
-    let long = messages-length (a .n) (a .k) (a .wanted) (a .server) p in
-    let many = places-length (a .n) (a .k) (a .wanted) (a .server) p in
-    let size : a .k * c .power .result ≡ a .k * a .n ^ (a .k - 1) = ap (λ (x : ℕ). a .k * x) (c .power .ensures) in
-    omega (arith, size, query-room (a .n) (a .k) (a .wanted) (a .server) p)
+    let a = begin c .args in
+    omega (arith, count-is c, query-room (a .n) (a .k) (a .wanted) (a .server) (begin c .pre .0))
 
 power-requires-2 : tie.Need-power-requires-2
-power-requires-2 c κs =
-    let start = c .before .before .before .before .before in
-    omega (arith, start .pre .0 .bounds .symbols-high)
+power-requires-2 c κs = omega (arith, begin c .pre .0 .bounds .symbols-high)
 
 array-share-prefix-messages : tie.Need-array-share-prefix-messages
 array-share-prefix-messages c =
-    let start = c .before .before .before .before .before .before in
-    let a = start .args in
-    let p = start .pre .0 in
-    let messages = positions (a .n) (a .k) in
-    let places = map (λ cell. cell .1) (queryCells (a .n) (a .k) (a .wanted) (a .server)) in
-    let long = messages-length (a .n) (a .k) (a .wanted) (a .server) p in
-    let many = places-length (a .n) (a .k) (a .wanted) (a .server) p in
-    let size : a .k * c .before .power .result ≡ a .k * a .n ^ (a .k - 1) = ap (λ (x : ℕ). a .k * x) (c .before .power .ensures) in
-    let count = a .k * c .before .power .result in
-    let table = c .before .before .before .positions in
-    let list = c .before .before .places in
-    let more = replicate {A = ℕ} (1024 - length messages) 0 in
-    let rest = replicate {A = ℕ} (1024 - length places) 0 in
-    front-fits count (table .result) messages more (table .ensures) (long ∙ sym size)
+    let p = c .before in
+    front-fits (countOf p) (p .before .before .positions .result) (messagesOf (begin p)) (replicate (1024 - length (messagesOf (begin p))) 0)
+    (p .before .before .positions .ensures) (messages-many p)
 
 slice-aggregate-look-up : tie.Need-slice-aggregate-look-up
-slice-aggregate-look-up c =
-    let start = c .before .before .before .before .before .before .before in
-    let a = start .args in
-    let p = start .pre .0 in
-    let messages = positions (a .n) (a .k) in
-    let places = map (λ cell. cell .1) (queryCells (a .n) (a .k) (a .wanted) (a .server)) in
-    let long = messages-length (a .n) (a .k) (a .wanted) (a .server) p in
-    let many = places-length (a .n) (a .k) (a .wanted) (a .server) p in
-    let size : a .k * c .before .before .power .result ≡ a .k * a .n ^ (a .k - 1) = ap (λ (x : ℕ). a .k * x) (c .before .before .power .ensures) in
-    let count = a .k * c .before .before .power .result in
-    let table = c .before .before .before .before .positions in
-    let list = c .before .before .before .places in
-    let more = replicate {A = ℕ} (1024 - length messages) 0 in
-    let rest = replicate {A = ℕ} (1024 - length places) 0 in
-    sym (ap length (front-is count (table .result) messages more (table .ensures) (long ∙ sym size)) ∙ long ∙ sym size)
+slice-aggregate-look-up c = sym (ap length (messages-front (c .before .before)) ∙ messages-many (c .before .before))
 
 array-share-prefix-places : tie.Need-array-share-prefix-places
 array-share-prefix-places c =
-    let start = c .before .before .before .before .before .before .before in
-    let a = start .args in
-    let p = start .pre .0 in
-    let messages = positions (a .n) (a .k) in
-    let places = map (λ cell. cell .1) (queryCells (a .n) (a .k) (a .wanted) (a .server)) in
-    let long = messages-length (a .n) (a .k) (a .wanted) (a .server) p in
-    let many = places-length (a .n) (a .k) (a .wanted) (a .server) p in
-    let size : a .k * c .before .before .power .result ≡ a .k * a .n ^ (a .k - 1) = ap (λ (x : ℕ). a .k * x) (c .before .before .power .ensures) in
-    let count = a .k * c .before .before .power .result in
-    let table = c .before .before .before .before .positions in
-    let list = c .before .before .before .places in
-    let more = replicate {A = ℕ} (1024 - length messages) 0 in
-    let rest = replicate {A = ℕ} (1024 - length places) 0 in
-    front-fits count (list .result) places rest (list .ensures) (many ∙ sym size)
+    let p = c .before .before in
+    front-fits (countOf p) (p .before .places .result) (placesOf (begin p)) (replicate (1024 - length (placesOf (begin p))) 0)
+    (p .before .places .ensures) (places-many p)
 
 slice-aggregate-look-up-2 : tie.Need-slice-aggregate-look-up-2
-slice-aggregate-look-up-2 c =
-    let start = c .before .before .before .before .before .before .before .before in
-    let a = start .args in
-    let p = start .pre .0 in
-    let messages = positions (a .n) (a .k) in
-    let places = map (λ cell. cell .1) (queryCells (a .n) (a .k) (a .wanted) (a .server)) in
-    let long = messages-length (a .n) (a .k) (a .wanted) (a .server) p in
-    let many = places-length (a .n) (a .k) (a .wanted) (a .server) p in
-    let size : a .k * c .before .before .before .power .result ≡ a .k * a .n ^ (a .k - 1) = ap (λ (x : ℕ). a .k * x) (c .before .before .before .power .ensures) in
-    let count = a .k * c .before .before .before .power .result in
-    let table = c .before .before .before .before .before .positions in
-    let list = c .before .before .before .before .places in
-    let more = replicate {A = ℕ} (1024 - length messages) 0 in
-    let rest = replicate {A = ℕ} (1024 - length places) 0 in
-    sym (ap length (front-is count (list .result) places rest (list .ensures) (many ∙ sym size)) ∙ many ∙ sym size)
+slice-aggregate-look-up-2 c = sym (ap length (places-front (c .before .before .before)) ∙ places-many (c .before .before .before))
 
 look-up-requires : tie.Need-look-up-requires
 look-up-requires c κs =
-    let start = c .before .before .before .before .before .before .before .before .before in
-    let a = start .args in
-    let p = start .pre .0 in
-    let messages = positions (a .n) (a .k) in
-    let places = map (λ cell. cell .1) (queryCells (a .n) (a .k) (a .wanted) (a .server)) in
-    let long = messages-length (a .n) (a .k) (a .wanted) (a .server) p in
-    let many = places-length (a .n) (a .k) (a .wanted) (a .server) p in
-    let size : a .k * c .before .before .before .before .power .result ≡ a .k * a .n ^ (a .k - 1) = ap (λ (x : ℕ). a .k * x) (c .before .before .before .before .power .ensures) in
-    let count = a .k * c .before .before .before .before .power .result in
-    let table = c .before .before .before .before .before .before .positions in
-    let list = c .before .before .before .before .before .places in
-    let more = replicate {A = ℕ} (1024 - length messages) 0 in
-    let rest = replicate {A = ℕ} (1024 - length places) 0 in
-    let first = front-is count (table .result) messages more (table .ensures) (long ∙ sym size) in
-    let second = front-is count (list .result) places rest (list .ensures) (many ∙ sym size) in
-    (rw (c .before .before .before .power2 .ensures, first, second) (keyed (a .n) (a .k) (a .wanted) (a .server) p (a .key .now) (start .pre .1)), rw second (omega (arith, many, start .pre .2)))
+    let p = c .before .before .before .before in
+    let start = begin p in
+    let a = start .args in (
+      rw (c .before .before .before .power2 .ensures, messages-front p, places-front p) (keyed (a .n) (a .k) (a .wanted) (a .server) (start .pre .0) (a .key .now) (start .pre .1)),
+      rw (places-front p) (omega (arith, places-many p, count-is p, start .pre .2)),
+    )
 
 same-length : tie.Need-same-length
 same-length c = search needs
 
 returns : tie.Need-returns
 returns c =
-    let start = c .before .before .before .before .before .before .before .before .before .before .before .before in
-    let a = start .args in
-    let p = start .pre .0 in
-    let messages = positions (a .n) (a .k) in
-    let places = map (λ cell. cell .1) (queryCells (a .n) (a .k) (a .wanted) (a .server)) in
-    let long = messages-length (a .n) (a .k) (a .wanted) (a .server) p in
-    let many = places-length (a .n) (a .k) (a .wanted) (a .server) p in
-    let size : a .k * c .before .before .before .before .before .before .before .power .result ≡ a .k * a .n ^ (a .k - 1) = ap (λ (x : ℕ). a .k * x) (c .before .before .before .before .before .before .before .power .ensures) in
-    let count = a .k * c .before .before .before .before .before .before .before .power .result in
-    let table = c .before .before .before .before .before .before .before .before .before .positions in
-    let list = c .before .before .before .before .before .before .before .before .places in
-    let more = replicate {A = ℕ} (1024 - length messages) 0 in
-    let rest = replicate {A = ℕ} (1024 - length places) 0 in
-    let first = front-is count (table .result) messages more (table .ensures) (long ∙ sym size) in
-    let second = front-is count (list .result) places rest (list .ensures) (many ∙ sym size) in
-    let found = rw (c .before .before .before .before .before .before .power2 .ensures, first, second) at (c .before .before .look-up .ensures) in
-    found ∙ ap (λ (l : List ℕ). put 0 l (a .out .now)) (entries-are (a .n) (a .k) (a .wanted) (a .server) p (a .key .now))
+    let p = c .before .before .before .before .before .before .before in
+    let a = begin p .args in
+    let found = rw (c .before .before .before .before .before .before .power2 .ensures, messages-front p, places-front p) at (c .before .before .look-up .ensures) in
+    found ∙ ap (λ (l : List ℕ). put 0 l (a .out .now)) (entries-are (a .n) (a .k) (a .wanted) (a .server) (begin p .pre .0) (a .key .now))
 
 pub query-spec : {M : Type 1} → statement M
 query-spec =

@@ -1,25 +1,21 @@
 -- `even_query::write_sets` meets its contract: after i turns the places of the sets from i on are still to be written, by the counts so far.
 use mathlib.Core.Path.{_≡_, refl, sym, ap, _∙_}
-use mathlib.Core.List.{List}
+use mathlib.Core.List.{List, []}
 use Prim.Native.Nat.{ℕ, suc, _+_, _-_, _≤_, _<_}
-use native.Mathlib.Nat.{add-sub-cancel-left}
 use native.Mathlib.Numerals.{add-one}
 use native.Mathlib.Omega.{arith}
-use lib.ListN.{length, getD, take, drop, length-append, length-map}
+use lib.ListN.{length, getD, drop, length-map}
 use Rattle.lists.specs.Below.{Below}
-use Rattle.lists.specs.Parts.{cut, put}
 use Rattle.lists.proofs.Below.{below-zeros}
-use Rattle.lists.proofs.Parts.{cut-length}
-use Rattle.lists.proofs.Reading.{below-front, below-back}
-use Rattle.lists.proofs.Writing.{Pending, pending-start, pending-part, pending-as, pending-done}
+use Rattle.lists.proofs.Writing.{Pending, pending-start, pending-as, pending-done}
 use Rattle.even_places.specs.Sets.{byteOf, allSets}
 use Rattle.even_layout.specs.Layout.{setIn}
 use Rattle.even_layout.proofs.Blocks.{all-length, subsets-few}
-use Rattle.even_ranks.specs.Counts.{noCounts, countersOf, counted}
-use Rattle.even_ranks.specs.Walk.{setPlaces, setsPlaces}
+use Rattle.even_ranks.specs.Counts.{noCounts, Stands}
+use Rattle.even_ranks.specs.Walk.{setsPlaces}
 use Rattle.even_ranks.proofs.Counters.{counted-length}
-use Rattle.even_ranks.proofs.Steps.{stands-at, stands-count, stands-set, lent, counted-below}
-use Rattle.even_query.proofs.Rows.{sets-more, sets-done, ranks-lent}
+use Rattle.even_ranks.proofs.Steps.{stands-at, stands-count, stands-set, Lent, lent, counted-below}
+use Rattle.even_query.proofs.Rows.{sets-done, SetTurn, set-turn}
 use Rattle.even_query.proofs.write_sets.Statement.{statement}
 use Rattle.even_query.proofs.write_sets.Tie as tie
 
@@ -34,6 +30,39 @@ Inv-loop n k wanted server totals taken sets out₀ counts₀ end₀ i₀ out co
 abbrev μ-loop : tie.MeasureT-loop
 μ-loop n k wanted server totals taken sets out₀ counts₀ end₀ i₀ out counts end i = length sets - i
 
+-- the byte of this turn stands for the set of this turn
+stands-here : (c : tie.In-loop Inv-loop μ-loop)
+    → let a = c .before .before .before .before .before .before .args in
+    let byte = getD (a .sets .now) (c .before .loop .i) 0 in
+    Stands (a .k) byte × (setIn (a .k) byte ≡ getD (allSets (a .k)) (c .before .loop .i) [])
+stands-here c =
+    let start = c .before .before .before .before .before .before in
+    let a = start .args in
+    let bounds = start .pre .0 .bounds in
+    stands-at (a .k) (c .before .loop .i) (a .sets .now) (bounds .messages-low) (bounds .messages-high) (start .pre .2) (omega arith)
+
+inside : (c : tie.In-loop Inv-loop μ-loop) → c .before .loop .i < length (allSets (c .before .before .before .before .before .before .args .k))
+inside c =
+    let start = c .before .before .before .before .before .before in
+    omega (arith, ap length (start .pre .2), length-map (allSets (start .args .k)) byteOf)
+
+lent-here : (c : tie.After-counters-of Inv-loop μ-loop)
+    → let a = c .before .before .before .before .before .before .before .before .args in
+    Lent (a .k) (a .wanted) (getD (a .sets .now) (c .before .before .before .loop .i) 0) (c .counters-of .result)
+lent-here c =
+    let start = c .before .before .before .before .before .before .before .before in
+    let a = start .args in
+    lent (a .k) (a .wanted) (getD (a .sets .now) (c .before .before .before .loop .i) 0) (c .counters-of .result) (start .pre .0 .bounds .messages-high) (stands-here (c .before .before) .0) (c .counters-of .ensures)
+
+turn-here : (c : tie.After-counters-of Inv-loop μ-loop)
+    → let a = c .before .before .before .before .before .before .before .before .args in
+    let loop = c .before .before .before .loop in
+    SetTurn (a .n) (a .k) (a .wanted) (a .server) (getD (a .sets .now) (loop .i) 0) (loop .i) (c .counters-of .result) (a .totals .now) (loop .counts)
+    0 (setsPlaces (a .n) (a .wanted) (a .server) (a .totals .now) noCounts (allSets (a .k))) (a .out .now) (loop .end) (loop .out)
+turn-here c =
+    let loop = c .before .before .before .loop in
+    set-turn (lent-here c) (loop .inv .1) (inside (c .before .before)) (stands-here (c .before .before) .1) (loop .inv .3) (loop .inv .4)
+
 loop-holds : tie.Need-loop-holds Inv-loop μ-loop
 unfolding noCounts
 loop-holds c =
@@ -45,121 +74,46 @@ shared-slice-read-set c = omega arith
 
 counters-of-requires : tie.Need-counters-of-requires Inv-loop μ-loop
 counters-of-requires c κs =
-    let at = c .before .before in
-    let start = at .before .before .before .before .before in
+    let start = c .before .before .before .before .before .before .before in
     let a = start .args in
     let asks = start .pre .0 in
-    let i = at .loop .i in
-    let byte = getD (a .sets .now) i 0 in
-    let going = c .before .loop-test .taken in
-    let here = stands-at (a .k) i (a .sets .now) (asks .bounds .messages-low) (asks .bounds .messages-high) (start .pre .2) (omega arith) in
-    (omega (arith, asks .message, asks .bounds .messages-high), omega (arith, stands-count (a .k) byte (here .0), here .0 .some))
+    let stands = stands-here (c .before) .0 in
+    (omega (arith, asks .message, asks .bounds .messages-high), omega (arith, stands-count (a .k) (getD (a .sets .now) (c .before .before .loop .i) 0) stands, stands .some))
 
 add-write-set : tie.Need-add-write-set Inv-loop μ-loop
-add-write-set c =
-    let at = c .before .before .before in
-    let start = at .before .before .before .before .before in
-    let a = start .args in
-    let asks = start .pre .0 in
-    let i = at .loop .i in
-    let byte = getD (a .sets .now) i 0 in
-    let going = c .before .before .loop-test .taken in
-    let here = stands-at (a .k) i (a .sets .now) (asks .bounds .messages-low) (asks .bounds .messages-high) (start .pre .2) (omega arith) in
-    let from = c .counters-of in
-    let l = lent (a .k) (a .wanted) byte (from .result) (asks .bounds .messages-high) (here .0) (from .ensures) in
-    omega (arith, l .fits)
+add-write-set c = omega (arith, lent-here c .fits)
 
 mul-write-set : tie.Need-mul-write-set Inv-loop μ-loop
-mul-write-set c =
-    let at = c .before .before .before in
-    let start = at .before .before .before .before .before in
-    let a = start .args in
-    let asks = start .pre .0 in
-    let i = at .loop .i in
-    let byte = getD (a .sets .now) i 0 in
-    let going = c .before .before .loop-test .taken in
-    let here = stands-at (a .k) i (a .sets .now) (asks .bounds .messages-low) (asks .bounds .messages-high) (start .pre .2) (omega arith) in
-    let from = c .counters-of in
-    let l = lent (a .k) (a .wanted) byte (from .result) (asks .bounds .messages-high) (here .0) (from .ensures) in
-    omega (arith, l .fits)
+mul-write-set c = omega (arith, lent-here c .fits)
 
 sub-write-set : tie.Need-sub-write-set Inv-loop μ-loop
 sub-write-set c = omega arith
 
 part-write-set-start : tie.Need-part-write-set-start Inv-loop μ-loop
-part-write-set-start c =
-    let at = c .before .before .before .before in
-    let start = at .before .before .before .before .before in
-    let a = start .args in
-    let asks = start .pre .0 in
-    let i = at .loop .i in
-    let byte = getD (a .sets .now) i 0 in
-    let going = c .before .before .before .loop-test .taken in
-    let here = stands-at (a .k) i (a .sets .now) (asks .bounds .messages-low) (asks .bounds .messages-high) (start .pre .2) (omega arith) in
-    let from = c .before .counters-of in
-    let l = lent (a .k) (a .wanted) byte (from .result) (asks .bounds .messages-high) (here .0) (from .ensures) in
-    omega (arith, l .fits, at .loop .inv .1)
+part-write-set-start c = omega (arith, lent-here (c .before) .fits, c .before .before .before .before .loop .inv .1)
 
 part-write-set-end : tie.Need-part-write-set-end Inv-loop μ-loop
-part-write-set-end c =
-    let at = c .before .before .before .before in
-    let start = at .before .before .before .before .before in
-    let a = start .args in
-    let asks = start .pre .0 in
-    let i = at .loop .i in
-    let byte = getD (a .sets .now) i 0 in
-    let going = c .before .before .before .loop-test .taken in
-    let here = stands-at (a .k) i (a .sets .now) (asks .bounds .messages-low) (asks .bounds .messages-high) (start .pre .2) (omega arith) in
-    let from = c .before .counters-of in
-    let l = lent (a .k) (a .wanted) byte (from .result) (asks .bounds .messages-high) (here .0) (from .ensures) in
-    omega (arith, l .fits, at .loop .inv .1)
+part-write-set-end c = omega (arith, lent-here (c .before) .fits, c .before .before .before .before .loop .inv .1)
 
 write-set-requires : tie.Need-write-set-requires Inv-loop μ-loop
 write-set-requires c κs =
-    let at = c .before .before .before .before .before .before in
-    let start = at .before .before .before .before .before in
-    let a = start .args in
-    let asks = start .pre .0 in
-    let i = at .loop .i in
-    let byte = getD (a .sets .now) i 0 in
-    let going = c .before .before .before .before .before .loop-test .taken in
-    let here = stands-at (a .k) i (a .sets .now) (asks .bounds .messages-low) (asks .bounds .messages-high) (start .pre .2) (omega arith) in
-    let from = c .before .before .before .counters-of in
-    let l = lent (a .k) (a .wanted) byte (from .result) (asks .bounds .messages-high) (here .0) (from .ensures) in
-    let A = setIn (a .k) byte in
-    let counts = at .loop .counts in
-    let ranks = ranks-lent (a .k) (a .wanted) byte (from .result) counts l in
-    let front = setPlaces (a .n) (a .wanted) (a .server) (a .totals .now) (cut (countersOf (a .wanted) A) (length A) counts) A in
-    let rest = setsPlaces (a .n) (a .wanted) (a .server) (a .totals .now) (counted (a .wanted) A counts) (drop (i + 1) (allSets (a .k))) in
-    let inside : i < length (allSets (a .k)) = omega (arith, ap length (start .pre .2), length-map (allSets (a .k)) byteOf) in
-    let more = sets-more (a .n) (a .wanted) (a .server) (a .totals .now) counts (allSets (a .k)) A i inside (here .1) in
-    let small = rw more at (at .loop .inv .3) in
-    let left = rw more at (at .loop .inv .4) in
-    let size = add-sub-cancel-left (from .result) (a .k) in (
-      asks,
-      start .pre .1,
-      here .0,
-      ap (λ (m : ℕ). length (take m (drop (from .result) counts))) size ∙ cut-length (from .result) (a .k) counts (omega (arith, l .fits, at .loop .inv .1)),
-      rw ranks (below-front 256 front rest small),
-      omega (arith, left .room, length-append front rest, ap (λ (r : List ℕ). length (setPlaces (a .n) (a .wanted) (a .server) (a .totals .now) r A)) ranks),
-    )
+    let from = c .before .before .before in
+    let start = from .before .before .before .before .before .before .before .before in
+    let t = turn-here from in
+    (start .pre .0, start .pre .1, stands-here (from .before .before) .0, t .ranks-long, t .small, t .room)
 
 slice-aggregate-count-set : tie.Need-slice-aggregate-count-set Inv-loop μ-loop
 slice-aggregate-count-set c = sym (c .before .before .before .before .before .before .before .before .before .before .loop .inv .1)
 
 count-set-requires : tie.Need-count-set-requires Inv-loop μ-loop
 count-set-requires c κs =
-    let at = c .before .before .before .before .before .before .before .before .before .before in
-    let start = at .before .before .before .before .before in
+    let turn = c .before .before .before .before .before .before .before .before .before in
+    let loop = turn .before .loop in
+    let start = turn .before .before .before .before .before .before in
     let a = start .args in
     let asks = start .pre .0 in
-    let i = at .loop .i in
-    let byte = getD (a .sets .now) i 0 in
-    let going = c .before .before .before .before .before .before .before .before .before .loop-test .taken in
-    let here = stands-at (a .k) i (a .sets .now) (asks .bounds .messages-low) (asks .bounds .messages-high) (start .pre .2) (omega arith) in
-    let few : length (a .sets .now) ≤ 255 =
-    omega (arith, ap length (start .pre .2), length-map (allSets (a .k)) byteOf, all-length (a .k), subsets-few (a .k) (asks .bounds .messages-high)) in
-    (asks .bounds .messages-high, asks .message, here .0, at .loop .inv .1, (λ j h. omega (arith, at .loop .inv .2 j h)))
+    let few : loop .i ≤ 255 = omega (arith, inside turn, all-length (a .k), subsets-few (a .k) (asks .bounds .messages-high)) in
+    (asks .bounds .messages-high, asks .message, stands-here turn .0, loop .inv .1, (λ j h. omega (arith, loop .inv .2 j h)))
 
 add-i : tie.Need-add-i Inv-loop μ-loop
 add-i c = omega arith
@@ -169,36 +123,20 @@ loop-less c = omega arith
 
 loop-again : tie.Need-loop-again Inv-loop μ-loop
 loop-again c =
-    let at = c .before .before .before .before .before .before .before .before .before .before .before .before in
-    let start = at .before .before .before .before .before in
+    let from = c .before .before .before .before .before .before .before .before .before in
+    let loop = from .before .before .before .loop in
+    let start = from .before .before .before .before .before .before .before .before in
     let a = start .args in
-    let asks = start .pre .0 in
-    let i = at .loop .i in
-    let byte = getD (a .sets .now) i 0 in
-    let going = c .before .before .before .before .before .before .before .before .before .before .before .loop-test .taken in
-    let here = stands-at (a .k) i (a .sets .now) (asks .bounds .messages-low) (asks .bounds .messages-high) (start .pre .2) (omega arith) in
-    let from = c .before .before .before .before .before .before .before .before .before .counters-of in
-    let l = lent (a .k) (a .wanted) byte (from .result) (asks .bounds .messages-high) (here .0) (from .ensures) in
+    let byte = getD (a .sets .now) (loop .i) 0 in
     let A = setIn (a .k) byte in
-    let counts = at .loop .counts in
-    let ranks = ranks-lent (a .k) (a .wanted) byte (from .result) counts l in
-    let front = setPlaces (a .n) (a .wanted) (a .server) (a .totals .now) (cut (countersOf (a .wanted) A) (length A) counts) A in
-    let rest = setsPlaces (a .n) (a .wanted) (a .server) (a .totals .now) (counted (a .wanted) A counts) (drop (i + 1) (allSets (a .k))) in
-    let inside : i < length (allSets (a .k)) = omega (arith, ap length (start .pre .2), length-map (allSets (a .k)) byteOf) in
-    let more = sets-more (a .n) (a .wanted) (a .server) (a .totals .now) counts (allSets (a .k)) A i inside (here .1) in
-    let small = rw more at (at .loop .inv .3) in
-    let left = rw more at (at .loop .inv .4) in
+    let t = turn-here from in
     let next = c .before .count-set .ensures in
     let written = c .before .before .before .before .before .write-set .ensures in (
       omega arith,
-      ap length next ∙ counted-length (a .k) (a .wanted) (asks .bounds .messages-high) A counts (stands-set (a .k) byte (here .0)) (at .loop .inv .1),
-      rw (next, add-one i) (counted-below (suc i) (a .wanted) A counts (at .loop .inv .2)),
-      rw next (below-back 256 front rest small),
-      pending-as
-          (written .0 ∙ ap (λ (r : List ℕ). at .loop .end + length (setPlaces (a .n) (a .wanted) (a .server) (a .totals .now) r A)) ranks)
-          (ap (λ (d : List ℕ). setsPlaces (a .n) (a .wanted) (a .server) (a .totals .now) d (drop (i + 1) (allSets (a .k)))) next)
-          (written .1 ∙ ap (λ (r : List ℕ). put (at .loop .end) (setPlaces (a .n) (a .wanted) (a .server) (a .totals .now) r A) (at .loop .out)) ranks)
-          (pending-part front rest left),
+      ap length next ∙ counted-length (a .k) (a .wanted) (start .pre .0 .bounds .messages-high) A (loop .counts) (stands-set (a .k) byte (stands-here (from .before .before) .0)) (loop .inv .1),
+      rw (next, add-one (loop .i)) (counted-below (suc (loop .i)) (a .wanted) A (loop .counts) (loop .inv .2)),
+      rw next (t .rest-small),
+      pending-as (written .0) (ap (λ (d : List ℕ). setsPlaces (a .n) (a .wanted) (a .server) (a .totals .now) d (drop (loop .i + 1) (allSets (a .k)))) next) (written .1) (t .rest),
     )
 
 same-length : tie.Need-same-length Inv-loop μ-loop

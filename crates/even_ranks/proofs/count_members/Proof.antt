@@ -18,42 +18,33 @@ Inv-loop k set counts₀ rest₀ p₀ counts rest p =
 abbrev μ-loop : tie.MeasureT-loop
 μ-loop k set counts₀ rest₀ p₀ counts rest p = k - p
 
--- src/lib.rt:49:5
 loop-holds : tie.Need-loop-holds Inv-loop μ-loop
 loop-holds c = (omega arith, c .pre .0, λ i h. refl, counts-start (c .args .k) (c .args .set) (c .args .counts .now))
 
--- src/lib.rt:50:22
 cast-counts : tie.Need-cast-counts Inv-loop μ-loop
 cast-counts c = omega arith
 
--- src/lib.rt:50:9
 mul-counts : tie.Need-mul-counts Inv-loop μ-loop
 mul-counts c = omega arith
 
--- src/lib.rt:50:9
 slice-read-counts : tie.Need-slice-read-counts Inv-loop μ-loop
 slice-read-counts c = omega arith
 
--- src/lib.rt:50:9
 add-counts : tie.Need-add-counts Inv-loop μ-loop
 add-counts c =
     let at = c .before .before in
     let p = at .loop .p in
     omega (arith, at .loop .inv .2 p (omega arith), at .before .pre .1 p (omega arith), mod-lt (at .loop .rest) {m = 2} (omega arith))
 
--- src/lib.rt:50:9
 slice-write-counts : tie.Need-slice-write-counts Inv-loop μ-loop
 slice-write-counts c = omega arith
 
--- src/lib.rt:52:9
 add-p : tie.Need-add-p Inv-loop μ-loop
 add-p c = omega arith
 
--- src/lib.rt:49:5
 loop-less : tie.Need-loop-less Inv-loop μ-loop
 loop-less c = omega arith
 
--- src/lib.rt:49:5
 loop-again : tie.Need-loop-again Inv-loop μ-loop
 loop-again c =
     let at = c .before .before in
@@ -66,11 +57,9 @@ loop-again c =
       sym (counts-more (at .before .args .k) p (at .loop .rest) counts (omega arith) (at .loop .inv .1)) ∙ at .loop .inv .3,
     )
 
--- src/lib.rt:43:1
 same-length : tie.Need-same-length Inv-loop μ-loop
 same-length c = omega arith
 
--- src/lib.rt:43:1
 returns : tie.Need-returns Inv-loop μ-loop
 returns c =
     let at = c .before in

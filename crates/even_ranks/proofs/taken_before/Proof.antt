@@ -15,17 +15,14 @@ Inv-loop n wanted totals block p sum₀ rows₀ j₀ sum rows j = (j ≤ block) 
 abbrev μ-loop : tie.MeasureT-loop
 μ-loop n wanted totals block p sum₀ rows₀ j₀ sum rows j = block - j
 
--- src/lib.rt:91:5
 loop-holds : tie.Need-loop-holds Inv-loop μ-loop
 loop-holds c = (omega arith, sym (taken-none (c .before .args .n) (c .before .args .wanted) (c .before .args .totals .now) (c .before .args .p)), sym (pow-zero (c .before .args .n - 1)))
 
--- src/lib.rt:92:23
 takers-requires : tie.Need-takers-requires Inv-loop μ-loop
 takers-requires c κs =
     let start = c .before .before .before in
     (omega arith, start .pre .3, start .pre .4)
 
--- src/lib.rt:92:16
 mul-sum : tie.Need-mul-sum Inv-loop μ-loop
 mul-sum c =
     let at = c .before .before in
@@ -37,7 +34,6 @@ mul-sum c =
     ap₂ (λ (x y : ℕ). x * y) (at .loop .inv .2) (c .takers .ensures) in
     omega arith
 
--- src/lib.rt:92:9
 add-sum : tie.Need-add-sum Inv-loop μ-loop
 add-sum c =
     let at = c .before .before in
@@ -50,11 +46,9 @@ add-sum c =
     let before = taken-small (a .n) (a .wanted) (a .totals .now) (start .pre .1) (start .pre .4) (start .pre .5) (a .p) (start .pre .3) j (omega arith) in
     omega arith
 
--- src/lib.rt:93:17
 sub-rows : tie.Need-sub-rows Inv-loop μ-loop
 sub-rows c = omega arith
 
--- src/lib.rt:93:9
 mul-rows : tie.Need-mul-rows Inv-loop μ-loop
 mul-rows c =
     let at = c .before .before in
@@ -64,15 +58,12 @@ mul-rows c =
     let high = rows-small (a .n) (a .wanted) (a .totals .now) (start .pre .1) (start .pre .4) (start .pre .5) (a .p) (start .pre .3) (suc j) (omega arith) in
     omega (arith, pow-suc (a .n - 1) j, ap (λ (x : ℕ). x * (a .n - 1)) (at .loop .inv .2))
 
--- src/lib.rt:94:9
 add-j : tie.Need-add-j Inv-loop μ-loop
 add-j c = omega arith
 
--- src/lib.rt:91:5
 loop-less : tie.Need-loop-less Inv-loop μ-loop
 loop-less c = omega arith
 
--- src/lib.rt:91:5
 loop-again : tie.Need-loop-again Inv-loop μ-loop
 loop-again c =
     let at = c .before .before in
@@ -84,7 +75,6 @@ loop-again c =
       ap (λ (x : ℕ). x * (a .n - 1)) (at .loop .inv .2) ∙ sym (ap (λ (x : ℕ). (a .n - 1) ^ x) (add-one j) ∙ pow-suc (a .n - 1) j),
     )
 
--- src/lib.rt:84:1
 returns : tie.Need-returns Inv-loop μ-loop
 returns c =
     let at = c .before in

@@ -18,11 +18,9 @@ Inv-loop n wanted totals table₀ i₀ table i = (i ≤ 64) × (length table ≡
 abbrev μ-loop : tie.MeasureT-loop
 μ-loop n wanted totals table₀ i₀ table i = 64 - i
 
--- src/lib.rt:106:5
 loop-holds : tie.Need-loop-holds Inv-loop μ-loop
 loop-holds c = (omega arith, refl, table-start (c .before .args .n) (c .before .args .wanted) (c .before .args .totals .now))
 
--- src/lib.rt:107:20
 taken-before-requires : tie.Need-taken-before-requires Inv-loop μ-loop
 taken-before-requires c κs =
     let start = c .before .before .before in
@@ -35,23 +33,18 @@ taken-before-requires c κs =
       start .pre .3,
     )
 
--- src/lib.rt:107:9
 mul-table : tie.Need-mul-table Inv-loop μ-loop
 mul-table c = omega arith
 
--- src/lib.rt:107:9
 array-write-table : tie.Need-array-write-table Inv-loop μ-loop
 array-write-table c = omega arith
 
--- src/lib.rt:108:9
 add-i : tie.Need-add-i Inv-loop μ-loop
 add-i c = omega arith
 
--- src/lib.rt:106:5
 loop-less : tie.Need-loop-less Inv-loop μ-loop
 loop-less c = omega arith
 
--- src/lib.rt:106:5
 loop-again : tie.Need-loop-again Inv-loop μ-loop
 loop-again c =
     let at = c .before .before in
@@ -64,7 +57,6 @@ loop-again c =
           ∙ ap (λ (l : List ℕ). take i (at .loop .table) ++ l) (sym (table-more (a .n) (a .wanted) i (a .totals .now) (omega arith))) ∙ at .loop .inv .2,
     )
 
--- src/lib.rt:100:1
 returns : tie.Need-returns Inv-loop μ-loop
 returns c =
     let at = c .before in

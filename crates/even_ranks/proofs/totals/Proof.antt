@@ -24,20 +24,16 @@ Inv-loop k wanted sets counts₀ i₀ counts i =
 abbrev μ-loop : tie.MeasureT-loop
 μ-loop k wanted sets counts₀ i₀ counts i = length sets - i
 
--- src/lib.rt:72:5
 loop-holds : tie.Need-loop-holds Inv-loop μ-loop
 unfolding totalsOf noCounts
 loop-holds c = (omega arith, refl, below-zeros 1 128 (omega arith), refl)
 
--- src/lib.rt:73:30
 shared-slice-read-count-set : tie.Need-shared-slice-read-count-set Inv-loop μ-loop
 shared-slice-read-count-set c = omega arith
 
--- src/lib.rt:73:39
 slice-aggregate-count-set : tie.Need-slice-aggregate-count-set Inv-loop μ-loop
 slice-aggregate-count-set c = sym (c .before .before .before .loop .inv .1)
 
--- src/lib.rt:73:9
 count-set-requires : tie.Need-count-set-requires Inv-loop μ-loop
 count-set-requires c κs =
     let at = c .before .before .before in
@@ -51,15 +47,12 @@ count-set-requires c κs =
       (λ j h. omega (arith, at .loop .inv .2 j h)),
     )
 
--- src/lib.rt:74:9
 add-i : tie.Need-add-i Inv-loop μ-loop
 add-i c = omega arith
 
--- src/lib.rt:72:5
 loop-less : tie.Need-loop-less Inv-loop μ-loop
 loop-less c = omega arith
 
--- src/lib.rt:72:5
 loop-again : tie.Need-loop-again Inv-loop μ-loop
 loop-again c =
     let at = c .before .before .before .before .before in
@@ -77,7 +70,6 @@ loop-again c =
           ∙ sym (counted-more (a .wanted) i (allSets (a .k)) (at .loop .counts) inside) ∙ at .loop .inv .3,
     )
 
--- src/lib.rt:66:1
 returns : tie.Need-returns Inv-loop μ-loop
 unfolding countedAll
 returns c =

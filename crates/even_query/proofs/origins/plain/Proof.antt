@@ -1,10 +1,10 @@
--- `even_query::plain` meets its contract: it is the record that the definition is.
+-- `even_query::origins::plain` meets its contract: it is the record that the definition is.
 use mathlib.Core.Path.{ap}
 use Prim.Native.Nat.{ℕ, _-_}
 use borrow.Author.Needs.{needs}
 use Rattle.even_ranks.specs.Walk.{plain}
-use Rattle.even_query.proofs.plain.Statement.{statement}
-use Rattle.even_query.proofs.plain.Tie as tie
+use Rattle.even_query.proofs.origins.plain.Statement.{statement}
+use Rattle.even_query.proofs.origins.plain.Tie as tie
 
 sub-power : tie.Need-sub-power
 sub-power c = search needs

@@ -1,10 +1,10 @@
--- `even_query::other_server` meets its contract: below `server` the others are counted from 0, above it they are one further on.
+-- `even_query::origins::other_server` meets its contract: below `server` the others are counted from 0, above it they are one further on.
 use native.Mathlib.Numerals.{add-one}
 use mathlib.Core.Path.{sym, _∙_}
 use borrow.Author.Needs.{needs}
 use Rattle.even_places.proofs.Positions.{others-low, others-high}
-use Rattle.even_query.proofs.other_server.Statement.{statement}
-use Rattle.even_query.proofs.other_server.Tie as tie
+use Rattle.even_query.proofs.origins.other_server.Statement.{statement}
+use Rattle.even_query.proofs.origins.other_server.Tie as tie
 
 returns : tie.Need-returns
 returns c = λ N l h. sym (others-low N (c .before .args .server) (c .before .args .other) l (c .if1 .taken))

@@ -1,8 +1,8 @@
--- `even_query::is_joined` meets its contract: the shifted byte's lowest bit says whether the set has the wanted message.
+-- `even_query::origins::is_joined` meets its contract: the shifted byte's lowest bit says whether the set has the wanted message.
 use borrow.Author.Needs.{needs}
 use borrow.Author.Tests.{eq-eqb, ne-eqb}
-use Rattle.even_query.proofs.is_joined.Statement.{statement}
-use Rattle.even_query.proofs.is_joined.Tie as tie
+use Rattle.even_query.proofs.origins.is_joined.Statement.{statement}
+use Rattle.even_query.proofs.origins.is_joined.Tie as tie
 
 cast-if1 : tie.Need-cast-if1
 cast-if1 c = search needs

@@ -1,7 +1,7 @@
--- `even_query::origin` meets its contract: each way gives its record.
+-- `even_query::origins::origin` meets its contract: each way gives its record.
 use borrow.Author.Needs.{needs}
-use Rattle.even_query.proofs.origin.Statement.{statement}
-use Rattle.even_query.proofs.origin.Tie as tie
+use Rattle.even_query.proofs.origins.origin.Statement.{statement}
+use Rattle.even_query.proofs.origins.origin.Tie as tie
 
 joined-requires : tie.Need-joined-requires
 joined-requires c κs =
