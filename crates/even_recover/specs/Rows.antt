@@ -1,0 +1,65 @@
+-- Recovery in the numbers that the code has in hand: the answer buffer as rows of symbols counted through, `rows` for each server,
+-- and a set with the wanted message as a group of rows. `group-parts` shows that this is the scheme's `recoveredPart`.
+use Prim.Native.Nat.{ℕ, suc, _+_, _-_, _*_, _/_, _%_, _^_, _≤_, _<_}
+use mathlib.Core.Path.{_≡_}
+use mathlib.Core.Logic.{_≢_}
+use mathlib.Core.Bool.{cond}
+use mathlib.Core.List.{List, [], _∷_, map}
+use lib.Count.{ones}
+use lib.Dec.{eqb}
+use lib.ListN.{length, getD}
+use Rattle.lists.specs.Parts.{cut}
+use Rattle.lists.specs.Ranges.{range}
+use Rattle.symbol.specs.Xor.{xor}
+use Rattle.even_places.specs.Rule.{others}
+use Rattle.even_recover.specs.declared.Reading.{Reading}
+use Rattle.even_recover.specs.declared.Group.{Group}
+
+-- the answer to a row of a server's query, in the answer buffer
+abbrev pub rowIn : Reading → List ℕ → ℕ → ℕ → List ℕ
+rowIn here answers server row = cut ((server * here .rows + row) * here .symbol) (here .symbol) answers
+
+-- the symbol that row i of a group gives
+unfoldable pub groupSymbol : Reading → Group → List ℕ → ℕ → List ℕ
+groupSymbol here group answers i =
+    cond (eqb (group .messages) 1)
+    (rowIn here answers (here .server) (group .first + i))
+    (xor .minus (rowIn here answers (here .server) (group .first + i))
+    (rowIn here answers (getD (others (here .servers) (here .server)) (i / group .each) 0) (group .source + i % group .each)))
+
+-- the part of the message that it gives: the query names the symbol's number
+unfoldable pub groupPart : Reading → Group → List ℕ → List ℕ → ℕ → ℕ × List ℕ
+groupPart here group query answers i =
+    (getD query (group .cell + i * group .messages) 0 * here .symbol, groupSymbol here group answers i)
+
+-- those of all its rows
+unfoldable pub groupParts : Reading → Group → List ℕ → List ℕ → List (ℕ × List ℕ)
+groupParts here group query answers = map (groupPart here group query answers) (range 0 (group .count))
+
+-- the group of a set with the wanted message, whose first row begins at a cell of the query
+unfoldable pub groupOf : Reading → ℕ → ℕ → List ℕ → Group
+groupOf here set cell firsts = record {
+  messages = ones set;
+  count = (here .servers - 1) ^ (ones set - 1);
+  first = getD firsts set 0;
+  source = getD firsts (set - here .bit) 0;
+  each = (here .servers - 1) ^ (ones set - 1) / (here .servers - 1);
+  cell = cell + ones (set % here .bit);
+}
+
+-- the server is one of at most 16, and the answer buffer holds the rows of all
+pub record Held (here : Reading) (answers : List ℕ) : Type 0 where
+  pub known : here .server < here .servers
+  pub few : here .servers ≤ 16
+  pub held : here .servers * here .rows * here .symbol ≤ length answers
+
+-- the group's rows, and those that they are joined from, are rows of a query
+pub record Grouped (here : Reading) (group : Group) : Type 0 where
+  pub own : group .first + group .count ≤ here .rows
+  pub joined : group .messages ≢ 1 → group .source + group .each ≤ here .rows
+  pub turns : group .messages ≢ 1 → group .count ≤ (here .servers - 1) * group .each
+
+-- the group's cells are in the query, and the symbols that they name in the message
+pub record Named (here : Reading) (group : Group) (query message : List ℕ) : Type 0 where
+  pub cells : (i : ℕ) → i < group .count → group .cell + i * group .messages < length query
+  pub symbols : (i : ℕ) → i < group .count → getD query (group .cell + i * group .messages) 0 * here .symbol + here .symbol ≤ length message
