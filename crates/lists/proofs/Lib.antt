@@ -1,3 +1,9 @@
 pub mod Below
 pub mod Parts
 pub mod Sums
+pub mod Any
+pub mod Every
+pub mod Flat
+pub mod Mapped
+pub mod PartsAt
+pub mod Permutations

@@ -3,3 +3,4 @@ pub mod Ranges
 pub mod Below
 pub mod Sums
 pub mod Distinct
+pub mod Any
