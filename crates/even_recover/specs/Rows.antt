@@ -47,14 +47,16 @@ groupOf here set cell firsts = record {
   cell = cell + ones (set % here .bit);
 }
 
--- the server is one of at most 16, and the answer buffer holds the rows of all
+-- the server is one of at most 16, a query has at most 256 rows, and the answer buffer holds the rows of all
 pub record Held (here : Reading) (answers : List ℕ) : Type 0 where
   pub known : here .server < here .servers
   pub few : here .servers ≤ 16
+  pub short : here .rows ≤ 256
   pub held : here .servers * here .rows * here .symbol ≤ length answers
 
 -- the group's rows, and those that they are joined from, are rows of a query
 pub record Grouped (here : Reading) (group : Group) : Type 0 where
+  pub small : group .messages ≤ 8
   pub own : group .first + group .count ≤ here .rows
   pub joined : group .messages ≢ 1 → group .source + group .each ≤ here .rows
   pub turns : group .messages ≢ 1 → group .count ≤ (here .servers - 1) * group .each

@@ -7,3 +7,4 @@ pub mod Flat
 pub mod Mapped
 pub mod PartsAt
 pub mod Permutations
+pub mod PartsAgain

@@ -1,3 +1,11 @@
+-- `copy_row` meets its contract: the part of the message that is lent to `symbol::copy` is written whole.
+use mathlib.Core.Path.{ap, _∙_}
+use mathlib.Core.List.{List, _++_}
+use Prim.Native.Nat.{ℕ, _+_, _-_, _*_}
+use native.Mathlib.Nat.{add-sub-cancel-left}
+use lib.ListN.{take, drop}
+use Rattle.lists.specs.Parts.{cut}
+use Rattle.lists.proofs.Parts.{cut-length, put-part}
 use borrow.Author.Needs.{needs}
 use Rattle.even_recover.proofs.copy_row.Statement.{statement}
 use Rattle.even_recover.proofs.copy_row.Tie as tie
@@ -55,7 +63,15 @@ same-length c = search needs
 
 -- src/lib.rt:52:1
 returns : tie.Need-returns
-returns c = ?
+returns c =
+    let here = c .before .before .before .before .before .before .before .args in
+    let message = here .message .now in
+    let answers = here .answers .now in
+    let at = here .number * here .symbol in
+    let from = here .row * here .symbol in
+    ap (λ (l : List ℕ). take at message ++ (l ++ drop (at + here .symbol - at) (drop at message)))
+    (c .before .before .copy .ensures ∙ ap (λ (n : ℕ). take n (drop from answers)) (add-sub-cancel-left from (here .symbol)))
+    ∙ put-part at (here .symbol) (cut from (here .symbol) answers) message (cut-length from (here .symbol) answers (c .before .before .before .before .before .before .before .pre .0))
 
 pub copy-row-spec : {M : Type 1} → statement M
 copy-row-spec =
