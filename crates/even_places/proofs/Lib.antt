@@ -11,3 +11,5 @@ pub mod Hide
 pub mod Bytes
 pub mod Found
 pub mod Closed
+pub mod RowNumbers
+pub mod SourceRows

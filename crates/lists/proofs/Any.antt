@@ -1,11 +1,12 @@
--- Laws of `Any`: where an element with a property stands in a list that is made from others.
-use mathlib.Core.Path.{_≡_, refl, ap, subst}
-use mathlib.Core.Bool.{Bool, true, false, true≢false}
+-- Laws of `Any` and `All`: elements with a property in lists that are made from others, at places and in ranges.
+use mathlib.Core.Path.{_≡_, subst}
+use mathlib.Core.Bool.{Bool, true, false}
 use mathlib.Core.List.{List, [], _∷_, _++_, map, flatMap}
 use Prim.Native.Nat.{ℕ, zero, suc, _+_, _<_}
-use native.Mathlib.Nat.{not-suc-le-zero, zero-add}
+use native.Mathlib.Nat.{not-suc-le-zero}
 use native.Mathlib.Decide.{decLt}
 use native.Mathlib.Omega.{arith}
+use lib.ListN.{length, getD}
 use Rattle.lists.specs.Any.{Any, anyHere, anyLater}
 use Rattle.lists.specs.Ranges.{range}
 use Rattle.lists.specs.Sums.{All, allNil, allCons, keep, keepIf, sum}
@@ -36,6 +37,12 @@ module _ {A : Type 0} where
       go : (b : Bool) → Any P (keep t xs) → Any P (keepIf b x (keep t xs))
       go true r = anyLater r
       go false r = r
+
+  -- what each element has, the one at place i has
+  pub All-at : {P : A → Type 0} {xs : List A} (d : A) → All P xs → (i : ℕ) → i < length xs → P (getD xs i d)
+  All-at d allNil i h = absurd (not-suc-le-zero h)
+  All-at d (allCons p ps) zero h = p
+  All-at d (allCons p ps) (suc i) h = All-at d ps i (omega arith)
 
   -- where a sum is not 0, some term is not
   pub Any-sum : (w : A → ℕ) (xs : List A) → 0 < sum w xs → Any (λ x. 0 < w x) xs

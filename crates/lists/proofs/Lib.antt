@@ -8,3 +8,4 @@ pub mod Mapped
 pub mod PartsAt
 pub mod Permutations
 pub mod PartsAgain
+pub mod Tests

@@ -15,14 +15,11 @@ use Rattle.lists.specs.Ranges.{range}
 use Rattle.lists.specs.Sums.{bit, sum}
 use Rattle.lists.proofs.Below.{allBelow-below}
 use Rattle.lists.proofs.Sums.{sum-swap, sum-next}
+use Rattle.lists.proofs.Tests.{and-true}
 
 -- how often t stands in a list
 times : ℕ → List ℕ → ℕ
 times t xs = sum (λ x. bit (eqb t x)) xs
-
-both : (t u : Bool) → t && u ≡ true → (t ≡ true) × (u ≡ true)
-both true u e = (refl, e)
-both false u e = absurd (false≢true e)
 
 not-standing : (t : ℕ) (xs : List ℕ) → stands t xs ≡ false → times t xs ≡ 0
 unfolding times stands sum bit
@@ -37,7 +34,7 @@ distinct-once : (t : ℕ) (xs : List ℕ) → distinct xs ≡ true → times t x
 unfolding times distinct sum bit
 distinct-once t [] e = omega arith
 distinct-once t (x ∷ xs) e =
-    go (eqb t x) refl (stands x xs) refl (both (not (stands x xs)) (distinct xs) e .0) (distinct-once t xs (both (not (stands x xs)) (distinct xs) e .1))
+    go (eqb t x) refl (stands x xs) refl (and-true (not (stands x xs)) (distinct xs) e .0) (distinct-once t xs (and-true (not (stands x xs)) (distinct xs) e .1))
   where
     go : (b : Bool) → eqb t x ≡ b → (s : Bool) → stands x xs ≡ s → not s ≡ true → times t xs ≤ 1 → bit b + times t xs ≤ 1
     go b f true h n rest = absurd (false≢true n)
@@ -102,8 +99,8 @@ pub record Permutes (size : ℕ) (xs : List ℕ) : Type 0 where
 pub permutes : (size : ℕ) (xs : List ℕ) → isPermutation size xs ≡ true → Permutes size xs
 unfolding isPermutation
 permutes size xs e =
-    let p = both (eqb (length xs) size) (allBelow size xs && distinct xs) e in
-    let q = both (allBelow size xs) (distinct xs) (p .1) in
+    let p = and-true (eqb (length xs) size) (allBelow size xs && distinct xs) e in
+    let q = and-true (allBelow size xs) (distinct xs) (p .1) in
     let long : length xs ≡ size = eqb-true (length xs) size (p .0) in
     let below : Below size xs = allBelow-below size xs (q .0) in
     record {

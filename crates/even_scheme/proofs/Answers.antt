@@ -1,0 +1,113 @@
+-- An answer has one symbol for each row of the query, so it fills its slot.
+use mathlib.Core.Path.{_≡_, refl, sym, ap, _∙_}
+use mathlib.Core.Bool.{Bool, true, false, _&&_}
+use mathlib.Core.List.{List, [], _∷_, _++_, map, zipWith}
+use Prim.Native.Nat.{ℕ, zero, suc, _+_, _-_, _*_, _^_, _≤_, _<_}
+use native.Mathlib.Nat.{suc-mul, zero-mul}
+use native.Mathlib.Omega.{arith}
+use lib.Dec.{eqb}
+use lib.ListN.{length, drop, length-append, length-map, replicate, length-replicate}
+use Rattle.lists.specs.Below.{allBelow, Below}
+use Rattle.lists.specs.Distinct.{distinct}
+use Rattle.lists.specs.Ranges.{every}
+use Rattle.lists.specs.Sums.{All, allNil, allCons}
+use Rattle.lists.proofs.Below.{allBelow-below, below-drop}
+use Rattle.lists.proofs.Sums.{All-imp, All-flatMap, All-replicate}
+use Rattle.lists.proofs.Tests.{and-true}
+use Rattle.parameters.specs.Bounds.{evenFits}
+use Rattle.parameters.specs.Measures.{evenSizes, evenRows}
+use Rattle.parameters.proofs.Bounds.{EvenBounds, even-bounds}
+use Rattle.symbol.specs.Sum.{Sum, zeros, total, totalFrom}
+use Rattle.symbol.specs.Xor.{xor}
+use Rattle.symbol.proofs.XorBytes.{xor-length}
+use Rattle.even_places.specs.Sets.{ones, members}
+use Rattle.even_places.specs.Rule.{rows, layout}
+use Rattle.even_places.proofs.Counts.{rows-length, row-count-is}
+use Rattle.even_places.proofs.Joined.{same-layout}
+use Rattle.even_places.proofs.RowNumbers.{allSets-good, layout-by-set}
+use Rattle.even_places.proofs.SetLaws.{setOf}
+use Rattle.even_scheme.specs.Even.{numbersOf, evenAdmits, symbolAt, rowAnswer, rowAnswers, evenAnswer, evenScheme}
+use Rattle.even_scheme.proofs.Symbols.{symbol-long}
+
+-- Sums and differences of strings of this length have it, also where a string is no symbol: its elements may be no bytes
+pub record KeepsLength (sum : Sum) (size : ℕ) : Type 0 where
+  pub plus-long : (a b : List ℕ) → length a ≡ size → length b ≡ size → length (sum .plus a b) ≡ size
+  pub minus-long : (a b : List ℕ) → length a ≡ size → length b ≡ size → length (sum .minus a b) ≡ size
+
+pub xor-keeps-length : (size : ℕ) → KeepsLength xor size
+xor-keeps-length size = record { plus-long = λ a b e f. xor-length a b ∙ e; minus-long = λ a b e f. xor-length a b ∙ e }
+
+-- ---- The length of an answer
+
+pub layout-length : (N K : ℕ) → 1 < N → 0 < K → length (layout N K) ≡ evenRows N K
+unfolding evenRows
+layout-length N K wide some =
+    ap length (sym (same-layout N K 0 wide some 0 (omega arith)))
+    ∙ length-map (rows N K 0 0) setOf
+    ∙ rows-length N K 0 wide some 0 (omega arith)
+    ∙ row-count-is N K wide some
+
+layout-sets : (N K : ℕ) → All (λ A. length A ≡ K) (layout N K)
+layout-sets N K =
+    rw (layout-by-set N K)
+    (All-flatMap (λ A. replicate ((N - 1) ^ (ones A - 1)) A) (All-imp (λ A good. All-replicate ((N - 1) ^ (ones A - 1)) A (good .long)) (allSets-good K)))
+
+members-below : (K q : ℕ) (A : List Bool) → q + length A ≤ K → All (λ p. p < K) (members q A)
+unfolding members
+members-below K q [] h = allNil
+members-below K q (true ∷ A) h = allCons {x = q} (omega arith) (members-below K (suc q) A (omega arith))
+members-below K q (false ∷ A) h = members-below K (suc q) A (omega arith)
+
+module _ (sum : Sum) (N K S : ℕ) (keeps : KeepsLength sum S) where
+  total-long : {xs : List (List ℕ)} → All (λ x. length x ≡ S) xs → length (total sum S xs) ≡ S
+  unfolding total totalFrom
+  total-long a = from (zeros S) (length-replicate S 0) a
+    where
+      from : (start : List ℕ) → length start ≡ S → {xs : List (List ℕ)} → All (λ x. length x ≡ S) xs → length (totalFrom sum start xs) ≡ S
+      from start e allNil = e
+      from start e (allCons {x = x} f b) = from (sum .plus start x) (keeps .plus-long start x e f) b
+
+  module _ (store : List ℕ) (long : length store ≡ K * (N ^ K * S)) where
+    named-long : {ps : List ℕ} → All (λ p. p < K) ps → (numbers : List ℕ) → Below (N ^ K) numbers
+        → All (λ x. length x ≡ S) (zipWith (symbolAt sum N K S store) ps numbers)
+    unfolding zipWith
+    named-long allNil numbers b = allNil
+    named-long (allCons h a) [] b = allNil
+    named-long (allCons {x = p} h a) (i ∷ numbers) b =
+        allCons (symbol-long sum N K S store long p i h (b 0 (omega arith))) (named-long a numbers (λ j l. b (suc j) (omega arith)))
+
+    rows-long : {sets : List (List Bool)} → All (λ A. length A ≡ K) sets → (query : List ℕ) → Below (N ^ K) query
+        → length (rowAnswers sum N K S store sets query) ≡ length sets * S
+    unfolding rowAnswers rowAnswer
+    rows-long allNil query b = sym (zero-mul S)
+    rows-long (allCons {x = A} {xs = sets} h a) query b =
+        length-append (rowAnswer sum N K S store A query) (rowAnswers sum N K S store sets (drop (ones A) query))
+        ∙ omega (
+          arith,
+          total-long (named-long (members-below K 0 A (omega arith)) query b),
+          rows-long a (drop (ones A) query) (below-drop (N ^ K) (ones A) query b),
+          suc-mul (length sets) S,
+        )
+
+-- an admitted query has numbers of symbols only
+pub admits-below : (N K server : ℕ) (query : List ℕ) → evenAdmits N K server query ≡ true → Below (N ^ K) query
+unfolding evenAdmits
+admits-below N K server query e =
+    let rest = allBelow (N ^ K) query && every K (λ p. distinct (numbersOf N K p query)) in
+    allBelow-below (N ^ K) query
+    (and-true (allBelow (N ^ K) query) (every K (λ p. distinct (numbersOf N K p query))) (and-true (eqb (length query) (K * N ^ (K - 1))) rest e .1) .0)
+
+module _ (sum : Sum) (N K S : ℕ) (keeps : KeepsLength sum S) (fits : evenFits N K S ≡ true) where
+  pub even-answer-length : (server : ℕ) (store query : List ℕ) → length store ≡ evenScheme sum N K S .sizes .store
+      → evenScheme sum N K S .admits server query ≡ true
+      → length (evenScheme sum N K S .answer store query) ≡ evenScheme sum N K S .answerLength query
+  unfolding evenAnswer evenSizes
+  even-answer-length server store query long admitted =
+      let bounds = even-bounds N K S fits in
+      rows-long sum N K S keeps store long (layout-sets N K) query (admits-below N K server query admitted)
+      ∙ ap (λ (rows : ℕ). rows * S) (layout-length N K (bounds .servers-low) (bounds .messages-low))
+
+pub even-answer-fits : (sum : Sum) (N K S server : ℕ) (query : List ℕ) → evenScheme sum N K S .admits server query ≡ true
+    → evenScheme sum N K S .answerLength query ≤ evenScheme sum N K S .sizes .slot
+unfolding evenSizes
+even-answer-fits sum N K S server query admitted = omega arith
