@@ -13,3 +13,4 @@ pub mod Found
 pub mod Closed
 pub mod RowNumbers
 pub mod SourceRows
+pub mod WantedCells

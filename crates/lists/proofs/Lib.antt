@@ -9,3 +9,4 @@ pub mod PartsAt
 pub mod Permutations
 pub mod PartsAgain
 pub mod Tests
+pub mod FlatAt

@@ -9,7 +9,7 @@ use Rattle.lists.specs.Parts.{put}
 use Rattle.lists.specs.Ranges.{range}
 use Rattle.even_scheme.specs.Even.{assemble}
 use Rattle.even_recover.specs.Rows.{groupSymbol, groupPart, groupParts}
-use Rattle.even_recover.proofs.Assembled.{assemble-none, assemble-part}
+use Rattle.even_recover.proofs.Written.{assemble-none, assemble-part}
 use Rattle.even_recover.proofs.from_group.Statement.{statement}
 use Rattle.even_recover.proofs.from_group.Tie as tie
 use Rattle.even_recover.proofs.from_group.Reads as reads
