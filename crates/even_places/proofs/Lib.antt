@@ -14,3 +14,4 @@ pub mod Closed
 pub mod RowNumbers
 pub mod SourceRows
 pub mod WantedCells
+pub mod ByteParts
