@@ -1,2 +1,4 @@
 pub mod Held
 pub mod Written
+pub mod Groups
+pub mod GroupParts

@@ -10,10 +10,15 @@ use lib.Dec.{eqb}
 use lib.ListN.{length, getD}
 use Rattle.lists.specs.Parts.{cut}
 use Rattle.lists.specs.Ranges.{range}
+use Rattle.parameters.specs.Measures.{evenRows}
 use Rattle.symbol.specs.Xor.{xor}
 use Rattle.even_places.specs.Rule.{others}
 use Rattle.even_recover.specs.declared.Reading.{Reading}
 use Rattle.even_recover.specs.declared.Group.{Group}
+
+-- what is the same for all rows of a server's query
+abbrev pub readingOf : ℕ → ℕ → ℕ → ℕ → ℕ → Reading
+readingOf N K S wanted server = record { servers = N; symbol = S; rows = evenRows N K; bit = 2 ^ wanted; server = server }
 
 -- the answer to a row of a server's query, in the answer buffer
 abbrev pub rowIn : Reading → List ℕ → ℕ → ℕ → List ℕ

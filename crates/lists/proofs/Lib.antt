@@ -10,3 +10,4 @@ pub mod Permutations
 pub mod PartsAgain
 pub mod Tests
 pub mod FlatAt
+pub mod MapAll
