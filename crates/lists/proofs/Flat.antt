@@ -1,6 +1,7 @@
--- Laws of `flatMap`, lists joined one after another: nested, by element, and by parts of one size.
+-- Laws of `flatMap`, lists joined one after another: nested, by element, and by parts of one size; and of `keep` over a mapped list.
 use mathlib.Core.Path.{_≡_, refl, sym, ap, _∙_}
-use mathlib.Core.List.{List, [], _∷_, _++_, append-assoc, flatMap}
+use mathlib.Core.Bool.{Bool, true, false}
+use mathlib.Core.List.{List, [], _∷_, _++_, append-assoc, map, flatMap}
 use Prim.Native.Nat.{ℕ, zero, suc, _+_, _-_, _*_, _<_}
 use native.Mathlib.Nat.{not-suc-le-zero, suc-mul, zero-mul}
 use native.Mathlib.Decide.{decLt}
@@ -9,7 +10,7 @@ use lib.ListN.{length, getD, length-append, List·getD-append}
 use lib.Seq.{take-at, drop-append-add, getD-append-add}
 use Rattle.lists.specs.Any.{Any, anyHere, anyLater}
 use Rattle.lists.specs.Parts.{cut}
-use Rattle.lists.specs.Sums.{All, allNil, allCons}
+use Rattle.lists.specs.Sums.{All, allNil, allCons, keep, keepIf}
 
 module _ {A B : Type 0} where
   pub flatMap-append : (f : A → List B) (xs ys : List A) → flatMap f (xs ++ ys) ≡ flatMap f xs ++ flatMap f ys
@@ -35,6 +36,15 @@ module _ {A B : Type 0} where
           anyLater
           (below (omega (arith, length-append (f x) (flatMap f xs)))
           (sym (ap (λ (i : ℕ). getD (f x ++ flatMap f xs) i d) past ∙ getD-append-add (f x) (flatMap f xs) (j - length (f x)) d) ∙ e))
+
+  pub keep-map : (t : B → Bool) (f : A → B) (xs : List A) → keep t (map f xs) ≡ map f (keep (λ x. t (f x)) xs)
+  unfolding keep keepIf
+  keep-map t f [] = refl
+  keep-map t f (x ∷ xs) = go (t (f x)) (keep-map t f xs)
+    where
+      go : (b : Bool) → keep t (map f xs) ≡ map f (keep (λ y. t (f y)) xs) → keepIf b (f x) (keep t (map f xs)) ≡ map f (keepIf b x (keep (λ y. t (f y)) xs))
+      go true e = ap (λ l. f x ∷ l) e
+      go false e = e
 
 module _ {A B C : Type 0} where
   pub flatMap-flatMap : (f : B → List C) (g : A → List B) (xs : List A) → flatMap f (flatMap g xs) ≡ flatMap (λ x. flatMap f (g x)) xs

@@ -11,3 +11,5 @@ pub mod PartsAgain
 pub mod Tests
 pub mod FlatAt
 pub mod MapAll
+pub mod Writing
+pub mod Elements

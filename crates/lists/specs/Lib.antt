@@ -4,3 +4,4 @@ pub mod Below
 pub mod Sums
 pub mod Distinct
 pub mod Any
+pub mod Padded
