@@ -2,3 +2,4 @@ pub mod Held
 pub mod Written
 pub mod Groups
 pub mod GroupParts
+pub mod Sized

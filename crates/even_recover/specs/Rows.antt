@@ -52,6 +52,21 @@ groupOf here set cell firsts = record {
   cell = cell + ones (set % here .bit);
 }
 
+-- what the rows of a set give: nothing, if it is without the wanted message
+unfoldable pub setParts : Reading → ℕ → ℕ → List ℕ → List ℕ → List ℕ → List (ℕ × List ℕ)
+setParts here set cell firsts query answers =
+    cond (eqb (set / here .bit % 2) 1) (groupParts here (groupOf here set cell firsts) query answers) []
+
+-- a set with the wanted message has rows, and a table the first of them; its first cell is near
+pub record Given (here : Reading) (set cell : ℕ) (firsts : List ℕ) : Type 0 where
+  pub two : 2 ≤ here .servers
+  pub wanted-low : 1 ≤ here .bit
+  pub wanted-high : here .bit ≤ set
+  pub some : 1 ≤ ones set
+  pub few : (here .servers - 1) ^ (ones set - 1) ≤ 256
+  pub near : cell ≤ 524288
+  pub table : length firsts ≡ 256
+
 -- the server is one of at most 16, a query has at most 256 rows, and the answer buffer holds the rows of all
 pub record Held (here : Reading) (answers : List ℕ) : Type 0 where
   pub known : here .server < here .servers
@@ -70,3 +85,9 @@ pub record Grouped (here : Reading) (group : Group) : Type 0 where
 pub record Named (here : Reading) (group : Group) (query message : List ℕ) : Type 0 where
   pub cells : (i : ℕ) → i < group .count → group .cell + i * group .messages < length query
   pub symbols : (i : ℕ) → i < group .count → getD query (group .cell + i * group .messages) 0 * here .symbol + here .symbol ≤ length message
+
+-- all of that, of the group of a set with the wanted message
+pub record Ready (here : Reading) (set cell : ℕ) (firsts query message : List ℕ) : Type 0 where
+  pub given : Given here set cell firsts
+  pub grouped : Grouped here (groupOf here set cell firsts)
+  pub named : Named here (groupOf here set cell firsts) query message

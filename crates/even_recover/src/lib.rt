@@ -1,13 +1,19 @@
 // Recovery of the even code (01: 'Even code', recovery): the wanted message from the answers of all servers.
 ghost use mathlib.Core.Path.{_≡_};
-ghost use mathlib.Core.Logic.{_≢_};
-ghost use Prim.Native.Nat.{ℕ, _+_, _-_, _*_, _≤_, _<_};
+ghost use mathlib.Core.Bool.{true};
+ghost use mathlib.Core.List.{map};
+ghost use Prim.Native.Nat.{ℕ, _+_, _-_, _*_, _/_, _%_, _^_, _≤_, _<_};
 ghost use lib.ListN.{length, getD};
 ghost use Rattle.lists.specs.Parts.{cut, put};
 ghost use Rattle.symbol.specs.Xor.{xor};
 ghost use Rattle.even_places.specs.Rule.{others};
-ghost use Rattle.even_scheme.specs.Even.{assemble};
-ghost use Rattle.even_recover.specs.Rows.{groupSymbol, groupParts, groupOf, Held, Grouped, Named};
+ghost use Rattle.parameters.specs.Bounds.{evenFits};
+ghost use Rattle.parameters.specs.Measures.{evenRows};
+ghost use Rattle.scheme.specs.Scheme.{answersIn};
+ghost use Rattle.even_places.specs.Sets.{byteOf, allSets};
+ghost use Rattle.even_scheme.specs.Even.{assemble, evenKeyGood, evenQuery, serverParts, recoveredParts, evenScheme};
+ghost use Rattle.even_layout.specs.Layout.{firstRows};
+ghost use Rattle.even_recover.specs.Rows.{readingOf, groupSymbol, groupParts, groupOf, setParts, Given, Held, Grouped, Named, Ready};
 
 // What is the same for all rows of one server's query.
 struct Reading {
@@ -105,5 +111,95 @@ fn from_group(here: Reading, group: Group, query: &[u8], answers: &[u8], message
         from_row(here, group, i, number, answers, message);
         cell += group.messages;
         i += 1;
+    }
+}
+
+// The group of a set with the wanted message, whose first row starts at position `cell` of the query.
+fn group_of(here: Reading, set: u8, cell: usize, firsts: &[usize]) -> Group
+    requires { ⌜ Given here set cell (now firsts) ⌝ }
+    ensures { λ r. ⌜ r ≡ groupOf here set cell (now (firsts .entry)) ⌝ }
+{
+    let count = even_layout::rows_of(here.servers, set);
+    Group {
+        messages: u8::count_ones(set) as usize,
+        count,
+        first: firsts[set as usize],
+        source: firsts[(set - here.bit) as usize],
+        each: count / (here.servers - 1),
+        cell: cell + u8::count_ones(set % here.bit) as usize,
+    }
+}
+
+// Recovers the symbols of the rows of a set, if it has the wanted message.
+fn from_set(here: Reading, set: u8, cell: usize, firsts: &[usize], query: &[u8], answers: &[u8], message: &mut [u8])
+    requires { ⌜ 1 ≤ here .bit ⌝ }
+    requires { ⌜ Held here (now answers) ⌝ }
+    requires { ⌜ (set / here .bit % 2 ≡ 1 → Ready here set cell (now firsts) (now query) (now message)) ⌝ }
+    ensures { λ _. ⌜ now (message .exit) ≡ assemble (setParts here set cell (now (firsts .entry)) (now (query .entry)) (now (answers .entry))) (now (message .entry)) ⌝ }
+{
+    if set / here.bit % 2 == 1 {
+        from_group(here, group_of(here, set, cell, firsts), query, answers, message);
+    }
+}
+
+// What is the same for all rows of a server's query.
+fn reading_of(n: usize, k: usize, s: usize, wanted: usize, server: usize) -> Reading
+    requires { ⌜ evenFits n k s ≡ true ⌝ }
+    requires { ⌜ wanted < k ⌝ }
+    ensures { λ r. ⌜ r ≡ readingOf n k s wanted server ⌝ }
+{
+    let whole = even_layout::power(n, k - 1);
+    Reading {
+        servers: n,
+        symbol: s,
+        rows: whole + (whole - 1) / (n - 1),
+        bit: even_layout::power(2, wanted) as u8,
+        server,
+    }
+}
+
+fn query_of(n: usize, k: usize, wanted: usize, server: usize, key: &[u8], out: &mut [u8])
+    requires { ⌜ (wanted < k) × (server < n) ⌝ }
+    ensures { λ _. ⌜ now (out .exit) ≡ put 0 (evenQuery n k wanted server (now (key .entry))) (now (out .entry)) ⌝ }
+{
+}
+
+// Recovers the symbols of the rows with the wanted message of one server's query.
+fn from_server(n: usize, k: usize, s: usize, wanted: usize, server: usize, key: &[u8], sets: &[u8], firsts: &[usize], answers: &[u8], message: &mut [u8])
+    requires { ⌜ evenFits n k s ≡ true ⌝ }
+    requires { ⌜ (wanted < k) × (server < n) ⌝ }
+    requires { ⌜ (length (now key) ≡ k * n ^ k) × (evenKeyGood n k (now key) ≡ true) ⌝ }
+    requires { ⌜ (now sets ≡ map byteOf (allSets k)) × (now firsts ≡ firstRows n k) ⌝ }
+    requires { ⌜ (n * (evenRows n k * s) ≤ length (now answers)) × (n ^ k * s ≤ length (now message)) ⌝ }
+    ensures { λ _. ⌜ now (message .exit) ≡ assemble (serverParts xor n k s wanted (now (key .entry)) (answersIn (evenScheme xor n k s) n wanted (now (key .entry)) (now (answers .entry))) server) (now (message .entry)) ⌝ }
+{
+    let here = reading_of(n, k, s, wanted, server);
+    let mut query = [0u8; 1024];
+    query_of(n, k, wanted, server, key, &mut query);
+    let mut cell = 0;
+    let mut j = 0;
+    while j < sets.len() {
+        let set = sets[j];
+        from_set(here, set, cell, firsts, &query, answers, message);
+        cell += even_layout::rows_of(n, set) * u8::count_ones(set) as usize;
+        j += 1;
+    }
+}
+
+// Recovers the wanted message from the slots of the answer buffer, and writes each symbol at its number.
+pub fn recover(n: usize, k: usize, s: usize, wanted: usize, key: &[u8], answers: &[u8], message: &mut [u8])
+    requires { ⌜ evenFits n k s ≡ true ⌝ }
+    requires { ⌜ wanted < k ⌝ }
+    requires { ⌜ (length (now key) ≡ k * n ^ k) × (evenKeyGood n k (now key) ≡ true) ⌝ }
+    requires { ⌜ (n * (evenRows n k * s) ≤ length (now answers)) × (n ^ k * s ≤ length (now message)) ⌝ }
+    ensures { λ _. ⌜ now (message .exit) ≡ assemble (recoveredParts xor n k s wanted (now (key .entry)) (answersIn (evenScheme xor n k s) n wanted (now (key .entry)) (now (answers .entry)))) (now (message .entry)) ⌝ }
+{
+    let sets = even_layout::ordered_sets(k);
+    let count = even_layout::power(2, k) - 1;
+    let firsts = even_layout::first_rows(n, k);
+    let mut server = 0;
+    while server < n {
+        from_server(n, k, s, wanted, server, key, &sets[..count], &firsts, answers, message);
+        server += 1;
     }
 }
