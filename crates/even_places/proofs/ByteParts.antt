@@ -1,8 +1,8 @@
 -- A set's byte by bits: the messages before p are the byte's remainder by 2^p, and without p the byte is 2^p less.
-use Prim.Native.Nat.{ℕ, zero, suc, _+_, _-_, _*_, _^_, _/_, _%_, _≤_, _<_}
-use native.Mathlib.Nat.{zero-add, zero-mul, mul-zero, one-mul, mul-assoc, mul-comm, pow-suc, pow-succ', pow-zero, pow-le-pow-right, mod-eq-of-lt, add-mul-mod-self-left}
+use Prim.Native.Nat.{ℕ, zero, suc, _+_, _-_, _*_, _^_, _%_, _≤_, _<_}
+use native.Mathlib.Nat.{mul-zero, one-mul, mul-assoc, pow-suc, pow-succ', pow-zero, pow-le-pow-right, mod-eq-of-lt, add-mul-mod-self-left}
 use native.Mathlib.Omega.{arith}
-use mathlib.Core.Path.{_≡_, refl, sym, ap, _∙_}
+use mathlib.Core.Path.{_≡_, refl, ap, _∙_}
 use mathlib.Core.List.{List, [], _∷_}
 use mathlib.Core.Bool.{Bool, true, false, false≢true}
 use lib.ListN.{length, take, drop, set}

@@ -3,20 +3,15 @@ use Prim.Native.Nat.{ℕ, suc, _+_, _-_, _*_, _/_, _%_, _≤_, _<_}
 use native.Mathlib.Nat.{mul-le-mul, mul-le-mul-right, suc-mul, mul-zero, mod-lt, div-lt-iff-lt-mul}
 use native.Mathlib.Decide.{decLt}
 use native.Mathlib.Omega.{arith}
-use mathlib.Core.Path.{_≡_, sym, ap, _∙_}
+use mathlib.Core.Path.{_≡_, ap, _∙_}
 use mathlib.Core.Logic.{_≢_}
 use mathlib.Core.List.{List}
-use borrow.Author.Tests.{eq-eqb, ne-eqb}
 use lib.ListN.{length, getD}
-use Rattle.lists.specs.Parts.{cut, put}
-use Rattle.lists.proofs.PartsAgain.{put-read, put-again}
-use Rattle.symbol.specs.Xor.{xor}
-use Rattle.symbol.proofs.XorBytes.{xor-length}
 use Rattle.even_places.specs.Rule.{others}
 use Rattle.even_places.proofs.Positions.{others-low, others-high}
 use Rattle.even_recover.specs.declared.Reading.{Reading}
 use Rattle.even_recover.specs.declared.Group.{Group}
-use Rattle.even_recover.specs.Rows.{rowIn, groupSymbol, Held, Grouped}
+use Rattle.even_recover.specs.Rows.{Held, Grouped}
 
 -- row x of the answer buffer is in it, and its number is small
 pub record RowAt (x symbol long : ℕ) : Type 0 where
@@ -71,27 +66,3 @@ module _ (here : Reading) (group : Group) (answers : List ℕ) (i : ℕ) (held :
           let none : group .each ≡ 0 = omega arith in
           let nothing : (here .servers - 1) * group .each ≡ 0 = ap (λ (e : ℕ). (here .servers - 1) * e) none ∙ mul-zero (here .servers - 1) in
           absurd (let w : ⊥ = omega (arith, grouped .turns joined) in w)
-
--- the symbol that a row gives, by the number of messages in its set
-module _ (here : Reading) (group : Group) (answers : List ℕ) (i : ℕ) where
-  pub symbol-alone : group .messages ≡ 1 → groupSymbol here group answers i ≡ rowIn here answers (here .server) (group .first + i)
-  unfolding groupSymbol
-  symbol-alone alone = rw (eq-eqb (group .messages) 1 alone)
-
-  pub symbol-joined : group .messages ≢ 1
-      → groupSymbol here group answers i
-      ≡ xor .minus (rowIn here answers (here .server) (group .first + i))
-      (rowIn here answers (getD (others (here .servers) (here .server)) (i / group .each) 0) (group .source + i % group .each))
-  unfolding groupSymbol
-  symbol-joined joined = rw (ne-eqb (group .messages) 1 joined)
-
--- a row's answer copied to a part of the message, and then another's combined into it: as exclusive or is its own inverse, what the
--- second leaves of the first
-pub copied-combined : (at size : ℕ) (row source message copied done : List ℕ) → length row ≡ size → at + size ≤ length message
-    → copied ≡ put at row message → done ≡ put at (xor .plus (cut at size copied) source) copied
-    → done ≡ put at (xor .minus row source) message
-copied-combined at size row source message copied done long fits e f =
-    f
-    ∙ ap (λ (l : List ℕ). put at (xor .plus (cut at size l) source) l) e
-    ∙ ap (λ (l : List ℕ). put at (xor .plus l source) (put at row message)) (put-read at size row message long fits)
-    ∙ put-again at size row message long fits (xor .minus row source) (xor-length row source ∙ long)

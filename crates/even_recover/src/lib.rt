@@ -17,28 +17,31 @@ ghost use Rattle.even_recover.specs.Rows.{readingOf, groupSymbol, groupP
 
 // What is the same for all rows of one server's query.
 struct Reading {
+    // How many servers there are.
     servers: usize,
     // Bytes of a symbol.
     symbol: usize,
     // Rows of a query.
     rows: usize,
-    // The wanted message's bit in a set.
+    // The wanted message's bit in the byte of a set.
     bit: u8,
+    // The server.
     server: usize,
 }
 
 // The rows of one set with the wanted message.
 struct Group {
-    // How many messages are in the set.
+    // Messages in the set.
     messages: usize,
+    // Rows of the set.
     count: usize,
     // The first of them.
     first: usize,
     // The first row of the set without the wanted message.
     source: usize,
-    // How many of them are joined from rows of the same server.
+    // How many of the rows are joined from those of each other server.
     each: usize,
-    // The wanted message's position in the query, in the first of them.
+    // The wanted message's position in the query, in the first row.
     cell: usize,
 }
 
@@ -47,11 +50,7 @@ fn other(server: usize, turn: usize) -> usize
     requires { ⌜ turn < 16 ⌝ }
     ensures { λ r. ⌜ ((n : ℕ) → server < n → turn < n - 1 → r ≡ getD (others n server) turn 0) ⌝ }
 {
-    if turn < server {
-        turn
-    } else {
-        turn + 1
-    }
+    if turn < server { turn } else { turn + 1 }
 }
 
 // Copies a row of the answer buffer over a symbol of the message.
@@ -81,7 +80,14 @@ fn combine_row(symbol: usize, number: usize, row: usize, answers: &[u8], message
 }
 
 // Recovers the symbol of row `i` of the group: the answer to it, combined with the answer to the row that it was joined from.
-fn from_row(here: Reading, group: Group, i: usize, number: usize, answers: &[u8], message: &mut [u8])
+fn from_row(
+    here: Reading,
+    group: Group,
+    i: usize,
+    number: usize,
+    answers: &[u8],
+    message: &mut [u8],
+)
     requires { ⌜ Held here (now answers) ⌝ }
     requires { ⌜ Grouped here group ⌝ }
     requires { ⌜ i < group .count ⌝ }
@@ -91,7 +97,8 @@ fn from_row(here: Reading, group: Group, i: usize, number: usize, answers: &[u8]
     let row = here.server * here.rows + (group.first + i);
     copy_row(here.symbol, number, row, answers, message);
     if group.messages != 1 {
-        let source = other(here.server, i / group.each) * here.rows + (group.source + i % group.each);
+        let source = other(here.server, i / group.each) * here.rows
+            + (group.source + i % group.each);
         combine_row(here.symbol, number, source, answers, message);
     }
 }
@@ -131,14 +138,28 @@ fn group_of(here: Reading, set: u8, cell: usize, firsts: &[usize]) -> Group
 }
 
 // Recovers the symbols of the rows of a set, if it has the wanted message.
-fn from_set(here: Reading, set: u8, cell: usize, firsts: &[usize], query: &[u8], answers: &[u8], message: &mut [u8])
+fn from_set(
+    here: Reading,
+    set: u8,
+    cell: usize,
+    firsts: &[usize],
+    query: &[u8],
+    answers: &[u8],
+    message: &mut [u8],
+)
     requires { ⌜ 1 ≤ here .bit ⌝ }
     requires { ⌜ Held here (now answers) ⌝ }
     requires { ⌜ (set / here .bit % 2 ≡ 1 → Ready here set cell (now firsts) (now query) (now message)) ⌝ }
     ensures { λ _. ⌜ now (message .exit) ≡ assemble (setParts here set cell (now (firsts .entry)) (now (query .entry)) (now (answers .entry))) (now (message .entry)) ⌝ }
 {
     if set / here.bit % 2 == 1 {
-        from_group(here, group_of(here, set, cell, firsts), query, answers, message);
+        from_group(
+            here,
+            group_of(here, set, cell, firsts),
+            query,
+            answers,
+            message,
+        );
     }
 }
 
@@ -155,51 +176,5 @@ fn reading_of(n: usize, k: usize, s: usize, wanted: usize, server: usize) -> Rea
         rows: whole + (whole - 1) / (n - 1),
         bit: even_layout::power(2, wanted) as u8,
         server,
-    }
-}
-
-fn query_of(n: usize, k: usize, wanted: usize, server: usize, key: &[u8], out: &mut [u8])
-    requires { ⌜ (wanted < k) × (server < n) ⌝ }
-    ensures { λ _. ⌜ now (out .exit) ≡ put 0 (evenQuery n k wanted server (now (key .entry))) (now (out .entry)) ⌝ }
-{
-}
-
-// Recovers the symbols of the rows with the wanted message of one server's query.
-fn from_server(n: usize, k: usize, s: usize, wanted: usize, server: usize, key: &[u8], sets: &[u8], firsts: &[usize], answers: &[u8], message: &mut [u8])
-    requires { ⌜ evenFits n k s ≡ true ⌝ }
-    requires { ⌜ (wanted < k) × (server < n) ⌝ }
-    requires { ⌜ (length (now key) ≡ k * n ^ k) × (evenKeyGood n k (now key) ≡ true) ⌝ }
-    requires { ⌜ (now sets ≡ map byteOf (allSets k)) × (now firsts ≡ firstRows n k) ⌝ }
-    requires { ⌜ (n * (evenRows n k * s) ≤ length (now answers)) × (n ^ k * s ≤ length (now message)) ⌝ }
-    ensures { λ _. ⌜ now (message .exit) ≡ assemble (serverParts xor n k s wanted (now (key .entry)) (answersIn (evenScheme xor n k s) n wanted (now (key .entry)) (now (answers .entry))) server) (now (message .entry)) ⌝ }
-{
-    let here = reading_of(n, k, s, wanted, server);
-    let mut query = [0u8; 1024];
-    query_of(n, k, wanted, server, key, &mut query);
-    let mut cell = 0;
-    let mut j = 0;
-    while j < sets.len() {
-        let set = sets[j];
-        from_set(here, set, cell, firsts, &query, answers, message);
-        cell += even_layout::rows_of(n, set) * u8::count_ones(set) as usize;
-        j += 1;
-    }
-}
-
-// Recovers the wanted message from the slots of the answer buffer, and writes each symbol at its number.
-pub fn recover(n: usize, k: usize, s: usize, wanted: usize, key: &[u8], answers: &[u8], message: &mut [u8])
-    requires { ⌜ evenFits n k s ≡ true ⌝ }
-    requires { ⌜ wanted < k ⌝ }
-    requires { ⌜ (length (now key) ≡ k * n ^ k) × (evenKeyGood n k (now key) ≡ true) ⌝ }
-    requires { ⌜ (n * (evenRows n k * s) ≤ length (now answers)) × (n ^ k * s ≤ length (now message)) ⌝ }
-    ensures { λ _. ⌜ now (message .exit) ≡ assemble (recoveredParts xor n k s wanted (now (key .entry)) (answersIn (evenScheme xor n k s) n wanted (now (key .entry)) (now (answers .entry)))) (now (message .entry)) ⌝ }
-{
-    let sets = even_layout::ordered_sets(k);
-    let count = even_layout::power(2, k) - 1;
-    let firsts = even_layout::first_rows(n, k);
-    let mut server = 0;
-    while server < n {
-        from_server(n, k, s, wanted, server, key, &sets[..count], &firsts, answers, message);
-        server += 1;
     }
 }

@@ -9,59 +9,43 @@ use Rattle.lists.proofs.Parts.{cut-length, put-part}
 use borrow.Author.Needs.{needs}
 use Rattle.even_recover.proofs.copy_row.Statement.{statement}
 use Rattle.even_recover.proofs.copy_row.Tie as tie
-use Rattle.even_recover.proofs.copy_row.Reads as reads
-use Rattle.even_recover.proofs.copy_row.Lts as lts
-use Rattle.symbol.proofs.copy.Reads as copy-reads
 
--- src/lib.rt:57:14
 mul-at : tie.Need-mul-at
 mul-at c = search needs
 
--- src/lib.rt:58:15
 add-end : tie.Need-add-end
 add-end c = search needs
 
--- src/lib.rt:59:16
 mul-from : tie.Need-mul-from
 mul-from c = search needs
 
--- src/lib.rt:60:17
 add-until : tie.Need-add-until
 add-until c = search needs
 
--- src/lib.rt:61:18
 sub-copy : tie.Need-sub-copy
 sub-copy c = search needs
 
--- src/lib.rt:61:18
 part-copy-start : tie.Need-part-copy-start
 part-copy-start c = search needs
 
--- src/lib.rt:61:18
 part-copy-end : tie.Need-part-copy-end
 part-copy-end c = search needs
 
--- src/lib.rt:61:41
 sub-copy-2 : tie.Need-sub-copy-2
 sub-copy-2 c = search needs
 
--- src/lib.rt:61:41
 part-copy-start-2 : tie.Need-part-copy-start-2
 part-copy-start-2 c = search needs
 
--- src/lib.rt:61:41
 part-copy-end-2 : tie.Need-part-copy-end-2
 part-copy-end-2 c = search needs
 
--- src/lib.rt:61:5
 copy-requires : tie.Need-copy-requires
 copy-requires c κs = search needs
 
--- src/lib.rt:52:1
 same-length : tie.Need-same-length
 same-length c = search needs
 
--- src/lib.rt:52:1
 returns : tie.Need-returns
 returns c =
     let here = c .before .before .before .before .before .before .before .args in

@@ -12,9 +12,6 @@ use Rattle.even_recover.specs.Rows.{groupSymbol, groupPart, groupParts}
 use Rattle.even_recover.proofs.Written.{assemble-none, assemble-part}
 use Rattle.even_recover.proofs.from_group.Statement.{statement}
 use Rattle.even_recover.proofs.from_group.Tie as tie
-use Rattle.even_recover.proofs.from_group.Reads as reads
-use Rattle.even_recover.proofs.from_group.Lts as lts
-use Rattle.even_recover.proofs.from_row.Reads as from-row-reads
 
 abbrev Inv-loop : tie.InvT-loop
 Inv-loop here group query answers message₀ count cell₀ i₀ message cell i =
@@ -26,39 +23,31 @@ Inv-loop here group query answers message₀ count cell₀ i₀ message cell i =
 abbrev μ-loop : tie.MeasureT-loop
 μ-loop here group query answers message₀ count cell₀ i₀ message cell i = group .count - i
 
--- src/lib.rt:103:5
 loop-holds : tie.Need-loop-holds Inv-loop μ-loop
 loop-holds c =
     let at = c .before .before .before .args in
     (omega arith, refl, omega (arith, zero-mul (at .group .messages)), assemble-none (groupPart (at .here) (at .group) (at .query .now) (at .answers .now)) (at .message .now))
 
--- src/lib.rt:104:22
 shared-slice-read-number : tie.Need-shared-slice-read-number Inv-loop μ-loop
-shared-slice-read-number c =     rw (c .before .before .loop .inv .2) (c .before .before .before .before .before .before .pre .1 .1 .cells (c .before .before .loop .i) (omega arith))
+shared-slice-read-number c = rw (c .before .before .loop .inv .2) (c .before .before .before .before .before .before .pre .1 .1 .cells (c .before .before .loop .i) (omega arith))
 
--- src/lib.rt:104:22
 cast-number : tie.Need-cast-number Inv-loop μ-loop
-cast-number c =     omega (arith, c .shared-slice-known3 .given (c .before .before .loop .cell))
+cast-number c = omega (arith, c .shared-slice-known3 .given (c .before .before .loop .cell))
 
--- src/lib.rt:105:9
 from-row-requires : tie.Need-from-row-requires Inv-loop μ-loop
-from-row-requires c κs =     (c .before .before .before .before .before .before .before .pre .0, (c .before .before .before .before .before .before .before .pre .1 .0, (omega arith, rw (c .before .before .before .loop .inv .1, c .before .before .before .loop .inv .2) (c .before .before .before .before .before .before .before .pre .1 .1 .symbols (c .before .before .before .loop .i) (omega arith)))))
+from-row-requires c κs = (c .before .before .before .before .before .before .before .pre .0, (c .before .before .before .before .before .before .before .pre .1 .0, (omega arith, rw (c .before .before .before .loop .inv .1, c .before .before .before .loop .inv .2) (c .before .before .before .before .before .before .before .pre .1 .1 .symbols (c .before .before .before .loop .i) (omega arith)))))
 
--- src/lib.rt:106:9
 add-cell : tie.Need-add-cell Inv-loop μ-loop
 add-cell c =
     let at = c .before .before .before .before .before .before .before .before .before .before .before .args in
     omega (arith, c .before .before .before .before .before .before .before .loop .inv .2, c .before .before .before .before .before .before .before .before .before .before .before .pre .1 .0 .small, c .before .before .before .before .before .before .before .before .before .before .before .pre .1 .1 .cells (c .before .before .before .before .before .before .before .loop .i) (omega arith))
 
--- src/lib.rt:107:9
 add-i : tie.Need-add-i Inv-loop μ-loop
-add-i c =     omega arith
+add-i c = omega arith
 
--- src/lib.rt:103:5
 loop-less : tie.Need-loop-less Inv-loop μ-loop
-loop-less c =     omega arith
+loop-less c = omega arith
 
--- src/lib.rt:103:5
 loop-again : tie.Need-loop-again Inv-loop μ-loop
 unfolding groupPart
 loop-again c =
@@ -73,11 +62,9 @@ loop-again c =
           ∙ sym (assemble-part part i (at .message .now)),
     )
 
--- src/lib.rt:94:1
 same-length : tie.Need-same-length Inv-loop μ-loop
-same-length c =     c .before .loop .inv .1
+same-length c = c .before .loop .inv .1
 
--- src/lib.rt:94:1
 returns : tie.Need-returns Inv-loop μ-loop
 unfolding groupParts
 returns c =

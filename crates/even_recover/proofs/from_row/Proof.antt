@@ -1,66 +1,52 @@
 -- `from_row` meets its contract: the answer to the row is copied to the symbol's part of the message, and the answer to the row that
 -- it was joined from is combined into it.
-use mathlib.Core.Path.{sym, ap, ap₂, _∙_}
+use mathlib.Core.Path.{sym, ap, _∙_}
 use mathlib.Core.List.{List}
 use Prim.Native.Nat.{ℕ, _+_, _*_, _/_, _%_}
 use native.Mathlib.Omega.{arith}
 use lib.ListN.{getD}
 use Rattle.lists.specs.Parts.{cut, put}
-use Rattle.lists.proofs.Parts.{cut-length, put-length}
-use Rattle.lists.proofs.PartsAgain.{put-read, put-again}
-use Rattle.symbol.specs.Xor.{xor}
-use Rattle.symbol.proofs.XorBytes.{xor-length}
+use Rattle.lists.proofs.Parts.{cut-length}
 use Rattle.even_places.specs.Rule.{others}
-use Rattle.even_recover.proofs.Held.{own-row, source-row, symbol-alone, symbol-joined, copied-combined}
+use Rattle.even_recover.proofs.Held.{own-row, source-row}
+use Rattle.even_recover.proofs.RowSymbol.{symbol-alone, symbol-joined, copied-combined}
 use borrow.Author.Needs.{needs}
 use Rattle.even_recover.proofs.from_row.Statement.{statement}
 use Rattle.even_recover.proofs.from_row.Tie as tie
-use Rattle.even_recover.proofs.from_row.Reads as reads
-use Rattle.even_recover.proofs.from_row.Lts as lts
-use Rattle.even_recover.proofs.combine_row.Reads as combine-row-reads
-use Rattle.even_recover.proofs.copy_row.Reads as copy-row-reads
-use Rattle.even_recover.proofs.other.Reads as other-reads
 
--- src/lib.rt:85:15
 mul-row : tie.Need-mul-row
 mul-row c =
     let at = c .before .before .before .args in
     let own = own-row (at .here) (at .group) (at .answers .now) (at .i) (c .before .before .before .pre .0) (c .before .before .before .pre .1 .0) (c .before .before .before .pre .1 .1 .0) in
     omega (arith, own .small)
 
--- src/lib.rt:85:42
 add-row : tie.Need-add-row
 add-row c = search needs
 
--- src/lib.rt:85:15
 add-row-2 : tie.Need-add-row-2
 add-row-2 c =
     let at = c .before .before .before .before .args in
     let own = own-row (at .here) (at .group) (at .answers .now) (at .i) (c .before .before .before .before .pre .0) (c .before .before .before .before .pre .1 .0) (c .before .before .before .before .pre .1 .1 .0) in
     omega (arith, own .small)
 
--- src/lib.rt:86:5
 copy-row-requires : tie.Need-copy-row-requires
 copy-row-requires c κs =
     let at = c .before .before .before .before .before .args in
     let own = own-row (at .here) (at .group) (at .answers .now) (at .i) (c .before .before .before .before .before .pre .0) (c .before .before .before .before .before .pre .1 .0) (c .before .before .before .before .before .pre .1 .1 .0) in
     (own .inside, c .before .before .before .before .before .pre .1 .1 .1)
 
--- src/lib.rt:88:41
 div-other : tie.Need-div-other
 div-other c =
     let at = c .before .before .before .before .before .before .before .before .before .before .before .args in
     let source = source-row (at .here) (at .group) (at .answers .now) (at .i) (c .before .before .before .before .before .before .before .before .before .before .before .pre .0) (c .before .before .before .before .before .before .before .before .before .before .before .pre .1 .0) (c .before .before .before .before .before .before .before .before .before .before .before .pre .1 .1 .0) (c .before .if1 .taken) in
     source .some-each
 
--- src/lib.rt:88:22
 other-requires : tie.Need-other-requires
 other-requires c κs =
     let at = c .before .before .before .before .before .before .before .before .before .before .before .args in
     let source = source-row (at .here) (at .group) (at .answers .now) (at .i) (c .before .before .before .before .before .before .before .before .before .before .before .pre .0) (c .before .before .before .before .before .before .before .before .before .before .before .pre .1 .0) (c .before .before .before .before .before .before .before .before .before .before .before .pre .1 .1 .0) (c .before .if1 .taken) in
     omega (arith, source .turn, c .before .before .before .before .before .before .before .before .before .before .before .pre .0 .few)
 
--- src/lib.rt:88:22
 mul-source : tie.Need-mul-source
 mul-source c =
     let at = c .before .before .before .before .before .before .before .before .before .before .before .before .before .args in
@@ -68,21 +54,18 @@ mul-source c =
     let other = ap (λ (m : ℕ). m * at .here .rows) (c .before .other .ensures (at .here .servers) (c .before .before .before .before .before .before .before .before .before .before .before .before .before .pre .0 .known) (source .turn)) in
     omega (arith, source .source .small)
 
--- src/lib.rt:88:87
 rem-source : tie.Need-rem-source
 rem-source c =
     let at = c .before .before .before .before .before .before .before .before .before .before .before .before .before .before .args in
     let source = source-row (at .here) (at .group) (at .answers .now) (at .i) (c .before .before .before .before .before .before .before .before .before .before .before .before .before .before .pre .0) (c .before .before .before .before .before .before .before .before .before .before .before .before .before .before .pre .1 .0) (c .before .before .before .before .before .before .before .before .before .before .before .before .before .before .pre .1 .1 .0) (c .before .before .before .before .if1 .taken) in
     source .some-each
 
--- src/lib.rt:88:72
 add-source : tie.Need-add-source
 add-source c =
     let at = c .before .before .before .before .before .before .before .before .before .before .before .before .before .before .before .args in
     let source = source-row (at .here) (at .group) (at .answers .now) (at .i) (c .before .before .before .before .before .before .before .before .before .before .before .before .before .before .before .pre .0) (c .before .before .before .before .before .before .before .before .before .before .before .before .before .before .before .pre .1 .0) (c .before .before .before .before .before .before .before .before .before .before .before .before .before .before .before .pre .1 .1 .0) (c .before .before .before .before .before .if1 .taken) in
     omega (arith, source .source .small)
 
--- src/lib.rt:88:22
 add-source-2 : tie.Need-add-source-2
 add-source-2 c =
     let at = c .before .before .before .before .before .before .before .before .before .before .before .before .before .before .before .args in
@@ -90,7 +73,6 @@ add-source-2 c =
     let other = ap (λ (m : ℕ). m * at .here .rows) (c .before .before .before .other .ensures (at .here .servers) (c .before .before .before .before .before .before .before .before .before .before .before .before .before .before .before .pre .0 .known) (source .turn)) in
     omega (arith, source .source .small)
 
--- src/lib.rt:89:9
 combine-row-requires : tie.Need-combine-row-requires
 combine-row-requires c κs =
     let at = c .before .before .before .before .before .before .before .before .before .before .before .before .before .before .before .before .args in
@@ -99,11 +81,9 @@ combine-row-requires c κs =
     let long = c .before .before .before .before .before .before .before .before .before .before .copy-row .kept .1 .1 .1 .1 .0 in
     (rw other (source .source .inside), omega (arith, c .before .before .before .before .before .before .before .before .before .before .before .before .before .before .before .before .pre .1 .1 .1))
 
--- src/lib.rt:78:1
 same-length : tie.Need-same-length
 same-length c = search needs
 
--- src/lib.rt:78:1
 returns : tie.Need-returns
 returns c =
     let at = c .before .before .before .before .before .before .before .before .before .before .before .before .before .before .before .before .before .before .before .args in
@@ -120,11 +100,9 @@ returns c =
     (rw (c .before .before .before .before .before .before .before .other .ensures (at .here .servers) (c .before .before .before .before .before .before .before .before .before .before .before .before .before .before .before .before .before .before .before .pre .0 .known) (source .turn)) at (c .before .before .combine-row .ensures))
     ∙ ap (λ (l : List ℕ). put (at .number * size) l (at .message .now)) (sym (symbol-joined (at .here) (at .group) answers (at .i) (c .before .before .before .before .before .before .before .before .before .if1 .taken)))
 
--- src/lib.rt:78:1
 same-length-2 : tie.Need-same-length-2
 same-length-2 c = search needs
 
--- src/lib.rt:78:1
 returns-2 : tie.Need-returns-2
 returns-2 c =
     let at = c .before .before .before .before .before .before .before .before .before .before .args in

@@ -1,7 +1,6 @@
 -- `from_set` meets its contract: the bit of the wanted message in the set decides.
-use mathlib.Core.Path.{_≡_, refl, sym, ap, _∙_}
-use mathlib.Core.List.{List}
-use Prim.Native.Nat.{ℕ, _/_, _%_}
+use mathlib.Core.Path.{ap, _∙_}
+use Prim.Native.Nat.{_/_, _%_}
 use borrow.Author.Tests.{eq-eqb, ne-eqb}
 use Rattle.even_scheme.specs.Even.{assemble}
 use Rattle.even_recover.specs.declared.Group.{Group}
@@ -9,30 +8,21 @@ use Rattle.even_recover.specs.Rows.{groupParts, setParts}
 use borrow.Author.Needs.{needs}
 use Rattle.even_recover.proofs.from_set.Statement.{statement}
 use Rattle.even_recover.proofs.from_set.Tie as tie
-use Rattle.even_recover.proofs.from_set.Reads as reads
-use Rattle.even_recover.proofs.from_set.Lts as lts
-use Rattle.even_recover.proofs.from_group.Reads as from-group-reads
-use Rattle.even_recover.proofs.group_of.Reads as group-of-reads
 
--- src/lib.rt:140:8
 div-if1 : tie.Need-div-if1
 div-if1 c = search needs
 
--- src/lib.rt:141:26
 group-of-requires : tie.Need-group-of-requires
-group-of-requires c κs =     c .before .before .before .before .before .before .pre .1 .1 (c .if1 .taken) .given
+group-of-requires c κs = c .before .before .before .before .before .before .pre .1 .1 (c .if1 .taken) .given
 
--- src/lib.rt:141:9
 from-group-requires : tie.Need-from-group-requires
 from-group-requires c κs =
     let ready = c .before .before .before .before .before .before .before .before .pre .1 .1 (c .before .before .if1 .taken) in
     (c .before .before .before .before .before .before .before .before .pre .1 .0, (rw (c .before .group-of .ensures) (ready .grouped), rw (c .before .group-of .ensures) (ready .named)))
 
--- src/lib.rt:134:1
 same-length : tie.Need-same-length
 same-length c = search needs
 
--- src/lib.rt:134:1
 returns : tie.Need-returns
 unfolding setParts
 returns c =
@@ -41,7 +31,6 @@ returns c =
     ∙ ap (λ (g : Group). assemble (groupParts (at .here) g (at .query .now) (at .answers .now)) (at .message .now)) (c .before .before .before .before .group-of .ensures)
     ∙ rw (eq-eqb (at .set / at .here .bit % 2) 1 (c .before .before .before .before .before .if1 .taken))
 
--- src/lib.rt:134:1
 returns-2 : tie.Need-returns-2
 unfolding setParts assemble
 returns-2 c =

@@ -5,20 +5,15 @@ use Rattle.even_places.proofs.Positions.{others-low, others-high}
 use borrow.Author.Needs.{needs}
 use Rattle.even_recover.proofs.other.Statement.{statement}
 use Rattle.even_recover.proofs.other.Tie as tie
-use Rattle.even_recover.proofs.other.Reads as reads
-use Rattle.even_recover.proofs.other.Lts as lts
 
--- src/lib.rt:47:9
 add-result : tie.Need-add-result
 add-result c = search needs
 
--- src/lib.rt:40:1
 returns : tie.Need-returns
-returns c =     λ n known turn. sym (others-low n (c .before .args .server) (c .before .args .turn) known (c .if1 .taken))
+returns c = λ n known turn. sym (others-low n (c .before .args .server) (c .before .args .turn) known (c .if1 .taken))
 
--- src/lib.rt:40:1
 returns-2 : tie.Need-returns-2
-returns-2 c =     λ n known turn. add-one (c .before .args .turn) ∙ sym (others-high n (c .before .args .server) (c .before .args .turn) known (c .if1 .left) turn)
+returns-2 c = λ n known turn. add-one (c .before .args .turn) ∙ sym (others-high n (c .before .args .server) (c .before .args .turn) known (c .if1 .left) turn)
 
 pub other-spec : {M : Type 1} → statement M
 other-spec = tie.close (tie.spec add-result returns returns-2)
