@@ -15,3 +15,4 @@ pub mod RowNumbers
 pub mod SourceRows
 pub mod WantedCells
 pub mod ByteParts
+pub mod Ranked

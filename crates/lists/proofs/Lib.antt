@@ -3,6 +3,9 @@ pub mod Parts
 pub mod Sums
 pub mod Any
 pub mod Every
+pub mod Reading
+pub mod Keep
+pub mod Writing
 pub mod Flat
 pub mod Mapped
 pub mod PartsAt
@@ -11,5 +14,4 @@ pub mod PartsAgain
 pub mod Tests
 pub mod FlatAt
 pub mod MapAll
-pub mod Writing
 pub mod Elements
