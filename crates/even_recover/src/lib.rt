@@ -11,7 +11,7 @@ ghost use Rattle.parameters.specs.Bounds.{evenFits};
 ghost use Rattle.parameters.specs.Measures.{evenRows};
 ghost use Rattle.scheme.specs.Scheme.{answersIn};
 ghost use Rattle.even_places.specs.Sets.{byteOf, allSets};
-ghost use Rattle.even_scheme.specs.Even.{assemble, evenKeyGood, evenQuery, serverParts, recoveredParts, evenScheme};
+ghost use Rattle.even_scheme.specs.Even.{assemble, evenKeyGood, serverParts, recoveredParts, evenScheme};
 ghost use Rattle.even_layout.specs.Layout.{firstRows};
 ghost use Rattle.even_recover.specs.Rows.{readingOf, groupSymbol, groupParts, groupOf, setParts, Given, Held, Grouped, Named, Ready};
 
@@ -176,5 +176,75 @@ fn reading_of(n: usize, k: usize, s: usize, wanted: usize, server: usize) -> Rea
         rows: whole + (whole - 1) / (n - 1),
         bit: even_layout::power(2, wanted) as u8,
         server,
+    }
+}
+
+// Recovers the symbols of the rows with the wanted message of one server's query.
+fn from_server(
+    n: usize,
+    k: usize,
+    s: usize,
+    wanted: usize,
+    server: usize,
+    key: &[u8],
+    sets: &[u8],
+    firsts: &[usize],
+    answers: &[u8],
+    message: &mut [u8],
+)
+    requires { ⌜ evenFits n k s ≡ true ⌝ }
+    requires { ⌜ (wanted < k) × (server < n) ⌝ }
+    requires { ⌜ (length (now key) ≡ k * n ^ k) × (evenKeyGood n k (now key) ≡ true) ⌝ }
+    requires { ⌜ (now sets ≡ map byteOf (allSets k)) × (now firsts ≡ firstRows n k) ⌝ }
+    requires { ⌜ (n * (evenRows n k * s) ≤ length (now answers)) × (n ^ k * s ≤ length (now message)) ⌝ }
+    ensures { λ _. ⌜ now (message .exit) ≡ assemble (serverParts xor n k s wanted (now (key .entry)) (answersIn (evenScheme xor n k s) n wanted (now (key .entry)) (now (answers .entry))) server) (now (message .entry)) ⌝ }
+{
+    let here = reading_of(n, k, s, wanted, server);
+    let mut asked = [0u8; 1024];
+    even_query::query(n, k, wanted, server, key, &mut asked);
+    let mut cell = 0;
+    let mut j = 0;
+    while j < sets.len() {
+        let set = sets[j];
+        from_set(here, set, cell, firsts, &asked, answers, message);
+        cell += even_layout::rows_of(n, set) * u8::count_ones(set) as usize;
+        j += 1;
+    }
+}
+
+// Recovers the wanted message from the slots of the answer buffer, and writes each symbol at its number.
+pub fn recover(
+    n: usize,
+    k: usize,
+    s: usize,
+    wanted: usize,
+    key: &[u8],
+    answers: &[u8],
+    message: &mut [u8],
+)
+    requires { ⌜ evenFits n k s ≡ true ⌝ }
+    requires { ⌜ wanted < k ⌝ }
+    requires { ⌜ (length (now key) ≡ k * n ^ k) × (evenKeyGood n k (now key) ≡ true) ⌝ }
+    requires { ⌜ (n * (evenRows n k * s) ≤ length (now answers)) × (n ^ k * s ≤ length (now message)) ⌝ }
+    ensures { λ _. ⌜ now (message .exit) ≡ assemble (recoveredParts xor n k s wanted (now (key .entry)) (answersIn (evenScheme xor n k s) n wanted (now (key .entry)) (now (answers .entry)))) (now (message .entry)) ⌝ }
+{
+    let sets = even_layout::ordered_sets(k);
+    let count = even_layout::power(2, k) - 1;
+    let firsts = even_layout::first_rows(n, k);
+    let mut server = 0;
+    while server < n {
+        from_server(
+            n,
+            k,
+            s,
+            wanted,
+            server,
+            key,
+            &sets[..count],
+            &firsts,
+            answers,
+            message,
+        );
+        server += 1;
     }
 }
