@@ -14,4 +14,6 @@ pub mod SourceRows
 pub mod Lexicographic
 pub mod Flat
 pub mod Process
+pub mod WantedCells
+pub mod ByteParts
 pub mod Ranked
