@@ -9,7 +9,7 @@ use mathlib.Core.Bool.{Bool, true, false, false≢true}
 use mathlib.Core.Option.{none, some}
 use lib.ListN.{length, getD, take}
 use Rattle.lists.specs.Sums.{bit, sum, All}
-use Rattle.lists.proofs.Any.{All-at}
+use Rattle.lists.proofs.Each.{All-get}
 use Rattle.lists.proofs.Flat.{flatMap-flatMap}
 use Rattle.lists.proofs.FlatAt.{PlacedAt, placed-at, flatMap-size}
 use Rattle.lists.proofs.Sums.{All-imp, All-every, All-keep}
@@ -101,7 +101,7 @@ module _ (N K k : ℕ) (wide : 1 < N) (known : k < K) (n : ℕ) (l : n < N) wher
       A = getD (allSets K) j []
 
       good : Good K A
-      good = All-at [] (allSets-good K) j hj
+      good = All-get [] (allSets-good K) j hj
 
       row : Row
       row = getD (setRows N K k n A) i []

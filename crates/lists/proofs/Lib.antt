@@ -24,9 +24,7 @@ pub mod Keep
 pub mod Writing
 pub mod Flat
 pub mod PartsAt
-pub mod Permutations
 pub mod PartsAgain
-pub mod Tests
 pub mod FlatAt
 pub mod MapAll
 pub mod Elements
