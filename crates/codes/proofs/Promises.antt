@@ -10,7 +10,9 @@ use Rattle.catalogue.specs.declared.Code.the-variants.{Short, Even}
 use Rattle.catalogue.specs.declared.Catalogue.{Catalogue}
 use Rattle.catalogue.specs.Catalogue.{fits, Admitted, sizesBy, sizesOf}
 use Rattle.catalogue.proofs.Admitted.{admitted-fits}
+use Rattle.short_code.specs.Short.{shortScheme}
 use Rattle.short_code.proofs.Promises.{short-promises}
+use Rattle.even_scheme.specs.Even.{evenScheme}
 use Rattle.even_scheme.proofs.Promises.{even-promises}
 use Rattle.codes.specs.Codes.{schemeBy, schemeOf}
 
@@ -37,3 +39,13 @@ admitted-short c a e = rw e at (admitted-fits c a)
 
 pub admitted-even : (c : Catalogue) → Admitted c → c .code ≡ Even → evenFits (c .servers) (c .messages) (c .symbol) ≡ true
 admitted-even c a e = rw e at (admitted-fits c a)
+
+-- ---- the scheme of a catalogue whose code is known
+
+pub scheme-short : (c : Catalogue) → c .code ≡ Short → schemeOf c ≡ shortScheme xor (c .servers) (c .messages) (c .symbol)
+unfolding schemeOf
+scheme-short c e = rw e
+
+pub scheme-even : (c : Catalogue) → c .code ≡ Even → schemeOf c ≡ evenScheme xor (c .servers) (c .messages) (c .symbol)
+unfolding schemeOf
+scheme-even c e = rw e

@@ -65,4 +65,3 @@ pub fn answer(c: Catalogue, server: usize, store: &[u8], query: &[u8], out: &mut
         Code::Even => even_answer::answer(c.servers, c.messages, c.symbol, store, query, out),
     }
 }
-
