@@ -1,7 +1,7 @@
 -- `even_ranks::takings` meets its contract: after i turns the entries from i on are still to be written.
 use mathlib.Core.Path.{_≡_, refl, sym, ap, _∙_}
 use mathlib.Core.List.{List, _∷_, _++_, append-nil}
-use Prim.Native.Nat.{ℕ, _+_, _-_, _≤_}
+use Prim.Native.Nat.{ℕ, _+_, _-_, _/_, _≤_, _<_}
 use native.Mathlib.Nat.{mod-lt, div-lt-iff-lt-mul}
 use native.Mathlib.Omega.{arith}
 use lib.ListN.{length, take, length-set}
@@ -24,14 +24,10 @@ loop-holds c = (omega arith, refl, table-start (c .before .args .n) (c .before .
 taken-before-requires : tie.Need-taken-before-requires Inv-loop μ-loop
 taken-before-requires c κs =
     let start = c .before .before .before in
-    let i = c .before .loop .i in (
-      start .pre .0,
-      start .pre .1,
-      div-lt-iff-lt-mul {k = 8} (omega arith) .1 (omega arith),
-      mod-lt i {m = 8} (omega arith),
-      start .pre .2,
-      start .pre .3,
-    )
+    let i = c .before .loop .i in
+    let block : i / 8 < 8 = div-lt-iff-lt-mul {k = 8} (omega arith) .1 (omega arith) in
+    let message = mod-lt i {m = 8} (omega arith) in
+    (start .pre .0, start .pre .1, omega arith, omega arith, start .pre .2, start .pre .3)
 
 mul-table : tie.Need-mul-table Inv-loop μ-loop
 mul-table c = omega arith
