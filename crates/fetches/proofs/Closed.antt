@@ -9,7 +9,7 @@ use Rattle.fetches.specs.Claim.{Demand3}
 use Rattle.fetches.specs.Plain.{PlainFetch}
 use Rattle.fetches.specs.Received.{Bounded}
 use Rattle.fetches.proofs.Theorem.{demand3}
-use Rattle.fetches.proofs.Plain.{plain-fetch}
+use Rattle.fetches.proofs.Served.{plain-fetch}
 use Rattle.fetches.proofs.Received.{bound-holds}
 
 pub no-server-can-tell : Demand3 schemeOf
