@@ -9,3 +9,4 @@ pub mod Served
 pub mod Received
 pub mod Closed
 pub mod Numbers
+pub mod Runs
