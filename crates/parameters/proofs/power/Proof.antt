@@ -1,12 +1,12 @@
--- `even_layout::power` meets its contract: after i turns the result is the i-th power.
+-- `parameters::power` meets its contract: after i turns the result is the i-th power.
 use mathlib.Core.Path.{_≡_, sym, ap, _∙_}
 use Prim.Native.Nat.{ℕ, suc, _-_, _*_, _^_, _≤_}
 use native.Mathlib.Nat.{pow-zero, pow-suc}
 use native.Mathlib.Numerals.{add-one}
 use native.Mathlib.Omega.{arith}
-use Rattle.even_layout.proofs.Bytes.{power-fits}
-use Rattle.even_layout.proofs.power.Statement.{statement}
-use Rattle.even_layout.proofs.power.Tie as tie
+use Rattle.parameters.proofs.Powers.{power-fits}
+use Rattle.parameters.proofs.power.Statement.{statement}
+use Rattle.parameters.proofs.power.Tie as tie
 
 abbrev Inv-loop : tie.InvT-loop
 Inv-loop base exponent result₀ i₀ result i = (i ≤ exponent) × (result ≡ base ^ i)
