@@ -7,6 +7,7 @@ use lib.ListN.{length}
 use Rattle.refusal.specs.declared.Refusal.{Refusal}
 use Rattle.refusal.specs.declared.Verdict.{Verdict}
 use Rattle.refusal.specs.declared.Verdict.the-variants.{Accepted, Refused}
+use Rattle.refusal.specs.declared.Outcome.{Outcome}
 use Rattle.refusal.specs.declared.Outcome.the-variants.{Value, Refused as NoValue}
 use Rattle.catalogue.specs.declared.Catalogue.{Catalogue}
 use Rattle.catalogue.specs.Catalogue.{Admitted}
@@ -16,7 +17,7 @@ use Rattle.catalogue_text.specs.Parsing.{readOf}
 use Rattle.catalogue_text.proofs.RoundTrip.{read-is-written}
 use Rattle.codes.specs.Codes.{schemeOf}
 use Rattle.codes.proofs.Promises.{promises, scheme-sizes}
-use Rattle.server.specs.Answering.{Answered, answerVerdict, answering}
+use Rattle.server.specs.Answering.{Answered, DidAnswer, answerVerdict, answering}
 use Rattle.server.proofs.Laws.{answer-passed, answer-by}
 use Rattle.gozimpe.specs.Host.{answeringText, longestAnswer}
 
@@ -32,19 +33,21 @@ same-value : (a b : ℕ) → Value a ≡ Value b → a ≡ b
 same-value a b e = cc
 
 -- the length that answering returns is at most a slot
-pub answer-small : (c : Catalogue) (server : ℕ) (store query buffer : List ℕ) (size : ℕ)
-    → answering schemeOf c server store query buffer .outcome ≡ Value size → size < 2 ^ 32
-answer-small c server store query buffer size e = go (answerVerdict schemeOf c server (length store) query (length buffer)) refl
+pub answer-small : (c : Catalogue) (server : ℕ) (store query buffer : List ℕ) (outcome : Outcome) (size : ℕ)
+    → outcome ≡ answering schemeOf c server store query buffer .outcome → outcome ≡ Value size → size < 2 ^ 32
+answer-small c server store query buffer outcome size is e = go (answerVerdict schemeOf c server (length store) query (length buffer)) refl
   where
+    given : (x : Answered) → answering schemeOf c server store query buffer ≡ x → x .outcome ≡ Value size
+    given x by = ap (λ (y : Answered). y .outcome) (sym by) ∙ sym is ∙ e
+
     go : (v : Verdict) → v ≡ answerVerdict schemeOf c server (length store) query (length buffer) → size < 2 ^ 32
     go Accepted v =
         let a = answer-passed schemeOf c server (length store) query (length buffer) (sym v) in
         let fits = promises c (a .admitted) .answer-fits server query (a .admits) in
         let whole : schemeOf c .answerLength query ≡ size =
-        same-value (schemeOf c .answerLength query) size (ap (λ (x : Answered). x .outcome) (sym (answer-by schemeOf c server store query buffer Accepted v)) ∙ e) in
+        same-value (schemeOf c .answerLength query) size (given _ (answer-by schemeOf c server store query buffer Accepted v)) in
         omega (arith, slot-small c (a .admitted))
-    go (Refused refusal) v =
-        no-value refusal size (ap (λ (x : Answered). x .outcome) (sym (answer-by schemeOf c server store query buffer (Refused refusal) v)) ∙ e)
+    go (Refused refusal) v = no-value refusal size (given _ (answer-by schemeOf c server store query buffer (Refused refusal) v))
 
 -- ---- by the verdict on the text, as it was read
 
@@ -64,12 +67,19 @@ module _ (text : List ℕ) (reading : Reading) (read : reading ≡ readOf text) 
   longest-given e = rw (accepted Accepted e, read)
 
   module _ (server : ℕ) (store query buffer : List ℕ) where
+    -- refused, it leaves the buffer as it was
     pub text-refused : (refusal : Refusal) → reading .verdict ≡ Refused refusal
-        → answeringText text server store query buffer ≡ record { outcome = NoValue refusal; buffer = buffer }
+        → DidAnswer (answeringText text server store query buffer) (NoValue refusal) buffer
     unfolding answeringText
-    text-refused refusal e = rw (accepted (Refused refusal) e)
+    text-refused refusal e = rw (accepted (Refused refusal) e) (record { outcome = refl; buffer = refl })
 
-    pub text-answered : reading .verdict ≡ Accepted
+    answers-text : reading .verdict ≡ Accepted
         → answeringText text server store query buffer ≡ answering schemeOf (reading .catalogue) server store query buffer
     unfolding answeringText
-    text-answered e = rw (accepted Accepted e, read)
+    answers-text e = rw (accepted Accepted e, read)
+
+    -- else it does what the answering end does
+    pub text-answered : reading .verdict ≡ Accepted → (outcome : Outcome) (after : List ℕ)
+        → DidAnswer (answering schemeOf (reading .catalogue) server store query buffer) outcome after
+        → DidAnswer (answeringText text server store query buffer) outcome after
+    text-answered e outcome after did = rw (answers-text e) did

@@ -1,7 +1,6 @@
 -- `gozimpe::gozimpe_answer` meets its contract: a text that is refused ends the call, and else the answering end's outcome gets its sign.
 use mathlib.Core.Path.{sym, ap, _∙_}
 use mir.Facts.{toZ-ofZ}
-use Rattle.server.specs.Answering.{Answered}
 use Rattle.gozimpe.specs.Host.{signed}
 use Rattle.gozimpe.proofs.Outcomes.{answer-small, text-refused, text-answered}
 use borrow.Author.Needs.{needs}
@@ -22,10 +21,8 @@ returns c =
     let a = c .before .before .before .before .before .before .before .before .before .before .args in
     let from = c .before .before .before .before .before .read in
     let told = c .before .before .verdict .given in
-    let is = text-refused (a .catalogue .now) (from .result) (from .ensures) (a .mirror) (a .store .now) (a .request .now) (a .answer .now) (told .0 .0) (told .1) in (
-      toZ-ofZ (record { sfits = c .minus .ok }) ∙ c .minus .ensures ∙ ap (λ (x : Answered). signed (x .outcome)) (sym is),
-      ap (λ (x : Answered). x .buffer) (sym is),
-    )
+    let did = text-refused (a .catalogue .now) (from .result) (from .ensures) (a .mirror) (a .store .now) (a .request .now) (a .answer .now) (told .0 .0) (told .1) in
+    (toZ-ofZ (record { sfits = c .minus .ok }) ∙ c .minus .ensures ∙ ap signed (did .outcome), did .buffer)
 
 enum-told : tie.Need-enum-told
 enum-told c = search needs
@@ -39,9 +36,10 @@ enum-known-outcome c = search needs
 plus-requires : tie.Need-plus-requires
 plus-requires c κs =
     let a = c .before .before .before .before .before .before .before .before .before .before .before .before .before .before .before .args in
+    let asked = c .before .before .before .before .before .answer in
     let told = c .before .outcome .given in
-    answer-small (c .before .before .before .before .before .before .before .before .before .before .read .result .catalogue) (a .mirror) (a .store .now) (a .request .now) (a .answer .now) (told .0 .0)
-    (sym (c .before .before .before .before .before .answer .ensures .outcome) ∙ told .1)
+    answer-small (c .before .before .before .before .before .before .before .before .before .before .read .result .catalogue) (a .mirror) (a .store .now) (a .request .now) (a .answer .now) (asked .result) (told .0 .0)
+    (asked .ensures .outcome) (told .1)
 
 enum-known-outcome-2 : tie.Need-enum-known-outcome-2
 enum-known-outcome-2 c = search needs
@@ -56,11 +54,10 @@ returns-2 : tie.Need-returns-2
 returns-2 c =
     let a = c .before .before .before .before .before .before .before .before .before .before .before .before .before .before .before .before .args in
     let from = c .before .before .before .before .before .before .before .before .before .before .before .read in
-    let did = c .before .before .before .before .before .before .answer .ensures in
-    let is = text-answered (a .catalogue .now) (from .result) (from .ensures) (a .mirror) (a .store .now) (a .request .now) (a .answer .now) (c .before .before .before .before .before .before .before .before .enum-told .given .1) in (
-      toZ-ofZ (record { sfits = c .plus .ok }) ∙ c .plus .ensures ∙ ap signed (sym (c .before .before .outcome .given .1) ∙ did .outcome) ∙ ap (λ (x : Answered). signed (x .outcome)) (sym is),
-      did .buffer ∙ ap (λ (x : Answered). x .buffer) (sym is),
-    )
+    let asked = c .before .before .before .before .before .before .answer in
+    let did = text-answered (a .catalogue .now) (from .result) (from .ensures) (a .mirror) (a .store .now) (a .request .now) (a .answer .now)
+    (c .before .before .before .before .before .before .before .before .enum-told .given .1) (asked .result) _ (asked .ensures) in
+    (toZ-ofZ (record { sfits = c .plus .ok }) ∙ c .plus .ensures ∙ ap signed (sym (c .before .before .outcome .given .1) ∙ did .outcome), did .buffer)
 
 same-length-2 : tie.Need-same-length-2
 same-length-2 c = search needs
@@ -69,11 +66,10 @@ returns-3 : tie.Need-returns-3
 returns-3 c =
     let a = c .before .before .before .before .before .before .before .before .before .before .before .before .before .before .before .before .args in
     let from = c .before .before .before .before .before .before .before .before .before .before .before .read in
-    let did = c .before .before .before .before .before .before .answer .ensures in
-    let is = text-answered (a .catalogue .now) (from .result) (from .ensures) (a .mirror) (a .store .now) (a .request .now) (a .answer .now) (c .before .before .before .before .before .before .before .before .enum-told .given .1) in (
-      toZ-ofZ (record { sfits = c .minus2 .ok }) ∙ c .minus2 .ensures ∙ ap signed (sym (c .before .before .outcome2 .given .1) ∙ did .outcome) ∙ ap (λ (x : Answered). signed (x .outcome)) (sym is),
-      did .buffer ∙ ap (λ (x : Answered). x .buffer) (sym is),
-    )
+    let asked = c .before .before .before .before .before .before .answer in
+    let did = text-answered (a .catalogue .now) (from .result) (from .ensures) (a .mirror) (a .store .now) (a .request .now) (a .answer .now)
+    (c .before .before .before .before .before .before .before .before .enum-told .given .1) (asked .result) _ (asked .ensures) in
+    (toZ-ofZ (record { sfits = c .minus2 .ok }) ∙ c .minus2 .ensures ∙ ap signed (sym (c .before .before .outcome2 .given .1) ∙ did .outcome), did .buffer)
 
 pub gozimpe-answer-spec : {M : Type 1} → statement M
 gozimpe-answer-spec =
