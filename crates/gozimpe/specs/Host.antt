@@ -1,0 +1,35 @@
+-- What a host program in C is given (document 01, 'Session', last paragraph): the catalogue is read from its text, refused 1 or 2,
+-- and then the call is the answering end's.
+use mathlib.Core.List.{List}
+use Prim.Native.Nat.{ℕ}
+use lib.IntN.{ℤ, pos, negℤ}
+use Rattle.refusal.specs.declared.Verdict.{Verdict}
+use Rattle.refusal.specs.declared.Verdict.the-variants.{Accepted, Refused}
+use Rattle.refusal.specs.declared.Outcome.{Outcome}
+use Rattle.refusal.specs.declared.Outcome.the-variants.{Value, Refused as NoValue}
+use Rattle.refusal.specs.Numbers.{numberOf}
+use Rattle.catalogue.specs.declared.Catalogue.{Catalogue}
+use Rattle.catalogue_text.specs.Parsing.{readOf}
+use Rattle.codes.specs.Codes.{schemeOf}
+use Rattle.server.specs.Answering.{Answered, answering}
+
+-- an outcome as one number: its value, or minus the refusal's number
+abbrev pub signed : Outcome → ℤ
+signed (Value value) = pos value
+signed (NoValue refusal) = negℤ (pos (numberOf refusal))
+
+abbrev pub answeringBy : Verdict → Catalogue → ℕ → List ℕ → List ℕ → List ℕ → Answered
+answeringBy Accepted c server store query buffer = answering schemeOf c server store query buffer
+answeringBy (Refused refusal) c server store query buffer = record { outcome = NoValue refusal; buffer = buffer }
+
+-- answering under the catalogue whose text this is
+unfoldable pub answeringText : List ℕ → ℕ → List ℕ → List ℕ → List ℕ → Answered
+answeringText text = let reading = readOf text in answeringBy (reading .verdict) (reading .catalogue)
+
+abbrev pub longestBy : Verdict → Catalogue → Outcome
+longestBy Accepted c = Value (schemeOf c .sizes .slot)
+longestBy (Refused refusal) c = NoValue refusal
+
+-- the longest answer under the catalogue whose text this is: a slot
+unfoldable pub longestAnswer : List ℕ → Outcome
+longestAnswer text = let reading = readOf text in longestBy (reading .verdict) (reading .catalogue)

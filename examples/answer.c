@@ -1,0 +1,101 @@
+/* answer CATALOGUE STORE MIRROR < request > answer
+ *
+ * One mirror's answer to one request. CATALOGUE is a file with the catalogue's text, STORE a file with the
+ * packs, which is mapped and not read in, MIRROR this mirror's number. A refusal goes to standard error, with
+ * its meaning, and its number is the exit status; 64 is bad usage, 66 a file that cannot be used.
+ */
+#include <errno.h>
+#include <fcntl.h>
+#include <inttypes.h>
+#include <stdio.h>
+#include <stdlib.h>
+#include <string.h>
+#include <sys/mman.h>
+#include <sys/stat.h>
+#include <unistd.h>
+
+#include "gozimpe.h"
+
+enum { BAD_USAGE = 64, NO_INPUT = 66, NO_OUTPUT = 74 };
+
+/* No request is longer than 1,024 bytes and no catalogue than 51: what is cut off here is refused anyway. */
+enum { MOST_REQUEST = 4096, MOST_CATALOGUE = 4096 };
+
+static const char *meaning(int64_t number) {
+    switch (number) {
+    case GOZIMPE_TEXT: return "the catalogue is not in its text form";
+    case GOZIMPE_BOUNDS: return "the catalogue is out of bounds";
+    case GOZIMPE_MIRROR: return "there is no such mirror in the catalogue";
+    case GOZIMPE_REQUEST: return "this mirror does not admit the request";
+    case GOZIMPE_STORE_LENGTH: return "the store's length is not the catalogue's";
+    case GOZIMPE_ROOM: return "the answer buffer is too short";
+    default: return "unknown";
+    }
+}
+
+static int refused(int64_t result) {
+    fprintf(stderr, "answer: refused %" PRId64 ": %s\n", -result, meaning(-result));
+    return (int)-result;
+}
+
+static void stop(const char *what) {
+    fprintf(stderr, "answer: %s: %s\n", what, strerror(errno));
+    exit(NO_INPUT);
+}
+
+/* All that is left to read, up to `most` bytes. */
+static size_t read_all(FILE *file, uint8_t *buffer, size_t most, const char *what) {
+    size_t got = fread(buffer, 1, most, file);
+    if (ferror(file)) stop(what);
+    return got;
+}
+
+static const uint8_t *map(const char *path, size_t *length) {
+    int fd = open(path, O_RDONLY);
+    struct stat st;
+    if (fd < 0 || fstat(fd, &st) != 0) stop(path);
+    *length = (size_t)st.st_size;
+    if (*length == 0) {
+        close(fd);
+        return NULL;
+    }
+    void *at = mmap(NULL, *length, PROT_READ, MAP_PRIVATE, fd, 0);
+    if (at == MAP_FAILED) stop(path);
+    close(fd);
+    return at;
+}
+
+int main(int argc, char **argv) {
+    static uint8_t catalogue[MOST_CATALOGUE], request[MOST_REQUEST];
+    char *end = NULL;
+    if (argc != 4 || argv[3][0] < '0' || argv[3][0] > '9') {
+        fprintf(stderr, "usage: %s CATALOGUE STORE MIRROR < request > answer\n", argc > 0 ? argv[0] : "answer");
+        return BAD_USAGE;
+    }
+    errno = 0;
+    uint64_t mirror = strtoull(argv[3], &end, 10);
+    if (*end != '\0' || errno != 0) {
+        fprintf(stderr, "answer: %s is not a mirror's number\n", argv[3]);
+        return BAD_USAGE;
+    }
+    FILE *file = fopen(argv[1], "rb");
+    if (file == NULL) stop(argv[1]);
+    size_t catalogue_len = read_all(file, catalogue, sizeof catalogue, argv[1]);
+    fclose(file);
+    size_t store_len;
+    const uint8_t *store = map(argv[2], &store_len);
+    size_t request_len = read_all(stdin, request, sizeof request, "standard input");
+
+    int64_t room = gozimpe_longest_answer(catalogue, catalogue_len);
+    if (room < 0) return refused(room);
+    uint8_t *answer = malloc((size_t)room);
+    if (answer == NULL) stop("answer buffer");
+    int64_t result = gozimpe_answer(catalogue, catalogue_len, mirror, store, store_len,
+                                    request, request_len, answer, (size_t)room);
+    if (result < 0) return refused(result);
+    if (fwrite(answer, 1, (size_t)result, stdout) != (size_t)result || fflush(stdout) != 0) {
+        fprintf(stderr, "answer: standard output: %s\n", strerror(errno));
+        return NO_OUTPUT;
+    }
+    return 0;
+}

@@ -1,0 +1,74 @@
+/* gozimpe: the answering end of private retrieval, for the host program of a mirror.
+ *
+ * A mirror holds a store: pack 0, pack 1, .., with nothing between. A lab sends it a request, a row of
+ * small numbers, and gets back an answer. No single mirror can tell from its requests which pack a lab
+ * wants. This header has the call that a mirror needs, request in, answer out,
+ * and one that tells how long an answer can be.
+ *
+ * Link with the archive libgozimpe.a (`rt staticlib gozimpe` writes it to target/staticlib/).
+ */
+#ifndef GOZIMPE_H
+#define GOZIMPE_H
+
+#include <stddef.h>
+#include <stdint.h>
+
+#ifdef __cplusplus
+extern "C" {
+#endif
+
+/* Why a call is refused. The result of gozimpe_answer is the number with a minus sign. */
+enum gozimpe_refusal {
+    GOZIMPE_TEXT = 1,         /* the catalogue is not in its text form, or a byte follows its last line */
+    GOZIMPE_BOUNDS = 2,       /* the catalogue's mirrors, packs or piece length are out of bounds */
+    GOZIMPE_MIRROR = 3,       /* the mirror number is not below the number of mirrors */
+    GOZIMPE_REQUEST = 7,      /* the request is not one that this mirror admits */
+    GOZIMPE_STORE_LENGTH = 8, /* the store is not packs x pieces x piece bytes long */
+    GOZIMPE_ROOM = 9          /* the answer buffer is too short for this answer */
+};
+
+/* Answers one request.
+ *
+ * catalogue: the catalogue's text, four lines, each ended by a newline (byte 10), nothing after them:
+ *                code=short          (or code=even)
+ *                mirrors=3           N, 2 to 16
+ *                packs=3             K: short, 1 to 32; even, 1 or more with N to the power of K at most 256
+ *                piece=4             S, 1 to 4096: the bytes of a piece
+ * mirror:    which mirror this is, 0 to N-1.
+ * store:     the packs. A pack has N-1 pieces in the short code and N to the power of K in the even code,
+ *            each of S bytes: the store has K x pieces x S bytes.
+ * request:   the request's bytes as they came. Any bytes of any length are safe to pass.
+ * answer:    where the answer is written, from its first byte on. As long as gozimpe_longest_answer says is
+ *            always enough: S bytes in the short code; in the even code, rows x S, where rows is
+ *            N^(K-1) + (N^(K-1) - 1)/(N - 1).
+ *
+ * Returns the length of the answer, 0 or more, or a refusal number with a minus sign. Where several
+ * refusals apply, the smallest number is given.
+ *
+ * An answer of n bytes is written to answer[0] .. answer[n-1], and nothing else is written. 0 means an
+ * empty answer: in the short code the row of zeros, which only mirror 0 can get, is answered with no bytes,
+ * and then no room is needed. A refusal writes nothing.
+ *
+ * Nothing outside the four buffers is read or written, no memory is allocated, no state is kept, and the
+ * call always returns. Several threads may call it at once, with answer buffers of their own. The buffers
+ * must not overlap the answer buffer, and nobody may write any of them during the call. The pointer of a
+ * buffer of length 0 may be anything, NULL too.
+ */
+int64_t gozimpe_answer(const uint8_t *catalogue, size_t catalogue_len,
+                       uint64_t mirror,
+                       const uint8_t *store, size_t store_len,
+                       const uint8_t *request, size_t request_len,
+                       uint8_t *answer, size_t answer_len);
+
+/* The length of the longest answer under a catalogue: an answer buffer of this many bytes is always enough.
+ *
+ * catalogue: the catalogue's text, as above. Returns the length, 1 or more, or -GOZIMPE_TEXT or
+ * -GOZIMPE_BOUNDS. Everything else is as for gozimpe_answer.
+ */
+int64_t gozimpe_longest_answer(const uint8_t *catalogue, size_t catalogue_len);
+
+#ifdef __cplusplus
+}
+#endif
+
+#endif

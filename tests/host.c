@@ -1,0 +1,261 @@
+/* Runs the real archive from C: the bench cards B2 to B6, both codes against a plain reference, every refusal from both sides
+ * of its condition, and buffers of exact, longer and shorter length. Every buffer lies between guard bytes; with the argument
+ * `exact` each is an allocation of just its length instead, so that valgrind sees every byte outside.
+ */
+#include <inttypes.h>
+#include <stdio.h>
+#include <stdlib.h>
+#include <string.h>
+
+#include "gozimpe.h"
+
+enum { GUARD = 64, FILL = 0xA5 };
+
+static int exact, checks, failures;
+
+static void expect(int ok, const char *what, long detail) {
+    checks++;
+    if (ok) return;
+    failures++;
+    printf("FAILED: %s (%ld)\n", what, detail);
+}
+
+/* ---- guarded buffers */
+
+struct buffer {
+    uint8_t *base, *at;
+    size_t length;
+};
+
+static struct buffer make(size_t length, const void *from) {
+    struct buffer b;
+    size_t guard = exact ? 0 : GUARD;
+    b.base = malloc(length + 2 * guard + (exact && length == 0));
+    if (b.base == NULL) exit(2);
+    memset(b.base, FILL, length + 2 * guard);
+    b.at = b.base + guard;
+    b.length = length;
+    if (from != NULL) memcpy(b.at, from, length);
+    return b;
+}
+
+static int guarded(const struct buffer *b) {
+    if (exact) return 1;
+    for (size_t i = 0; i < GUARD; i++)
+        if (b->base[i] != FILL || b->at[b->length + i] != FILL) return 0;
+    return 1;
+}
+
+/* ---- one call, with all buffers watched; the answer's expected bytes, or nothing written where `want` is a refusal or empty */
+
+static void call(const char *what, const char *catalogue, size_t catalogue_len, uint64_t mirror, const uint8_t *store, size_t store_len,
+                 const uint8_t *request, size_t request_len, size_t room, int64_t want, const uint8_t *bytes) {
+    struct buffer c = make(catalogue_len, catalogue), s = make(store_len, store), q = make(request_len, request), a = make(room, NULL);
+    int64_t got = gozimpe_answer(c.at, c.length, mirror, s.at, s.length, q.at, q.length, a.at, a.length);
+    size_t written = want > 0 ? (size_t)want : 0;
+    expect(got == want, what, (long)got);
+    if (got == want) {
+        expect(written == 0 || memcmp(a.at, bytes, written) == 0, what, -100);
+        size_t past = written;
+        while (past < room && a.at[past] == FILL) past++;
+        expect(past == room, what, -101);
+    }
+    expect(guarded(&c) && guarded(&s) && guarded(&q) && guarded(&a), what, -102);
+    expect(memcmp(c.at, catalogue, catalogue_len) == 0 && (store_len == 0 || memcmp(s.at, store, store_len) == 0)
+               && (request_len == 0 || memcmp(q.at, request, request_len) == 0), what, -103);
+    free(c.base), free(s.base), free(q.base), free(a.base);
+}
+
+static void text(char *out, const char *code, int n, int k, int s) {
+    sprintf(out, "code=%s\nmirrors=%d\npacks=%d\npiece=%d\n", code, n, k, s);
+}
+
+/* ---- the reference: the combined pieces of a request, by the rules */
+
+static uint32_t state = 1;
+static unsigned draw(unsigned below) {
+    state = state * 1664525u + 1013904223u;
+    return (state >> 8) % below;
+}
+
+static int power(int n, int k) {
+    int r = 1;
+    while (k-- > 0) r *= n;
+    return r;
+}
+
+static void add_piece(uint8_t *to, const uint8_t *store, size_t number, int s) {
+    for (int i = 0; i < s; i++) to[i] ^= store[number * (size_t)s + (size_t)i];
+}
+
+struct walk {
+    int n, k, s, rows, at;
+    const uint8_t *store, *request;
+    uint8_t *answer;
+};
+
+/* the sets of `left` packs from `from` on, lexicographically, `chosen` already in the list; each has (n-1)^(size-1) rows */
+static void sets(struct walk *w, int *list, int chosen, int from, int left) {
+    if (left == 0) {
+        for (int r = power(w->n - 1, chosen - 1); r > 0; r--) {
+            uint8_t *to = w->answer + (size_t)w->rows++ * (size_t)w->s;
+            memset(to, 0, (size_t)w->s);
+            for (int i = 0; i < chosen; i++) add_piece(to, w->store, (size_t)(list[i] * power(w->n, w->k)) + w->request[w->at++], w->s);
+        }
+        return;
+    }
+    for (int p = from; p + left <= w->k; p++) {
+        list[chosen] = p;
+        sets(w, list, chosen + 1, p + 1, left - 1);
+    }
+}
+
+static void even(int n, int k, int s) {
+    int m = power(n, k), query = k * power(n, k - 1), list[8], cell = 0;
+    size_t store_len = (size_t)(k * m * s);
+    uint8_t *store = malloc(store_len), *answer = malloc(256u * (size_t)s), request[1024], order[8][256];
+    char cat[64];
+    for (size_t i = 0; i < store_len; i++) store[i] = (uint8_t)draw(256);
+    for (int p = 0; p < k; p++) {
+        for (int i = 0; i < m; i++) order[p][i] = (uint8_t)i;
+        for (int i = m - 1; i > 0; i--) {
+            int j = (int)draw((unsigned)i + 1);
+            uint8_t t = order[p][i];
+            order[p][i] = order[p][j], order[p][j] = t;
+        }
+    }
+    /* the pack at each position: a walk that only counts */
+    int next[8] = {0}, packs[1024];
+    for (int b = 1; b <= k; b++)
+        for (int x = (1 << k) - 1; x >= 0; x--) { /* pack 0 as the highest bit, descending: lexicographic */
+            if (__builtin_popcount((unsigned)x) != b) continue;
+            for (int r = power(n - 1, b - 1); r > 0; r--)
+                for (int p = 0; p < k; p++)
+                    if (x >> (k - 1 - p) & 1) packs[cell++] = p;
+        }
+    expect(cell == query, "even: positions", cell);
+    for (int i = 0; i < query; i++) request[i] = order[packs[i]][next[packs[i]]++];
+    struct walk w = {n, k, s, 0, 0, store, request, answer};
+    for (int b = 1; b <= k; b++) sets(&w, list, 0, 0, b);
+    size_t len = (size_t)(w.rows * s);
+    text(cat, "even", n, k, s);
+    size_t cat_len = strlen(cat);
+    expect(gozimpe_longest_answer((const uint8_t *)cat, cat_len) == (int64_t)len, "even: longest", n * 10 + k);
+    call("even: exact", cat, cat_len, (uint64_t)draw((unsigned)n), store, store_len, request, (size_t)query, len, (int64_t)len, answer);
+    call("even: longer", cat, cat_len, 0, store, store_len, request, (size_t)query, len + 7, (int64_t)len, answer);
+    call("even: room one short", cat, cat_len, 0, store, store_len, request, (size_t)query, len - 1, -9, NULL);
+    call("even: request one short", cat, cat_len, 0, store, store_len, request, (size_t)query - 1, len, -7, NULL);
+    request[query] = 0;
+    call("even: request one long", cat, cat_len, 0, store, store_len, request, (size_t)query + 1, len, -7, NULL);
+    call("even: store one short", cat, cat_len, 0, store, store_len - 1, request, (size_t)query, len, -8, NULL);
+    uint8_t kept = request[query - 1];
+    if (m < 256) {
+        request[query - 1] = (uint8_t)m;
+        call("even: number N^K", cat, cat_len, 0, store, store_len, request, (size_t)query, len, -7, NULL);
+    }
+    for (int i = 0; i < query - 1; i++)
+        if (packs[i] == packs[query - 1]) {
+            request[query - 1] = request[i];
+            call("even: a number twice", cat, cat_len, 0, store, store_len, request, (size_t)query, len, -7, NULL);
+            break;
+        }
+    request[query - 1] = kept;
+    free(store), free(answer);
+}
+
+static void shorter(int n, int k, int s) {
+    size_t store_len = (size_t)(k * (n - 1) * s);
+    uint8_t *store = malloc(store_len), *answer = calloc(1, (size_t)s), request[33];
+    int total = 0, some = 0;
+    char cat[64];
+    for (size_t i = 0; i < store_len; i++) store[i] = (uint8_t)draw(256);
+    for (int p = 0; p < k; p++) {
+        request[p] = (uint8_t)draw((unsigned)n);
+        total += request[p];
+        if (request[p] > 0) add_piece(answer, store, (size_t)(p * (n - 1) + request[p] - 1), s), some = 1;
+    }
+    uint64_t mirror = (uint64_t)(total % n);
+    text(cat, "short", n, k, s);
+    size_t cat_len = strlen(cat);
+    int64_t len = some ? s : 0;
+    expect(gozimpe_longest_answer((const uint8_t *)cat, cat_len) == s, "short: longest", s);
+    call("short: exact", cat, cat_len, mirror, store, store_len, request, (size_t)k, (size_t)s, len, answer);
+    call("short: longer", cat, cat_len, mirror, store, store_len, request, (size_t)k, (size_t)s + 9, len, answer);
+    call("short: room one short", cat, cat_len, mirror, store, store_len, request, (size_t)k, (size_t)s - 1, some ? -9 : 0, answer);
+    call("short: other mirror", cat, cat_len, (mirror + 1) % (uint64_t)n, store, store_len, request, (size_t)k, (size_t)s, -7, NULL);
+    call("short: mirror N-1 or 7", cat, cat_len, (uint64_t)n - 1, store, store_len, request, (size_t)k, (size_t)s, mirror == (uint64_t)n - 1 ? len : -7, answer);
+    call("short: mirror N", cat, cat_len, (uint64_t)n, store, store_len, request, (size_t)k, (size_t)s, -3, NULL);
+    call("short: mirror 2^64-1", cat, cat_len, UINT64_MAX, store, store_len, request, (size_t)k, (size_t)s, -3, NULL);
+    call("short: request one short", cat, cat_len, mirror, store, store_len, request, (size_t)k - 1, (size_t)s, -7, NULL);
+    request[k] = 0;
+    call("short: request one long", cat, cat_len, mirror, store, store_len, request, (size_t)k + 1, (size_t)s, -7, NULL);
+    call("short: store one short", cat, cat_len, mirror, store, store_len - 1, request, (size_t)k, (size_t)s, -8, NULL);
+    call("short: no store", cat, cat_len, mirror, NULL, 0, request, (size_t)k, (size_t)s, -8, NULL);
+    request[0] = (uint8_t)(request[0] + n);
+    call("short: digit N or more", cat, cat_len, mirror, store, store_len, request, (size_t)k, (size_t)s, -7, NULL);
+    free(store), free(answer);
+}
+
+static void refused_text(const char *what, const char *cat, size_t len, int64_t want) {
+    uint8_t digit = 1, room[1];
+    call(what, cat, len, 0, &digit, 1, &digit, 1, sizeof room, want, NULL);
+    expect(gozimpe_longest_answer((const uint8_t *)cat, len) == want, what, -104);
+}
+
+static void catalogues(void) {
+    static const char good[] = "code=short\nmirrors=2\npacks=1\npiece=1\n";
+    static const char *bad[] = {
+        "", "code=short\n", "code=short\nmirrors=2\npacks=1\npiece=1", "code=short\nmirrors=2\npacks=1\npiece=1\n\n",
+        "code=short\nmirrors=02\npacks=1\npiece=1\n", "code=short\nmirrors=2\npacks=000001\npiece=1\n",
+        "code=short\nmirrors=2\npacks=100000\npiece=1\n", "code=other\nmirrors=2\npacks=1\npiece=1\n",
+        "code=short\npacks=1\nmirrors=2\npiece=1\n", "code=short\nmirrors=\npacks=1\npiece=1\n", "code=short \nmirrors=2\npacks=1\npiece=1\n",
+    };
+    static const char *out[] = {
+        "code=short\nmirrors=1\npacks=1\npiece=1\n", "code=short\nmirrors=17\npacks=1\npiece=1\n", "code=short\nmirrors=2\npacks=0\npiece=1\n",
+        "code=short\nmirrors=2\npacks=33\npiece=1\n", "code=short\nmirrors=2\npacks=1\npiece=0\n", "code=short\nmirrors=2\npacks=1\npiece=4097\n",
+        "code=short\nmirrors=99999\npacks=99999\npiece=99999\n", "code=even\nmirrors=2\npacks=9\npiece=1\n", "code=even\nmirrors=3\npacks=6\npiece=1\n",
+        "code=even\nmirrors=6\npacks=4\npiece=1\n", "code=even\nmirrors=7\npacks=3\npiece=1\n", "code=even\nmirrors=16\npacks=3\npiece=1\n", "code=even\nmirrors=2\npacks=0\npiece=1\n",
+    };
+    for (size_t i = 0; i < sizeof bad / sizeof *bad; i++) refused_text(bad[i], bad[i], strlen(bad[i]), -1);
+    for (size_t i = 0; i < sizeof out / sizeof *out; i++) refused_text(out[i], out[i], strlen(out[i]), -2);
+    /* a byte 0 after the last line, and the smallest number where several apply */
+    refused_text("a byte after the last line", good, sizeof good, -1);
+    refused_text("1 before 2", "code=short\nmirrors=1\npacks=1\npiece=1\nx", 38, -1);
+    call("2 before 3, 7, 8, 9", out[0], strlen(out[0]), 99, NULL, 0, NULL, 0, 0, -2, NULL);
+    call("3 before 7, 8, 9", good, strlen(good), 2, NULL, 0, NULL, 0, 0, -3, NULL);
+    call("7 before 8, 9", good, strlen(good), 1, NULL, 0, NULL, 0, 0, -7, NULL);
+    uint8_t one = 1;
+    call("8 before 9", good, strlen(good), 1, NULL, 0, &one, 1, 0, -8, NULL);
+    call("9", good, strlen(good), 1, &one, 1, &one, 1, 0, -9, NULL);
+}
+
+static void cards(void) {
+    static const char b2[] = "code=short\nmirrors=2\npacks=2\npiece=1\n", b4[] = "code=short\nmirrors=3\npacks=3\npiece=4\n";
+    uint8_t store[] = {0x5A, 0xC3}, both[] = {1, 1}, second[] = {0, 1}, first[] = {1, 0}, none[] = {0, 0, 0}, odd[] = {0, 0, 1}, three[] = {0, 1, 3}, big[24] = {0};
+    uint8_t x99 = 0x99, xc3 = 0xC3, x5a = 0x5A;
+    call("B2, mirror 0", b2, strlen(b2), 0, store, 2, both, 2, 1, 1, &x99);
+    call("B2, mirror 1", b2, strlen(b2), 1, store, 2, second, 2, 1, 1, &xc3);
+    call("B3, mirror 0", b2, strlen(b2), 0, store, 2, none, 2, 1, 0, NULL);
+    call("B3, mirror 0, no room", b2, strlen(b2), 0, store, 2, none, 2, 0, 0, NULL);
+    call("B3, mirror 1", b2, strlen(b2), 1, store, 2, first, 2, 1, 1, &x5a);
+    call("B4", b4, strlen(b4), 0, big, 24, odd, 3, 4, -7, NULL);
+    call("B5", b4, strlen(b4), 0, big, 24, three, 3, 4, -7, NULL);
+    call("B6", b4, strlen(b4), 0, big, 24, none, 3, 4, 0, NULL);
+    call("B6, no room", b4, strlen(b4), 0, big, 24, none, 3, 0, 0, NULL);
+    call("B6, wrong store", b4, strlen(b4), 0, big, 23, none, 3, 4, -8, NULL);
+}
+
+int main(int argc, char **argv) {
+    static const int most[17] = {0, 0, 8, 5, 4, 3, 3, 2, 2, 2, 2, 2, 2, 2, 2, 2, 2}, sizes[] = {1, 2, 7, 64, 4096}, ks[] = {1, 2, 3, 31, 32};
+    exact = argc > 1 && strcmp(argv[1], "exact") == 0;
+    cards();
+    catalogues();
+    for (int n = 2; n <= 16; n++) {
+        for (int k = 1; k <= most[n]; k++) even(n, k, n == 4 && k == 4 ? 64 : 3);
+        for (size_t i = 0; i < sizeof ks / sizeof *ks; i++)
+            for (size_t j = 0; j < sizeof sizes / sizeof *sizes; j++) shorter(n, ks[i], sizes[j]);
+    }
+    even(2, 8, 4096 / 64);
+    printf("host test%s: %d checks, %d failures\n", exact ? " (exact buffers)" : "", checks, failures);
+    return failures == 0 ? 0 : 1;
+}
