@@ -1,4 +1,5 @@
 pub mod Padding
+pub mod Places
 pub mod Marks
 pub mod Links
 pub mod Sound

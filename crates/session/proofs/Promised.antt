@@ -1,6 +1,6 @@
 -- What the promises of the codes give the calls of a session: the sizes of an admitted catalogue are small, the key that a session keeps is valid where
 -- it is good, its queries have their length, and an answer that can be taken fits its slot.
-use mathlib.Core.Path.{_≡_, refl, sym, ap, _∙_}
+use mathlib.Core.Path.{_≡_, refl, ap, _∙_}
 use mathlib.Core.Bool.{true}
 use mathlib.Core.List.{List}
 use Prim.Native.Nat.{ℕ, _+_, _*_, _≤_, _<_}
@@ -31,8 +31,11 @@ module _ (s : Session) (long : length (s .key) ≡ keyPlaces) (sizes : Sizes) (a
   pub key-fits : sizes .key ≤ length (s .key)
   key-fits = omega (arith, sizes-small (s .catalogue) sizes a e .key)
 
+  pub key-count : length (take (sizes .key) (s .key)) ≡ sizes .key
+  key-count = length-take-le (sizes .key) (s .key) key-fits
+
   pub key-length : length (take (sizes .key) (s .key)) ≡ codeOf schemeOf s .sizes .key
-  key-length = length-take-le (sizes .key) (s .key) key-fits ∙ ap (λ (z : Sizes). z .key) e
+  key-length = key-count ∙ ap (λ (z : Sizes). z .key) e
 
   pub key-valid : codeOf schemeOf s .keyGood (keyOf schemeOf s) ≡ true → Valid (codeOf schemeOf s) (take (sizes .key) (s .key))
   key-valid good = record { long = key-length; good = rw e good }

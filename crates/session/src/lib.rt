@@ -15,6 +15,7 @@ use catalogue::Code;
 use refusal::Outcome;
 use refusal::Verdict;
 
+// The verdict of each call.
 mod verdicts;
 
 // What a fetch holds between its calls. Any value may come in: each call checks the fields again.

@@ -58,7 +58,7 @@ pub fn begin_verdict(catalogue: Catalogue, wanted: usize, key: &[u8]) -> Verdict
 }
 
 // Whether the places of the session's key that are used hold only entries that they may hold.
-pub fn own_key_good(s: Session) -> bool
+fn own_key_good(s: Session) -> bool
     requires { ⌜ Admitted (s .catalogue) ⌝ }
     ensures { λ r. ⌜ r ≡ codeOf schemeOf s .keyGood (keyOf schemeOf s) ⌝ }
 {
@@ -69,7 +69,7 @@ pub fn own_key_good(s: Session) -> bool
 }
 
 // Whether wanted and key of the session are still good: refused 4, 6.
-pub fn fields_verdict(s: Session) -> Verdict
+fn fields_verdict(s: Session) -> Verdict
     requires { ⌜ Admitted (s .catalogue) ⌝ }
     ensures { λ r. ⌜ r ≡ refuseFields schemeOf s Accepted ⌝ }
 {
@@ -83,7 +83,7 @@ pub fn fields_verdict(s: Session) -> Verdict
 }
 
 // Whether the session can ask this server: refused 2, 3, 4, 6.
-pub fn server_verdict(s: Session, server: usize) -> Verdict
+fn server_verdict(s: Session, server: usize) -> Verdict
     ensures { λ r. ⌜ r ≡ andThen (catalogueVerdict (s .catalogue)) (refuseIf (leb (s .catalogue .servers) server) Server (refuseFields schemeOf s Accepted)) ⌝ }
 {
     if let Verdict::Refused(refusal) = catalogue::verdict(s.catalogue) {
@@ -96,7 +96,7 @@ pub fn server_verdict(s: Session, server: usize) -> Verdict
 }
 
 // Whether the session can be recovered from, its answers and buffers apart: refused 2, 4, 6.
-pub fn session_verdict(s: Session) -> Verdict
+fn session_verdict(s: Session) -> Verdict
     ensures { λ r. ⌜ r ≡ andThen (catalogueVerdict (s .catalogue)) (refuseFields schemeOf s Accepted) ⌝ }
 {
     if let Verdict::Refused(refusal) = catalogue::verdict(s.catalogue) {
@@ -106,7 +106,7 @@ pub fn session_verdict(s: Session) -> Verdict
 }
 
 // Whether some history of calls gives the session its marks: refused 11.
-pub fn marks_verdict(s: Session) -> Verdict
+fn marks_verdict(s: Session) -> Verdict
     ensures { λ r. ⌜ r ≡ refuseMarks s Accepted ⌝ }
 {
     if crate::marks_good(s.catalogue.servers, &s.issued, &s.taken) {
@@ -131,7 +131,7 @@ pub fn write_query(s: Session, server: usize, query: &mut [u8])
 }
 
 // The bytes of the answer that the session calls for at a server.
-pub fn answer_length(s: Session, server: usize) -> usize
+fn answer_length(s: Session, server: usize) -> usize
     requires { ⌜ Admitted (s .catalogue) ⌝ }
     requires { ⌜ (s .wanted < s .catalogue .messages) × (server < s .catalogue .servers) ⌝ }
     requires { ⌜ codeOf schemeOf s .keyGood (keyOf schemeOf s) ≡ true ⌝ }
@@ -159,7 +159,7 @@ pub fn issue_verdict(s: Session, server: usize, room: usize) -> Verdict
 }
 
 // Whether the answer of a server is due: refused 11.
-pub fn due_verdict(s: Session, server: usize) -> Verdict
+fn due_verdict(s: Session, server: usize) -> Verdict
     requires { ⌜ server < 16 ⌝ }
     ensures { λ r. ⌜ r ≡ refuseMarks s (refuseIf (not (marked (s .issued) server)) History (refuseIf (marked (s .taken) server) History Accepted)) ⌝ }
 {
@@ -193,7 +193,7 @@ pub fn take_verdict(s: Session, server: usize, size: usize, room: usize) -> Verd
 }
 
 // Whether every answer was taken: refused 11, 12.
-pub fn missing_verdict(s: Session) -> Verdict
+fn missing_verdict(s: Session) -> Verdict
     requires { ⌜ s .catalogue .servers ≤ 16 ⌝ }
     ensures { λ r. ⌜ r ≡ refuseMarks s (refuseIf (not (allTaken (s .catalogue .servers) (s .taken))) Missing Accepted) ⌝ }
 {
