@@ -10,3 +10,4 @@ pub mod Mapped
 pub mod Scans
 pub mod Replicate
 pub mod Ranges
+pub mod ThreeParts

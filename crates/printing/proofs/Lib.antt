@@ -1,0 +1,6 @@
+pub mod Joined
+pub mod Reading
+pub mod Scanning
+pub mod Filling
+pub mod Writing
+pub mod Checks
