@@ -10,4 +10,3 @@ pub mod Mapped
 pub mod Scans
 pub mod Replicate
 pub mod Ranges
-pub mod ThreeParts
