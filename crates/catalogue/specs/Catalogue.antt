@@ -28,7 +28,7 @@ catalogueVerdict c = refuseIf (not (fits (c .code) (c .servers) (c .messages) (c
 abbrev pub Admitted : Catalogue → Type 0
 Admitted c = catalogueVerdict c ≡ Accepted
 
-abbrev sizesBy : Code → ℕ → ℕ → ℕ → Sizes
+abbrev pub sizesBy : Code → ℕ → ℕ → ℕ → Sizes
 sizesBy Short = shortSizes
 sizesBy Even = evenSizes
 

@@ -3,3 +3,10 @@ pub mod Parts
 pub mod Ranges
 pub mod Below
 pub mod Inserts
+pub mod Sums
+pub mod Distinct
+pub mod Any
+pub mod Arranged
+pub mod Pairs
+pub mod Padded
+pub mod Lexicographic

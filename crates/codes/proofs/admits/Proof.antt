@@ -1,0 +1,31 @@
+-- `codes::admits` meets its contract: each arm asks the code that the catalogue names.
+use Rattle.even_layout.proofs.Fits.{layout-fits}
+use Rattle.codes.proofs.Promises.{admitted-even, scheme-short, scheme-even}
+use borrow.Author.Needs.{needs}
+use Rattle.codes.proofs.admits.Statement.{statement}
+use Rattle.codes.proofs.admits.Tie as tie
+
+enum-told : tie.Need-enum-told
+enum-told c = search needs
+
+admits-requires : tie.Need-admits-requires
+admits-requires c κs = search needs
+
+enum-told-2 : tie.Need-enum-told-2
+enum-told-2 c = search needs
+
+admits-requires-2 : tie.Need-admits-requires-2
+admits-requires-2 c κs =
+    let start = c .before .before .before in
+    let a = start .args .c in
+    layout-fits (a .servers) (a .messages) (a .symbol) (admitted-even a (start .pre) (c .enum-told2 .given .1))
+
+returns : tie.Need-returns
+returns c = rw (scheme-short (c .before .before .before .before .args .c) (c .before .enum-told .given .1)) (c .admits .ensures)
+
+returns-2 : tie.Need-returns-2
+returns-2 c = rw (scheme-even (c .before .before .before .before .args .c) (c .before .enum-told2 .given .1)) (c .admits2 .ensures)
+
+pub admits-spec : {M : Type 1} → statement M
+admits-spec =
+    tie.close (tie.spec enum-told admits-requires enum-told-2 admits-requires-2 returns returns-2)

@@ -1,0 +1,67 @@
+// The code of a catalogue: each call goes to the code that the catalogue names. Its contracts speak of the catalogue's scheme alone.
+use catalogue::Catalogue;
+use catalogue::Code;
+use catalogue::Measured;
+ghost use mathlib.Core.Path.{_≡_};
+ghost use mathlib.Core.Bool.{true};
+ghost use Prim.Native.Nat.{_*_, _≤_, _<_};
+ghost use lib.ListN.{length};
+ghost use Rattle.lists.specs.Parts.{put};
+ghost use Rattle.catalogue.specs.Catalogue.{Admitted};
+ghost use Rattle.scheme.specs.Scheme.{Valid, answersIn};
+ghost use Rattle.codes.specs.Codes.{schemeOf};
+
+// Whether a key of the right length has only entries that it may have.
+pub fn key_good(c: Catalogue, key: &[u8]) -> bool
+    requires { ⌜ Admitted c ⌝ }
+    requires { ⌜ length (now key) ≡ schemeOf c .sizes .key ⌝ }
+    ensures { λ r. ⌜ r ≡ schemeOf c .keyGood (now (key .entry)) ⌝ }
+{
+    let code = c.code;
+    match code {
+        Code::Short => short_code::key_good(c.servers, key),
+        Code::Even => even_key::key_good(c.servers, c.messages, key),
+    }
+}
+
+// Whether a server admits the query, of any bytes and length.
+pub fn admits(c: Catalogue, server: usize, query: &[u8]) -> bool
+    requires { ⌜ Admitted c ⌝ }
+    ensures { λ r. ⌜ r ≡ schemeOf c .admits server (now (query .entry)) ⌝ }
+{
+    let code = c.code;
+    match code {
+        Code::Short => short_code::admits(c.servers, c.messages, server, query),
+        Code::Even => even_answer::admits(c.servers, c.messages, server, query),
+    }
+}
+
+// The bytes that the query calls for.
+pub fn answer_length(c: Catalogue, query: &[u8]) -> usize
+    requires { ⌜ Admitted c ⌝ }
+    ensures { λ r. ⌜ r ≡ schemeOf c .answerLength (now (query .entry)) ⌝ }
+{
+    let Measured::Of(sizes) = catalogue::sizes(c) else {
+        return 0;
+    };
+    let code = c.code;
+    match code {
+        Code::Short => short_code::answer_length(c.symbol, query),
+        Code::Even => sizes.slot,
+    }
+}
+
+// Writes the answer to a query that `server` admits at the start of `out`.
+pub fn answer(c: Catalogue, server: usize, store: &[u8], query: &[u8], out: &mut [u8])
+    requires { ⌜ Admitted c ⌝ }
+    requires { ⌜ schemeOf c .admits server (now query) ≡ true ⌝ }
+    requires { ⌜ length (now store) ≡ schemeOf c .sizes .store ⌝ }
+    requires { ⌜ schemeOf c .answerLength (now query) ≤ length (now out) ⌝ }
+    ensures { λ _. ⌜ now (out .exit) ≡ put 0 (schemeOf c .answer (now (store .entry)) (now (query .entry))) (now (out .entry)) ⌝ }
+{
+    let code = c.code;
+    match code {
+        Code::Short => short_code::answer(c.servers, c.messages, c.symbol, store, query, out),
+        Code::Even => even_answer::answer(c.servers, c.messages, c.symbol, store, query, out),
+    }
+}

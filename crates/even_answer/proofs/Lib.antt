@@ -1,0 +1,5 @@
+pub mod Fresh
+pub mod RowLaws
+pub mod Admission
+pub mod SetRows
+pub mod Turns

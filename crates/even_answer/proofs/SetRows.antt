@@ -1,0 +1,101 @@
+-- The answer set by set: the rows of the sets from i on, the numbers that they take of the query, and how long their answers are.
+use mathlib.Core.Path.{_≡_, sym, ap, _∙_}
+use mathlib.Core.Bool.{Bool}
+use mathlib.Core.List.{List, [], _++_, flatMap, append-assoc}
+use Prim.Native.Nat.{ℕ, zero, suc, _+_, _-_, _*_, _^_, _≤_, _<_}
+use native.Mathlib.Nat.{zero-mul, suc-mul}
+use native.Mathlib.Numerals.{add-one}
+use native.Mathlib.Omega.{arith}
+use lib.ListN.{length, getD, drop, replicate, length-append, length-map, length-replicate, drop-of-length-le}
+use lib.Seq.{drop-cons, drop-drop}
+use Rattle.lists.specs.Below.{Below}
+use Rattle.lists.proofs.Sums.{All-replicate}
+use Rattle.parameters.specs.Measures.{evenRows, evenSizes}
+use Rattle.symbol.specs.Xor.{xor}
+use Rattle.even_places.specs.Sets.{ones, members, allSets}
+use Rattle.even_places.specs.Rule.{layout, rows}
+use Rattle.even_places.proofs.SetLaws.{setOf}
+use Rattle.even_places.proofs.Counts.{rows-length, row-count-is}
+use Rattle.even_places.proofs.Joined.{same-layout}
+use Rattle.even_scheme.specs.Even.{rowAnswer, rowAnswers}
+use Rattle.even_layout.specs.Layout.{Bounds, rowsOf}
+use Rattle.even_layout.proofs.Tables.{layout-sets, setPositions, positionsFrom, positions-all, positions-more, positions-length}
+use Rattle.even_answer.proofs.RowLaws.{members-length, answers-length}
+
+-- the rows of the sets from i on
+unfoldable pub rowsFrom : ℕ → ℕ → ℕ → List (List Bool)
+rowsFrom N K i = flatMap (λ A. replicate (rowsOf N A) A) (drop i (allSets K))
+
+pub rows-all : (N K : ℕ) → rowsFrom N K 0 ≡ layout N K
+unfolding rowsFrom
+rows-all N K = sym (layout-sets N K)
+
+pub rows-none : (N K i : ℕ) → length (allSets K) ≤ i → rowsFrom N K i ≡ []
+unfolding rowsFrom flatMap
+rows-none N K i h = rw (drop-of-length-le (allSets K) h)
+
+rows-more : (N K i : ℕ) → i < length (allSets K)
+    → rowsFrom N K i ≡ replicate (rowsOf N (getD (allSets K) i [])) (getD (allSets K) i []) ++ rowsFrom N K (i + 1)
+unfolding rowsFrom flatMap
+rows-more N K i h = rw (add-one i, drop-cons (allSets K) i [] h)
+
+-- a query has as many rows as document 01 says
+pub layout-length : (N K : ℕ) → Bounds N K → length (layout N K) ≡ evenRows N K
+unfolding evenRows
+layout-length N K bounds =
+    ap length (sym (same-layout N K 0 (bounds .servers-low) (bounds .messages-low) 0 (omega (arith, bounds .servers-low))))
+    ∙ length-map (rows N K 0 0) setOf
+    ∙ rows-length N K 0 (bounds .servers-low) (bounds .messages-low) 0 (omega (arith, bounds .servers-low))
+    ∙ row-count-is N K (bounds .servers-low) (bounds .messages-low)
+
+-- the rows of a set take a number for each of its messages
+positions-rows : (A : List Bool) (n : ℕ) → length (flatMap (members 0) (replicate n A)) ≡ n * ones A
+unfolding flatMap
+positions-rows A zero = sym (zero-mul (ones A))
+positions-rows A (suc n) =
+    omega (arith, length-append (members 0 A) (flatMap (members 0) (replicate n A)), members-length 0 A, positions-rows A n, suc-mul n (ones A))
+
+pub numbers-more : (N K i : ℕ) → i < length (allSets K)
+    → length (positionsFrom N K i) ≡ rowsOf N (getD (allSets K) i []) * ones (getD (allSets K) i []) + length (positionsFrom N K (i + 1))
+unfolding setPositions
+numbers-more N K i h =
+    let A = getD (allSets K) i [] in
+    ap length (positions-more N K i h) ∙ length-append (setPositions N A) (positionsFrom N K (i + 1))
+    ∙ ap (λ (n : ℕ). n + length (positionsFrom N K (i + 1))) (positions-rows A (rowsOf N A))
+
+pub numbers-all : (N K : ℕ) → Bounds N K → length (positionsFrom N K 0) ≡ K * N ^ (K - 1)
+numbers-all N K bounds = ap length (positions-all N K) ∙ positions-length N K (bounds .servers-low) (bounds .messages-low)
+
+module _ (N K S : ℕ) (store : List ℕ) where
+  answers-append : (A : List Bool) (n : ℕ) (more : List (List Bool)) (numbers : List ℕ)
+      → rowAnswers xor N K S store (replicate n A ++ more) numbers
+      ≡ rowAnswers xor N K S store (replicate n A) numbers ++ rowAnswers xor N K S store more (drop (n * ones A) numbers)
+  unfolding rowAnswers
+  answers-append A zero more numbers = rw (zero-mul (ones A))
+  answers-append A (suc n) more numbers =
+      let front = rowAnswer xor N K S store A numbers in
+      let rest = drop (ones A) numbers in
+      let next : ones A + n * ones A ≡ suc n * ones A = omega (arith, suc-mul n (ones A)) in
+      ap (λ (l : List ℕ). front ++ l) (answers-append A n more rest)
+      ∙ sym (append-assoc front (rowAnswers xor N K S store (replicate n A) rest) (rowAnswers xor N K S store more (drop (n * ones A) rest)))
+      ∙ ap (λ (l : List ℕ). (front ++ rowAnswers xor N K S store (replicate n A) rest) ++ rowAnswers xor N K S store more l)
+      (drop-drop (n * ones A) (ones A) numbers ∙ ap (λ (m : ℕ). drop m numbers) next)
+
+  -- one set more, whose rows take `taken` numbers
+  pub answers-more : (i at taken : ℕ) (query : List ℕ) → i < length (allSets K) → taken ≡ rowsOf N (getD (allSets K) i []) * ones (getD (allSets K) i [])
+      → rowAnswers xor N K S store (rowsFrom N K i) (drop at query)
+      ≡ rowAnswers xor N K S store (replicate (rowsOf N (getD (allSets K) i [])) (getD (allSets K) i [])) (drop at query)
+      ++ rowAnswers xor N K S store (rowsFrom N K (i + 1)) (drop (at + taken) query)
+  answers-more i at taken query h e =
+      let A = getD (allSets K) i [] in
+      let front = rowAnswers xor N K S store (replicate (rowsOf N A) A) (drop at query) in
+      ap (λ (L : List (List Bool)). rowAnswers xor N K S store L (drop at query)) (rows-more N K i h)
+      ∙ answers-append A (rowsOf N A) (rowsFrom N K (i + 1)) (drop at query)
+      ∙ ap (λ (l : List ℕ). front ++ rowAnswers xor N K S store (rowsFrom N K (i + 1)) l)
+      (drop-drop (rowsOf N A * ones A) at query ∙ ap (λ (m : ℕ). drop (at + m) query) (sym e))
+
+  -- the answers to the rows of a set
+  pub set-length : (A : List Bool) (n : ℕ) (numbers : List ℕ) → length store ≡ evenSizes N K S .store → Below 256 store → length A ≡ K → Below (N ^ K) numbers
+      → length (rowAnswers xor N K S store (replicate n A) numbers) ≡ n * S
+  set-length A n numbers whole bytes e b =
+      answers-length N K S store whole bytes numbers (All-replicate n A e) b ∙ ap (λ (m : ℕ). m * S) (length-replicate n A)

@@ -1,0 +1,131 @@
+-- One turn of each loop of the answering end: what it reads, what it writes, and what is left after it.
+use mathlib.Core.Path.{_≡_, refl, sym, ap, ap₂, _∙_}
+use mathlib.Core.Bool.{Bool}
+use mathlib.Core.List.{List, [], _++_, map}
+use Prim.Native.Nat.{ℕ, suc, _+_, _-_, _*_, _/_, _%_, _^_, _≤_, _<_}
+use native.Mathlib.Nat.{suc-mul, mul-le-mul, one-mul}
+use native.Mathlib.Numerals.{add-one}
+use native.Mathlib.Omega.{arith}
+use lib.Count.{ones as count}
+use lib.ListN.{length, getD, drop, replicate, length-append, length-drop}
+use Rattle.lists.specs.Below.{Below}
+use Rattle.lists.specs.Parts.{put}
+use Rattle.lists.proofs.Below.{below-drop}
+use Rattle.lists.proofs.Writing.{Pending, pending-part, pending-as}
+use Rattle.symbol.specs.Xor.{xor}
+use Rattle.even_places.specs.Sets.{ones, byteOf, allSets}
+use Rattle.even_scheme.specs.Even.{rowAnswer, rowAnswers, evenAnswer}
+use Rattle.even_layout.specs.Layout.{setIn, rowsOf}
+use Rattle.even_layout.proofs.Bytes.{membersFrom, members-kept}
+use Rattle.even_layout.proofs.Fits.{layout-fits}
+use Rattle.even_layout.proofs.Firsts.{setIn-length}
+use Rattle.even_layout.proofs.Tables.{byte-at, positionsFrom}
+use Rattle.even_answer.specs.Answering.{Answerable, SetAnswerable}
+use Rattle.even_answer.proofs.RowLaws.{symbol-room, row-is, set-more}
+use Rattle.even_answer.proofs.SetRows.{rowsFrom, numbers-more, answers-more, set-length}
+
+-- message p is in the set: its number is the next one, and names a symbol in the store
+pub record SymbolTurn (N K S : ℕ) (store : List ℕ) (set : ℕ) (numbers : List ℕ) (symbols p taken rest : ℕ) : Type 0 where
+  pub inside : taken < length numbers
+  pub number : getD numbers taken 0 < N ^ K
+  pub room : (p * symbols + getD numbers taken 0) * S + S ≤ length store
+  pub left : taken + 1 + length (membersFrom K (p + 1) (rest / 2)) ≡ count set
+
+pub symbol-turn : {N K S set symbols : ℕ} {store numbers : List ℕ} (p taken rest : ℕ) → SetAnswerable N K S store set 1 numbers → symbols ≡ N ^ K
+    → p < K → rest % 2 ≡ 1 → taken + length (membersFrom K p rest) ≡ count set → SymbolTurn N K S store set numbers symbols p taken rest
+symbol-turn {N} {K} {S} {set} {symbols} {store} {numbers} p taken rest given e h odd left =
+    let kept : taken + suc (length (membersFrom K (p + 1) (rest / 2))) ≡ count set = rw (members-kept K p rest h odd) at left in
+    let enough : taken < length numbers = omega (arith, given .enough) in
+    let below = given .named taken enough in
+    record {
+      inside = enough;
+      number = below;
+      room = symbol-room N K S store (given .whole) symbols p (getD numbers taken 0) e h below;
+      left = omega arith;
+    }
+
+-- a row of a set has its numbers, and its part of the buffer
+pub record RowTurn (S set row : ℕ) (numbers : List ℕ) (size : ℕ) : Type 0 where
+  pub read : row * count set + count set ≤ length numbers
+  pub written : row * S + S ≤ size
+
+next-fits : (row rows each size : ℕ) → row < rows → rows * each ≤ size → row * each + each ≤ size
+next-fits row rows each size h k = omega (arith, suc-mul row each, mul-le-mul h (let w : each ≤ each = omega arith in w))
+
+pub row-turn : {N K S set rows size : ℕ} {store numbers : List ℕ} (row : ℕ) → SetAnswerable N K S store set rows numbers → rows * S ≤ size → row < rows
+    → RowTurn S set row numbers size
+row-turn {N} {K} {S} {set} {rows} {size} {store} {numbers} row given room h =
+    record { read = next-fits row rows (count set) (length numbers) h (given .enough); written = next-fits row rows S size h room }
+
+pub row-given : {N K S set rows size : ℕ} {store numbers : List ℕ} {row : ℕ} → SetAnswerable N K S store set rows numbers → RowTurn S set row numbers size
+    → SetAnswerable N K S store set 1 (drop (row * count set) numbers)
+row-given {N} {K} {S} {set} {rows} {size} {store} {numbers} {row} given turn = record {
+  fits = given .fits;
+  whole = given .whole;
+  named = below-drop (N ^ K) (row * count set) numbers (given .named);
+  some = given .some;
+  inside = given .inside;
+  enough = omega (arith, one-mul (count set), length-drop (row * count set) numbers, turn .read);
+}
+
+module _ {N K S set rows : ℕ} {store numbers : List ℕ} (given : SetAnswerable N K S store set rows numbers) (bytes : Below 256 store) where
+  pub row-long : (row : ℕ) → length (rowAnswer xor N K S store (setIn K set) (drop (row * count set) numbers)) ≡ S
+  row-long row =
+      row-is N K S store (given .whole) bytes (setIn K set) (drop (row * count set) numbers) (setIn-length K set)
+      (below-drop (N ^ K) (row * count set) numbers (given .named)) .long
+
+  -- the row's answer written, those of the rows after it are left
+  pub row-done : {all buffer out : List ℕ} (row : ℕ) → row < rows
+      → Pending 0 all buffer (row * S) (rowAnswers xor N K S store (replicate (rows - row) (setIn K set)) (drop (row * count set) numbers)) out
+      → Pending 0 all buffer ((row + 1) * S) (rowAnswers xor N K S store (replicate (rows - (row + 1)) (setIn K set)) (drop ((row + 1) * count set) numbers))
+      (put (row * S) (rowAnswer xor N K S store (setIn K set) (drop (row * count set) numbers)) out)
+  row-done row h p =
+      let A = setIn K set in
+      let front = rowAnswer xor N K S store A (drop (row * count set) numbers) in
+      let left = rowAnswers xor N K S store (replicate (rows - (row + 1)) A) (drop ((row + 1) * count set) numbers) in
+      let end : (row + 1) * S ≡ row * S + length front = ap (λ (m : ℕ). m * S) (add-one row) ∙ suc-mul row S ∙ ap (λ (m : ℕ). row * S + m) (sym (row-long row)) in
+      pending-as end refl refl (pending-part front left (rw (set-more N K S store A numbers rows row (count set) h (given .inside)) at p))
+
+-- the rows of the set at index i: their numbers, their part of the buffer, and what is left after them
+pub record SetTurn (N K S : ℕ) (store query buffer : List ℕ) (i at end set rows : ℕ) (out : List ℕ) : Type 0 where
+  pub given : SetAnswerable N K S store set rows (drop at query)
+  pub small : set < 256
+  pub read : at + rows * count set + length (positionsFrom N K (i + 1)) ≡ length query
+  pub written : end + rows * S ≤ length out
+  pub left : Pending 0 (evenAnswer xor N K S store query) buffer (end + rows * S)
+      (rowAnswers xor N K S store (rowsFrom N K (i + 1)) (drop (at + rows * count set) query))
+      (put end (rowAnswers xor N K S store (replicate rows (setIn K set)) (drop at query)) out)
+
+pub set-turn : {N K S end rows : ℕ} {store query buffer out table : List ℕ} (i at : ℕ)
+    → Answerable N K S store query buffer → Below 256 store → table ≡ map byteOf (allSets K) ++ replicate (256 - length (allSets K)) 0 → i < length (allSets K)
+    → rows ≡ (N - 1) ^ (count (getD table i 0) - 1) → at + length (positionsFrom N K i) ≡ length query
+    → Pending 0 (evenAnswer xor N K S store query) buffer end (rowAnswers xor N K S store (rowsFrom N K i) (drop at query)) out
+    → SetTurn N K S store query buffer i at end (getD table i 0) rows out
+set-turn {N} {K} {S} {end} {rows} {store} {query} {buffer} {out} {table} i at given bytes e h called read p =
+    let A = getD (allSets K) i [] in
+    let set = getD table i 0 in
+    let b = byte-at N K i table (replicate (256 - length (allSets K)) 0) (layout-fits N K S (given .fits)) e h in
+    let many : rows ≡ rowsOf N A = called ∙ b .rows in
+    let taken : rows * count set ≡ rowsOf N A * ones A = ap₂ (λ (x y : ℕ). x * y) many (b .counted) in
+    let numbers = numbers-more N K i h in
+    let below = below-drop (N ^ K) at query (given .named) in
+    let front = rowAnswers xor N K S store (replicate rows (setIn K set)) (drop at query) in
+    let left = rowAnswers xor N K S store (rowsFrom N K (i + 1)) (drop (at + rows * count set) query) in
+    let long : length front ≡ rows * S = set-length N K S store (setIn K set) rows (drop at query) (given .whole) bytes (setIn-length K set) below in
+    let same : rowAnswers xor N K S store (replicate (rowsOf N A) A) (drop at query) ≡ front =
+    sym (ap₂ (λ (m : ℕ) (B : List Bool). rowAnswers xor N K S store (replicate m B) (drop at query)) many (b .decoded)) in
+    let q = pending-as refl (sym (answers-more N K S store i at (rows * count set) query h taken ∙ ap (λ (l : List ℕ). l ++ left) same)) refl p in
+    record {
+      given = record {
+        fits = given .fits;
+        whole = given .whole;
+        named = below;
+        some = b .some;
+        inside = ap ones (b .decoded) ∙ sym (b .counted);
+        enough = omega (arith, length-drop at query);
+      };
+      small = b .small;
+      read = omega arith;
+      written = omega (arith, q .room, length-append front left);
+      left = pending-as (ap (λ (m : ℕ). end + m) (sym long)) refl refl (pending-part front left q);
+    }

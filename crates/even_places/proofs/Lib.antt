@@ -1,0 +1,17 @@
+pub mod Choose
+pub mod Rows
+pub mod SetLaws
+pub mod Counts
+pub mod Totals
+pub mod Joined
+pub mod Order
+pub mod Positions
+pub mod Bytes
+pub mod Found
+pub mod Closed
+pub mod SetRuns
+pub mod RowNumbers
+pub mod SourceRows
+pub mod Lexicographic
+pub mod Flat
+pub mod Process

@@ -1,0 +1,173 @@
+-- Laws of `assemble`. Parts that lie within the first `size` bytes of a buffer and cover them leave nothing of what stood there, and
+-- leave the rest alone; parts that are cut from one message and cover it give that message.
+use mathlib.Core.Path.{_≡_, refl, sym, ap, _∙_}
+use mathlib.Core.List.{List}
+use Prim.Native.Nat.{ℕ, _+_, _-_, _≤_, _<_}
+use native.Mathlib.Nat.{zero-add}
+use native.Mathlib.Decide.{decLt}
+use native.Mathlib.Omega.{arith}
+use lib.ListN.{length, getD}
+use lib.Seq.{ext-getD}
+use Rattle.lists.specs.Any.{Any, anyHere, anyLater}
+use Rattle.lists.specs.Parts.{cut, put}
+use Rattle.lists.specs.Sums.{All, allNil, allCons}
+use Rattle.lists.proofs.Parts.{put-length}
+use Rattle.lists.proofs.PartsAt.{put-inside, put-before, put-after, put-cut}
+use Rattle.lists.proofs.Sums.{All-imp}
+use Rattle.even_scheme.specs.Even.{assemble}
+
+abbrev pub Part : Type 0
+Part = ℕ × List ℕ
+
+-- the part lies within the first `size` bytes
+abbrev pub Within : ℕ → Part → Type 0
+Within size part = part .0 + length (part .1) ≤ size
+
+-- byte j lies in the part
+abbrev pub In : ℕ → Part → Type 0
+In j part = (part .0 ≤ j) × (j < part .0 + length (part .1))
+
+-- ---- One part
+
+module _ (part : Part) where
+  -- what was written does not depend on the buffer
+  put-in : (j : ℕ) (a b : List ℕ) → Within (length a) part → Within (length b) part → In j part
+      → getD (put (part .0) (part .1) a) j 0 ≡ getD (put (part .0) (part .1) b) j 0
+  put-in j a b ha hb (low, high) =
+      at-start a
+      ∙ put-inside (part .0) (part .1) a ha (j - part .0) inside
+      ∙ sym (at-start b ∙ put-inside (part .0) (part .1) b hb (j - part .0) inside)
+    where
+      inside : j - part .0 < length (part .1)
+      inside = omega arith
+
+      at-start : (l : List ℕ) → getD (put (part .0) (part .1) l) j 0 ≡ getD (put (part .0) (part .1) l) (part .0 + (j - part .0)) 0
+      at-start l = ap (λ (i : ℕ). getD (put (part .0) (part .1) l) i 0) (let e : j ≡ part .0 + (j - part .0) = omega arith in e)
+
+  -- and what lies outside the part is as it was
+  put-out : (j : ℕ) (a : List ℕ) → Within (length a) part → (In j part → ⊥) → getD (put (part .0) (part .1) a) j 0 ≡ getD a j 0
+  put-out j a h out = go (decLt j (part .0)) (decLt j (part .0 + length (part .1)))
+    where
+      go : Dec (j < part .0) → Dec (j < part .0 + length (part .1)) → getD (put (part .0) (part .1) a) j 0 ≡ getD a j 0
+      go (yes l) k = put-before (part .0) (part .1) a h j l
+      go (no l) (yes k) = absurd (out (omega arith, k))
+      go (no l) (no k) =
+          let i = j - (part .0 + length (part .1)) in
+          let e : j ≡ part .0 + length (part .1) + i = omega arith in
+          ap (λ (n : ℕ). getD (put (part .0) (part .1) a) n 0) e
+          ∙ put-after (part .0) (part .1) a h i
+          ∙ ap (λ (n : ℕ). getD a n 0) (sym e)
+
+  in-part : (j : ℕ) → Dec (In j part)
+  in-part j = go (decLt j (part .0)) (decLt j (part .0 + length (part .1)))
+    where
+      go : Dec (j < part .0) → Dec (j < part .0 + length (part .1)) → Dec (In j part)
+      go (yes l) k = no (λ i. let w : ⊥ = omega (arith, i .0) in w)
+      go (no l) (yes k) = yes (omega arith, k)
+      go (no l) (no k) = no (λ i. k (i .1))
+
+-- ---- Several parts, all within the first `size` bytes of the buffers
+
+-- they cover these bytes
+abbrev pub Covers : ℕ → List Part → Type 0
+Covers size parts = (j : ℕ) → j < size → Any (In j) parts
+
+module _ (size : ℕ) where
+  -- one part written, the buffer is still long enough
+  still : (part : Part) (a : List ℕ) → Within size part → size ≤ length a → size ≤ length (put (part .0) (part .1) a)
+  still part a h l = omega (arith, put-length (part .0) (part .1) a (let w : part .0 + length (part .1) ≤ length a = omega arith in w))
+
+  pub assemble-length : {parts : List Part} → All (Within size) parts → (a : List ℕ) → size ≤ length a → length (assemble parts a) ≡ length a
+  unfolding assemble
+  assemble-length allNil a l = refl
+  assemble-length (allCons {x = part} h hs) a l =
+      assemble-length hs (put (part .0) (part .1) a) (still part a h l) ∙ put-length (part .0) (part .1) a (omega arith)
+
+  -- bytes that are the same stay the same
+  assemble-same : {parts : List Part} → All (Within size) parts → (j : ℕ) (a b : List ℕ) → size ≤ length a → size ≤ length b → getD a j 0 ≡ getD b j 0
+      → getD (assemble parts a) j 0 ≡ getD (assemble parts b) j 0
+  unfolding assemble
+  assemble-same allNil j a b la lb e = e
+  assemble-same (allCons {x = part} h hs) j a b la lb e =
+      assemble-same hs j (put (part .0) (part .1) a) (put (part .0) (part .1) b) (still part a h la) (still part b h lb) (step (in-part part j))
+    where
+      step : Dec (In j part) → getD (put (part .0) (part .1) a) j 0 ≡ getD (put (part .0) (part .1) b) j 0
+      step (yes i) = put-in part j a b (omega arith) (omega arith) i
+      step (no i) = put-out part j a (omega arith) i ∙ e ∙ sym (put-out part j b (omega arith) i)
+
+  -- bytes in some part become the same
+  assemble-in : {parts : List Part} → All (Within size) parts → (j : ℕ) (a b : List ℕ) → size ≤ length a → size ≤ length b → Any (In j) parts
+      → getD (assemble parts a) j 0 ≡ getD (assemble parts b) j 0
+  unfolding assemble
+  assemble-in (allCons {x = part} h hs) j a b la lb (anyHere i) =
+      assemble-same hs j (put (part .0) (part .1) a) (put (part .0) (part .1) b) (still part a h la) (still part b h lb) (put-in part j a b (omega arith) (omega arith) i)
+  assemble-in (allCons {x = part} h hs) j a b la lb (anyLater i) =
+      assemble-in hs j (put (part .0) (part .1) a) (put (part .0) (part .1) b) (still part a h la) (still part b h lb) i
+
+  -- bytes behind the parts stay
+  assemble-out : {parts : List Part} → All (Within size) parts → (j : ℕ) (a : List ℕ) → size ≤ length a → size ≤ j → getD (assemble parts a) j 0 ≡ getD a j 0
+  unfolding assemble
+  assemble-out allNil j a l h = refl
+  assemble-out (allCons {x = part} w ws) j a l h =
+      assemble-out ws j (put (part .0) (part .1) a) (still part a w l) h ∙ put-out part j a (omega arith) (λ i. let x : ⊥ = omega (arith, i .1) in x)
+
+  -- what stood in the buffer does not matter, and nothing behind the parts changes
+  pub assemble-anywhere : (parts : List Part) (fresh buffer : List ℕ) → All (Within size) parts → Covers size parts → length fresh ≡ size → size ≤ length buffer
+      → assemble parts buffer ≡ put 0 (assemble parts fresh) buffer
+  assemble-anywhere parts fresh buffer within covers e l =
+      ext-getD 0 (assemble parts buffer) (put 0 made buffer) (long ∙ sym (put-length 0 made buffer fits)) at-each
+    where
+      made : List ℕ
+      made = assemble parts fresh
+
+      size-made : length made ≡ size
+      size-made = assemble-length within fresh (omega arith) ∙ e
+
+      fits : 0 + length made ≤ length buffer
+      fits = omega (arith, size-made)
+
+      long : length (assemble parts buffer) ≡ length buffer
+      long = assemble-length within buffer l
+
+      at-each : (j : ℕ) → j < length (assemble parts buffer) → getD (assemble parts buffer) j 0 ≡ getD (put 0 made buffer) j 0
+      at-each j h = go (decLt j size)
+        where
+          go : Dec (j < size) → getD (assemble parts buffer) j 0 ≡ getD (put 0 made buffer) j 0
+          go (yes i) =
+              assemble-in within j buffer fresh l (omega arith) (covers j i)
+              ∙ sym (put-inside 0 made buffer fits j (omega (arith, size-made)))
+              ∙ ap (λ (n : ℕ). getD (put 0 made buffer) n 0) (zero-add j)
+          go (no i) =
+              let p : j ≡ 0 + length made + (j - size) = omega (arith, size-made) in
+              assemble-out within j buffer l (omega arith)
+              ∙ ap (λ (n : ℕ). getD buffer n 0) p
+              ∙ sym (put-after 0 made buffer fits (j - size))
+              ∙ ap (λ (n : ℕ). getD (put 0 made buffer) n 0) (sym p)
+
+-- ---- Parts of one message
+
+-- the part lies within the message, and is what stands there
+pub record Of (message : List ℕ) (part : Part) : Type 0 where
+  pub within : Within (length message) part
+  pub same : part .1 ≡ cut (part .0) (length (part .1)) message
+
+assemble-own : (message : List ℕ) {parts : List Part} → All (Of message) parts → assemble parts message ≡ message
+unfolding assemble
+assemble-own message allNil = refl
+assemble-own message (allCons {x = part} {xs = parts} h hs) =
+    ap (assemble parts) (ap (λ (l : List ℕ). put (part .0) l message) (h .same) ∙ put-cut (part .0) (length (part .1)) message (h .within))
+    ∙ assemble-own message hs
+
+-- parts of one message that cover it give that message, whatever stood in the buffer
+pub assemble-message : (message : List ℕ) (parts : List Part) → All (Of message) parts → Covers (length message) parts → (buffer : List ℕ) → length buffer ≡ length message
+    → assemble parts buffer ≡ message
+assemble-message message parts parts-of covers buffer e =
+    ext-getD 0 (assemble parts buffer) message (long ∙ e) (λ j h.
+    assemble-in (length message) within j buffer message (omega arith) (omega arith) (covers j (omega (arith, long)))
+    ∙ ap (λ (l : List ℕ). getD l j 0) (assemble-own message parts-of))
+  where
+    within : All (Within (length message)) parts
+    within = All-imp (λ part h. h .within) parts-of
+
+    long : length (assemble parts buffer) ≡ length buffer
+    long = assemble-length (length message) within buffer (omega arith)
