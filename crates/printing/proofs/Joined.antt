@@ -1,19 +1,16 @@
--- Lists joined one after another, with one more at the end.
-use mathlib.Core.Path.{_≡_, refl, sym, ap, _∙_}
+-- Lists joined one after another, with one more at the end; and three parts written one after another.
+use mathlib.Core.Path.{_≡_, ap, _∙_}
 use mathlib.Core.List.{List, [], _∷_, _++_, flatMap, append-nil, append-assoc}
-use Prim.Native.Nat.{ℕ, zero, suc, _+_, _<_}
+use Prim.Native.Nat.{ℕ, zero, suc, _+_, _≤_, _<_}
 use native.Mathlib.Nat.{zero-add}
 use native.Mathlib.Numerals.{add-one}
 use native.Mathlib.Omega.{arith}
-use lib.ListN.{length, getD, take}
+use lib.ListN.{length, getD, take, length-append}
 use lib.Seq.{take-suc}
+use Rattle.lists.specs.Parts.{put}
 use Rattle.lists.specs.Ranges.{range}
-
-module _ {A B : Type 0} where
-  pub flatMap-append : (f : A → List B) (xs ys : List A) → flatMap f (xs ++ ys) ≡ flatMap f xs ++ flatMap f ys
-  unfolding flatMap
-  flatMap-append f [] ys = refl
-  flatMap-append f (x ∷ xs) ys = ap (λ l. f x ++ l) (flatMap-append f xs ys) ∙ sym (append-assoc (f x) (flatMap f xs) (flatMap f ys))
+use Rattle.lists.proofs.Flat.{flatMap-append}
+use Rattle.lists.proofs.Puts.{put-next}
 
 module _ {B : Type 0} (f : ℕ → List B) where
   flatMap-last : (xs : List ℕ) (x : ℕ) → flatMap f (xs ++ (x ∷ [])) ≡ flatMap f xs ++ f x
@@ -36,3 +33,12 @@ module _ {B : Type 0} (f : ℕ → List B) where
   joined-range count =
       ap (λ (n : ℕ). flatMap f (range 0 n)) (add-one count) ∙ ap (flatMap f) (range-last 0 count)
       ∙ flatMap-last (range 0 count) (0 + count) ∙ ap (λ (n : ℕ). flatMap f (range 0 count) ++ f n) (zero-add count)
+
+pub put-three : (at : ℕ) (a b c out out₁ out₂ out₃ : List ℕ) (p₁ p₂ : ℕ) → at ≤ length out
+    → p₁ ≡ at + length a → p₂ ≡ p₁ + length b
+    → out₁ ≡ put at a out → out₂ ≡ put p₁ b out₁ → out₃ ≡ put p₂ c out₂
+    → out₃ ≡ put at (a ++ (b ++ c)) out
+put-three at a b c out out₁ out₂ out₃ p₁ p₂ h i₁ i₂ o₁ o₂ o₃ =
+    let j : p₂ ≡ at + length (a ++ b) = let l = length-append a b in omega arith in
+    let two : out₂ ≡ put at (a ++ b) out = o₂ ∙ put-next at p₁ a b out out₁ h i₁ o₁ in
+    o₃ ∙ put-next at p₂ (a ++ b) c out out₂ h j two ∙ ap (λ (l : List ℕ). put at l out) (append-assoc a b c)

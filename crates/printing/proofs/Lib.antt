@@ -3,4 +3,5 @@ pub mod Reading
 pub mod Scanning
 pub mod Filling
 pub mod Writing
-pub mod Checks
+pub mod Answers
+pub mod Room

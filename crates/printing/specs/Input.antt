@@ -22,6 +22,9 @@ pub record Asked : Type 0 where
   pub wanted : ℕ
   pub key : List ℕ
 
+abbrev pub asked : Catalogue → ℕ → List ℕ → Asked
+asked c wanted key = record { catalogue = c; wanted = wanted; key = key }
+
 abbrev pub wantedName : List ℕ
 wantedName = ascii "wanted="
 
@@ -51,8 +54,7 @@ linesAsk text =
     let found = fourLines text in
     onCatalogue (found .verdict)
     (onLine (numberLine wantedName text (found .next)) λ wanted next.
-    onKey (keyLine text next) λ key.
-    record { catalogue = found .catalogue; wanted = wanted; key = key })
+    onKey (keyLine text next) (asked (found .catalogue) wanted))
 
 unfoldable pub inputAsks : List ℕ → Option Asked
 inputAsks text = cond (ltb mostInput (length text)) none (linesAsk text)

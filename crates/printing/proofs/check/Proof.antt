@@ -1,8 +1,7 @@
 -- `printing::check` meets its contract: the catalogue is refused, or its sizes say what is due.
-use mathlib.Core.Path.{_≡_, sym, ap, _∙_}
-use Rattle.catalogue.specs.Catalogue.{measuredOf}
+use mathlib.Core.Path.{_∙_}
 use Rattle.printing.specs.Steps.{checkVerdict}
-use Rattle.printing.proofs.Checks.{measured-of, measured-refused}
+use Rattle.codes.proofs.Measured.{measured, unmeasured}
 use borrow.Author.Needs.{needs}
 use Rattle.printing.proofs.check.Statement.{statement}
 use Rattle.printing.proofs.check.Tie as tie
@@ -31,14 +30,14 @@ enum-known-measured-2 c = search needs
 returns : tie.Need-returns
 unfolding checkVerdict
 returns c =
-    let m = measured-of (c .before .before .before .before .before .args .c) _ (sym (c .before .before .before .before .sizes .ensures) ∙ c .before .before .measured .given .1) in
+    let m = measured (c .before .before .before .before .before .args .c) _ _ (c .before .before .before .before .sizes .ensures) (c .before .before .measured .given .1) in
     c .check-key .ensures ∙ simp (m .0, m .1)
 
 -- src/lib.rt:61:1
 returns-2 : tie.Need-returns-2
 unfolding checkVerdict
 returns-2 c =
-    let m = measured-refused (c .before .before .before .before .args .c) _ (sym (c .before .before .before .sizes .ensures) ∙ c .before .measured2 .given .1) in simp m
+    let m = unmeasured (c .before .before .before .before .args .c) _ _ (c .before .before .before .sizes .ensures) (c .before .measured2 .given .1) in simp m
 
 pub check-spec : {M : Type 1} → statement M
 check-spec =

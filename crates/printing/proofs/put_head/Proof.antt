@@ -3,10 +3,10 @@ use mathlib.Core.Path.{_≡_, ap, _∙_}
 use native.Mathlib.Omega.{arith}
 use lib.ListN.{length, length-append}
 use Rattle.lists.specs.Ascii.{ascii}
-use Rattle.lists.proofs.ThreeParts.{put-three}
 use Rattle.text_lines.specs.Decimal.{decimal}
 use Rattle.text_lines.proofs.Decimal.{length-most}
 use Rattle.printing.specs.Output.{queryHead}
+use Rattle.printing.proofs.Joined.{put-three}
 use Rattle.printing.proofs.Writing.{head-length}
 use borrow.Author.Needs.{needs}
 use Rattle.printing.proofs.put_head.Statement.{statement}
