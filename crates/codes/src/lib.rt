@@ -24,6 +24,21 @@ pub fn key_good(c: Catalogue, key: &[u8]) -> bool
     }
 }
 
+// Writes a server's query for the wanted message at the start of `out`.
+pub fn query(c: Catalogue, wanted: usize, server: usize, key: &[u8], out: &mut [u8])
+    requires { ⌜ Admitted c ⌝ }
+    requires { ⌜ (wanted < c .messages) × (server < c .servers) ⌝ }
+    requires { ⌜ Valid (schemeOf c) (now key) ⌝ }
+    requires { ⌜ schemeOf c .sizes .query ≤ length (now out) ⌝ }
+    ensures { λ _. ⌜ now (out .exit) ≡ put 0 (schemeOf c .query wanted server (now (key .entry))) (now (out .entry)) ⌝ }
+{
+    let code = c.code;
+    match code {
+        Code::Short => short_code::query(c.servers, wanted, server, key, out),
+        Code::Even => even_query::query(c.servers, c.messages, wanted, server, key, out),
+    }
+}
+
 // Whether a server admits the query, of any bytes and length.
 pub fn admits(c: Catalogue, server: usize, query: &[u8]) -> bool
     requires { ⌜ Admitted c ⌝ }
@@ -63,5 +78,37 @@ pub fn answer(c: Catalogue, server: usize, store: &[u8], query: &[u8], out: &mut
     match code {
         Code::Short => short_code::answer(c.servers, c.messages, c.symbol, store, query, out),
         Code::Even => even_answer::answer(c.servers, c.messages, c.symbol, store, query, out),
+    }
+}
+
+// Writes the wanted message at the start of `message`, from the answers in the slots of `answers`.
+pub fn recover(c: Catalogue, wanted: usize, key: &[u8], answers: &[u8], message: &mut [u8])
+    requires { ⌜ Admitted c ⌝ }
+    requires { ⌜ wanted < c .messages ⌝ }
+    requires { ⌜ Valid (schemeOf c) (now key) ⌝ }
+    requires { ⌜ c .servers * schemeOf c .sizes .slot ≤ length (now answers) ⌝ }
+    requires { ⌜ schemeOf c .sizes .message ≤ length (now message) ⌝ }
+    ensures { λ _. ⌜ now (message .exit) ≡ put 0 (schemeOf c .recover wanted (now (key .entry)) (answersIn (schemeOf c) (c .servers) wanted (now (key .entry)) (now (answers .entry)))) (now (message .entry)) ⌝ }
+{
+    let code = c.code;
+    match code {
+        Code::Short => short_code::recover(
+            c.servers,
+            c.messages,
+            c.symbol,
+            wanted,
+            key,
+            answers,
+            message,
+        ),
+        Code::Even => even_recover::recover(
+            c.servers,
+            c.messages,
+            c.symbol,
+            wanted,
+            key,
+            answers,
+            message,
+        ),
     }
 }

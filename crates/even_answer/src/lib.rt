@@ -1,8 +1,8 @@
 // The answering end of the even code: which queries a server admits, and the answer to one (document 01, 'Even code').
 ghost use mathlib.Core.Path.{_≡_};
-ghost use mathlib.Core.Bool.{true, _&&_};
+ghost use mathlib.Core.Bool.{_&&_};
 ghost use mathlib.Core.List.{zipWith};
-ghost use Prim.Native.Nat.{_+_, _-_, _*_, _≤_, _<_};
+ghost use Prim.Native.Nat.{_+_, _*_, _≤_};
 ghost use lib.ListN.{length, replicate};
 ghost use Rattle.lists.specs.Parts.{cut, put};
 ghost use Rattle.lists.specs.Below.{allBelow, Below};

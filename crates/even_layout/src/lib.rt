@@ -2,7 +2,7 @@
 // A set of messages is one byte, bit p for message p; its block is the number of ones in it (document 01, 'Even code').
 ghost use mathlib.Core.Path.{_≡_};
 ghost use mathlib.Core.List.{_++_, map, flatMap};
-ghost use Prim.Native.Nat.{_+_, _-_, _*_, _^_, _≤_, _<_};
+ghost use Prim.Native.Nat.{_+_, _-_, _^_, _≤_, _<_};
 ghost use lib.ListN.{length, replicate};
 ghost use lib.Count.{ones};
 ghost use Rattle.lists.specs.Parts.{put};

@@ -7,7 +7,6 @@ pub mod Joined
 pub mod Order
 pub mod Positions
 pub mod Bytes
-pub mod Found
 pub mod Closed
 pub mod SetRuns
 pub mod RowNumbers
@@ -15,3 +14,6 @@ pub mod SourceRows
 pub mod Lexicographic
 pub mod Flat
 pub mod Process
+pub mod WantedCells
+pub mod ByteParts
+pub mod Ranked

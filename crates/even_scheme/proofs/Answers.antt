@@ -14,6 +14,7 @@ use Rattle.parameters.specs.Bounds.{evenFits}
 use Rattle.parameters.specs.Measures.{evenSizes, evenRows}
 use Rattle.parameters.proofs.Bounds.{even-bounds}
 use Rattle.symbol.specs.Sum.{Sum, zeros, total, totalFrom}
+use Rattle.symbol.specs.Group.{KeepsLength}
 use Rattle.even_places.specs.Sets.{ones, members}
 use Rattle.even_places.specs.Rule.{rows, layout}
 use Rattle.even_places.proofs.Counts.{rows-length}
@@ -24,12 +25,6 @@ use Rattle.even_scheme.specs.Even.{symbolAt, rowAnswer, rowAnswers, even
 use Rattle.even_scheme.proofs.Measures.{rows-counted}
 use Rattle.even_scheme.proofs.Reach.{admitted}
 use Rattle.even_scheme.proofs.Symbols.{symbol-long}
-
--- The operation on strings of this length gives strings of that length, also where a string is no symbol as its elements are no bytes
-abbrev pub KeepsLength : (List ℕ → List ℕ → List ℕ) → ℕ → Type 0
-KeepsLength operation size = (a b : List ℕ) → length a ≡ size → length b ≡ size → length (operation a b) ≡ size
-
--- ---- The length of an answer
 
 pub layout-length : (N K : ℕ) → 1 < N → 0 < K → length (layout N K) ≡ evenRows N K
 layout-length N K wide some =

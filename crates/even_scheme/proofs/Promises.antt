@@ -1,6 +1,6 @@
 -- The even code keeps the promises of a retrieval code, over any abelian group of symbols: `even-laws`. And over exclusive or:
 -- `even-promises`, and `even-written`: recovery part by part leaves the recovered message at the start of a buffer.
-use mathlib.Core.Path.{_≡_, _∙_}
+use mathlib.Core.Path.{_≡_}
 use mathlib.Core.Bool.{true}
 use mathlib.Core.List.{List}
 use Prim.Native.Nat.{ℕ, _*_, _≤_, _<_}
@@ -10,27 +10,26 @@ use Rattle.parameters.specs.Bounds.{evenFits}
 use Rattle.symbol.specs.Group.{AbelianGroup}
 use Rattle.symbol.specs.Sum.{Sum}
 use Rattle.symbol.specs.Xor.{xor}
-use Rattle.symbol.proofs.XorBytes.{xor-length}
 use Rattle.symbol.proofs.XorGroup.{xor-group}
 use Rattle.scheme.specs.Laws.{Laws}
 use Rattle.scheme.specs.Scheme.{Valid, answersIn}
 use Rattle.even_scheme.specs.Even.{assemble, recoveredParts, evenScheme}
-use Rattle.even_scheme.proofs.Answers.{KeepsLength, answer-length, answer-fits}
+use Rattle.even_scheme.proofs.Answers.{answer-length, answer-fits}
 use Rattle.even_scheme.proofs.Exchange.{evenExchange, exchange-valid, exchange-back, exchange-shown}
 use Rattle.even_scheme.proofs.Measures.{servers-some, servers-fit, key-fits, store-whole}
 use Rattle.even_scheme.proofs.Queries.{query-length, query-admitted}
 use Rattle.even_scheme.proofs.Recovers.{recovers}
 use Rattle.even_scheme.proofs.Written.{slots-written}
 
-pub even-laws : (sum : Sum) (N K S : ℕ) → AbelianGroup sum S → KeepsLength (sum .plus) S → evenFits N K S ≡ true → Laws N K (evenScheme sum N K S)
-even-laws sum N K S group keeps fits = record {
+pub even-laws : (sum : Sum) (N K S : ℕ) → AbelianGroup sum S → evenFits N K S ≡ true → Laws N K (evenScheme sum N K S)
+even-laws sum N K S group fits = record {
   servers-some = servers-some sum N K S fits;
   servers-fit = servers-fit sum N K S fits;
   key-fits = key-fits sum N K S fits;
   store-whole = store-whole sum N K S fits;
   query-length = λ wanted server key known there valid. query-length sum N K S fits wanted server key known there valid;
   query-admitted = λ wanted server key known there valid. query-admitted sum N K S fits wanted server key known there valid;
-  answer-length = answer-length sum N K S keeps fits;
+  answer-length = answer-length sum N K S (group .plus-length) fits;
   answer-fits = answer-fits sum N K S;
   recovers = recovers sum N K S group fits;
   exchange = evenExchange N K;
@@ -40,11 +39,11 @@ even-laws sum N K S group keeps fits = record {
 }
 
 pub even-promises : (N K S : ℕ) → evenFits N K S ≡ true → Laws N K (evenScheme xor N K S)
-even-promises N K S fits = even-laws xor N K S (xor-group S) (λ a b l m. xor-length a b ∙ l) fits
+even-promises N K S fits = even-laws xor N K S (xor-group S) fits
 
 pub even-written : (N K S : ℕ) → evenFits N K S ≡ true → (wanted : ℕ) → wanted < K → (key : List ℕ) → Valid (evenScheme xor N K S) key
     → (slots : List ℕ) → N * evenScheme xor N K S .sizes .slot ≤ length slots → (buffer : List ℕ) → evenScheme xor N K S .sizes .message ≤ length buffer
     → assemble (recoveredParts xor N K S wanted key (answersIn (evenScheme xor N K S) N wanted key slots)) buffer
     ≡ put 0 (evenScheme xor N K S .recover wanted key (answersIn (evenScheme xor N K S) N wanted key slots)) buffer
 even-written N K S fits wanted known key valid slots enough buffer room =
-    slots-written xor N K S (λ a b l m. xor-length a b ∙ l) fits wanted known key valid slots enough buffer room
+    slots-written xor N K S (xor-group S .minus-length) fits wanted known key valid slots enough buffer room

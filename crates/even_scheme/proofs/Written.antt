@@ -17,6 +17,7 @@ use Rattle.parameters.specs.Bounds.{evenFits}
 use Rattle.parameters.specs.Measures.{evenSizes, evenRows}
 use Rattle.parameters.proofs.Bounds.{EvenBounds, even-bounds}
 use Rattle.symbol.specs.Sum.{Sum, zeros}
+use Rattle.symbol.specs.Group.{KeepsLength}
 use Rattle.scheme.specs.Scheme.{Valid, answersIn}
 use Rattle.even_places.specs.Sets.{ones}
 use Rattle.even_places.specs.Rule.{others, firstRow, layout}
@@ -24,7 +25,6 @@ use Rattle.even_places.proofs.Counts.{rows-length}
 use Rattle.even_places.proofs.RowNumbers.{Good, row-number}
 use Rattle.even_places.proofs.SourceRows.{source-row}
 use Rattle.even_scheme.specs.Even.{assemble, answeredRow, sourceServer, sourceRow, recoveredSymbol, recoveredParts, evenScheme}
-use Rattle.even_scheme.proofs.Answers.{KeepsLength}
 use Rattle.even_scheme.proofs.Assembled.{Within, assemble-length, assemble-anywhere}
 use Rattle.even_scheme.proofs.Covers.{Whole, parts-within, parts-cover}
 use Rattle.even_scheme.proofs.Measures.{rows-counted}

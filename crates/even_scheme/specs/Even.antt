@@ -1,7 +1,7 @@
 -- The even code of Sun and Jafar as a scheme (document 01, 'Even code'; source 003, section IV-B), over any sum of symbols.
 -- N servers, K messages, symbols of S bytes. Blocks are counted from 0: the block of a set is one less than its messages.
-use Prim.Native.Nat.{ℕ, zero, suc, _+_, _-_, _*_, _/_, _%_, _^_}
-use mathlib.Core.Bool.{Bool, true, false, cond, _&&_}
+use Prim.Native.Nat.{ℕ, _+_, _-_, _*_, _/_, _%_, _^_}
+use mathlib.Core.Bool.{Bool, false, cond, _&&_}
 use mathlib.Core.List.{List, [], _∷_, _++_, map, flatMap, zip, zipWith}
 use mathlib.Core.Option.{Option, none, some}
 use lib.Dec.{eqb}

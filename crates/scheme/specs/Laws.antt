@@ -1,7 +1,7 @@
 -- What a retrieval code promises, at given numbers of servers and messages. The session and the claim on lists of fetches know a
 -- code by these laws alone.
 use mathlib.Core.Path.{_≡_}
-use mathlib.Core.Bool.{Bool, true}
+use mathlib.Core.Bool.{true}
 use mathlib.Core.List.{List}
 use Prim.Native.Nat.{ℕ, _*_, _≤_, _<_}
 use lib.ListN.{length}

@@ -8,17 +8,14 @@ use lib.ListN.{length, length-replicate}
 use Rattle.lists.specs.Below.{Below}
 use Rattle.lists.proofs.Below.{allBelow-below}
 use Rattle.symbol.specs.Sum.{Sum, zeros, totalFrom, total}
+use Rattle.symbol.specs.Group.{KeepsLength}
 use Rattle.short_code.specs.Short.{allZero, symbolAt, named, orZeros, shortAnswerLength, shortAnswer}
 use Rattle.short_code.specs.Steps.{Row}
 use Rattle.short_code.proofs.Offsets.{symbol-length}
 use Rattle.short_code.proofs.ZeroRow.{length-none, length-some, answer-none, answer-some, named-zeros}
 use Rattle.short_code.proofs.Slots.{or-zeros-some}
 
--- a sum keeps the length of its symbols, be their elements bytes or not
-abbrev pub KeepsLength : Sum → ℕ → Type 0
-KeepsLength sum S = (a b : List ℕ) → length a ≡ S → length b ≡ S → length (sum .plus a b) ≡ S
-
-module _ (sum : Sum) (N K S : ℕ) (keeps : KeepsLength sum S) (store : List ℕ) (whole : length store ≡ K * ((N - 1) * S)) (some : 0 < S) where
+module _ (sum : Sum) (N K S : ℕ) (keeps : KeepsLength (sum .plus) S) (store : List ℕ) (whole : length store ≡ K * ((N - 1) * S)) (some : 0 < S) where
   from-length : (start : List ℕ) (p : ℕ) (row : List ℕ) → length start ≡ S → p + length row ≤ K → Below N row
       → length (totalFrom sum start (named N S store p row)) ≡ S
   unfolding totalFrom named

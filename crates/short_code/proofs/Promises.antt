@@ -1,5 +1,5 @@
 -- The short code keeps the promises of a retrieval code, over any abelian group of symbols: `short-laws`. And over exclusive or: `short-promises`.
-use mathlib.Core.Path.{_≡_, refl, _∙_}
+use mathlib.Core.Path.{_≡_, refl}
 use mathlib.Core.Bool.{true}
 use Prim.Native.Nat.{ℕ}
 use native.Mathlib.Omega.{arith}
@@ -9,18 +9,17 @@ use Rattle.parameters.proofs.Bounds.{short-bounds}
 use Rattle.symbol.specs.Sum.{Sum}
 use Rattle.symbol.specs.Group.{AbelianGroup}
 use Rattle.symbol.specs.Xor.{xor}
-use Rattle.symbol.proofs.XorBytes.{xor-length}
 use Rattle.symbol.proofs.XorGroup.{xor-group}
 use Rattle.scheme.specs.Laws.{Laws}
 use Rattle.short_code.specs.Short.{shortScheme}
 use Rattle.short_code.proofs.Queries.{admits-row, query-long, query-admits}
-use Rattle.short_code.proofs.Answers.{KeepsLength, answer-long, answer-short}
+use Rattle.short_code.proofs.Answers.{answer-long, answer-short}
 use Rattle.short_code.proofs.Recovery.{message-recovered}
 use Rattle.short_code.proofs.Exchange.{shortExchange, exchanged-valid, exchanged-back, exchanged-shown}
 
-pub short-laws : (sum : Sum) (N K S : ℕ) → AbelianGroup sum S → KeepsLength sum S → shortFits N K S ≡ true → Laws N K (shortScheme sum N K S)
+pub short-laws : (sum : Sum) (N K S : ℕ) → AbelianGroup sum S → shortFits N K S ≡ true → Laws N K (shortScheme sum N K S)
 unfolding shortSizes
-short-laws sum N K S group keeps fits =
+short-laws sum N K S group fits =
     let b = short-bounds N K S fits in
     record {
       servers-some = omega arith;
@@ -29,7 +28,7 @@ short-laws sum N K S group keeps fits =
       store-whole = refl;
       query-length = λ wanted n key w s v. query-long N K wanted n key w s (v .long) (v .good);
       query-admitted = λ wanted n key w s v. query-admits N K wanted n key w s (v .long) (v .good);
-      answer-length = λ n store query whole a. answer-long sum N K S keeps store whole (b .symbol-low) query (admits-row N K n query a);
+      answer-length = λ n store query whole a. answer-long sum N K S (group .plus-length) store whole (b .symbol-low) query (admits-row N K n query a);
       answer-fits = λ n query a. answer-short S query;
       recovers = λ store wanted key bytes whole w v. message-recovered sum N K S group store whole (b .symbol-low) bytes wanted w key (v .long) (v .good);
       exchange = shortExchange N;
@@ -39,4 +38,4 @@ short-laws sum N K S group keeps fits =
     }
 
 pub short-promises : (N K S : ℕ) → shortFits N K S ≡ true → Laws N K (shortScheme xor N K S)
-short-promises N K S = short-laws xor N K S (xor-group S) (λ a b l m. xor-length a b ∙ l)
+short-promises N K S = short-laws xor N K S (xor-group S)

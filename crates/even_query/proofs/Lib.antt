@@ -1,0 +1,4 @@
+pub mod Steps
+pub mod Entries
+pub mod Rows
+pub mod Whole

@@ -1,0 +1,252 @@
+-- The place that the counters give to each message of a row is the one that the rule gives it.
+use Prim.Native.Nat.{ℕ, zero, suc, _+_, _-_, _*_, _/_, _%_, _^_, _≤_, _<_}
+use native.Mathlib.Nat.{mul-add, add-mul, mul-assoc, mul-left-comm, mul-zero, mul-one, one-mul, pow-zero, pow-succ', one-le-pow, div-add-mod', div-lt-iff-lt-mul, mod-lt}
+use native.Mathlib.Omega.{arith}
+use native.Mathlib.Decide.{ℕ-discrete}
+use mathlib.Core.Path.{_≡_, refl, sym, ap, _∙_, subst}
+use mathlib.Core.Logic.{_≢_}
+use mathlib.Core.List.{List, [], _∷_, _++_, map}
+use mathlib.Core.Bool.{Bool, true, false, cond, not, _&&_, false≢true}
+use mathlib.Core.Option.{Option, none, some}
+use lib.Dec.{ltb}
+use lib.ListN.{length, getD, set, length-set, length-map}
+use lib.Seq.{getD-set-other}
+use borrow.Author.Tests.{eq-eqb, ne-eqb, lt-ltb, le-ltb}
+use Rattle.lists.specs.Parts.{cut}
+use Rattle.lists.specs.Ranges.{range}
+use Rattle.lists.specs.Sums.{bit, keep, sum, All}
+use Rattle.lists.proofs.Reading.{cut-at}
+use Rattle.lists.proofs.Sums.{sum-range}
+use Rattle.lists.proofs.Keep.{All-front, All-back, All-head}
+use Rattle.even_places.specs.Sets.{has, ones, with, sets, allSets}
+use Rattle.even_places.specs.Rule.{used, sideSets, joins, ofSet, block, others}
+use Rattle.even_places.proofs.SetLaws.{ones-drop, has-drop}
+use Rattle.even_places.proofs.Positions.{joined-at}
+use Rattle.even_places.proofs.Closed.{before, side-at, wanted-at, wanted-first}
+use Rattle.even_layout.proofs.Tables.{IsSet, all-sets}
+use Rattle.even_ranks.specs.Counts.{counter, noCounts, countersOf, countedAll, totalsOf, takers, taken}
+use Rattle.even_ranks.specs.Walk.{placeIn, placeOf, isJoined, plain, joined, originOf}
+use Rattle.even_ranks.proofs.Counters.{ones-most, ofKind, counts-tell}
+use Rattle.even_ranks.proofs.Ranking.{with-wanted, with-reduced, rank-side, rank-wanted, rank-below, side-total, sources-total, wanted-total}
+
+-- a set of one message has no other
+empty : (A : List Bool) (p : ℕ) → ones A ≡ 0 → has p A ≡ false
+unfolding ones has sum bit
+empty [] p e = refl
+empty (true ∷ A) p e = absurd (omega arith)
+empty (false ∷ A) zero e = refl
+empty (false ∷ A) (suc p) e = empty A p (omega arith)
+
+lone : (A : List Bool) (k p : ℕ) → ones A ≡ 1 → has k A ≡ true → p ≢ k → has p A ≡ false
+unfolding has
+lone A k p many e d = sym (getD-set-other A k p false false d) ∙ empty (set A k false) p (omega (arith, ones-drop A k e))
+
+module _ (N K k : ℕ) (wide : 1 < N) (wanted : k < K) (few : K ≤ 8) where
+  takers-side : (b p : ℕ) → b < K → p < K → p ≢ k → takers k (totalsOf K k) b p ≡ with p (keep (ofKind k false b) (allSets K))
+  unfolding takers totalsOf
+  takers-side b p hb hp d =
+      ap (λ t. getD (countedAll k (allSets K) noCounts) (counter t b p) 0) (ne-eqb p k d) ∙ counts-tell K k few (all-sets K) false b p (omega arith) hp
+
+  takers-wanted : (b : ℕ) → b < K → takers k (totalsOf K k) b k ≡ with k (keep (ofKind k true b) (allSets K))
+  unfolding takers totalsOf
+  takers-wanted b hb =
+      ap (λ t. getD (countedAll k (allSets K) noCounts) (counter t b k) 0) (eq-eqb k k refl) ∙ counts-tell K k few (all-sets K) true b k (omega arith) wanted
+
+  -- the places of other messages, taken by side rows
+  place-side : (b p m rank r : ℕ) → b < K → p < K → p ≢ k
+      → placeIn N k (totalsOf K k) b p ((N - 1) ^ b) m rank r ≡ used N (λ j. with p (sideSets N K k j)) b m + (N - 1) ^ b * rank + r
+  unfolding placeIn taken used
+  place-side b p m rank r hb hp d =
+      omega (arith, ap (λ s. N * s) before-b, ap (λ s. m * s) (share b hb), mul-add q (m * T) rank, mul-left-comm q m T)
+    where
+      q : ℕ
+      q = (N - 1) ^ b
+
+      T : ℕ
+      T = takers k (totalsOf K k) b p
+
+      share : (j : ℕ) → j < K → (N - 1) ^ j * takers k (totalsOf K k) j p ≡ with p (sideSets N K k j)
+      share j h = ap (λ s. (N - 1) ^ j * s) (takers-side j p h hp d) ∙ sym (side-total K k wanted N wide p j h)
+
+      before-b : sum (λ j. (N - 1) ^ j * takers k (totalsOf K k) j p) (range 0 b) ≡ sum (λ j. with p (sideSets N K k j)) (range 0 b)
+      before-b = sum-range (λ j. (N - 1) ^ j * takers k (totalsOf K k) j p) (λ j. with p (sideSets N K k j)) b (λ j l. share j (omega arith))
+
+  taken-wanted : (b : ℕ) → b < K → taken N k (totalsOf K k) b k ≡ sum (joins N K k) (range 0 b)
+  unfolding taken
+  taken-wanted b h =
+      sum-range (λ j. (N - 1) ^ j * takers k (totalsOf K k) j k) (joins N K k) b
+      (λ j l. ap (λ s. (N - 1) ^ j * s) (takers-wanted j (omega arith)) ∙ sym (wanted-total K k wanted N wide j (omega arith)))
+
+  -- the places of the wanted message, in the first block and in the others
+  place-first : (n rank r : ℕ) → rank ≡ 0 → r ≡ 0 → placeIn N k (totalsOf K k) 0 k ((N - 1) ^ 0) n rank r ≡ n
+  unfolding placeIn taken sum range joins
+  place-first n rank r e f =
+      omega (arith, mul-zero N, ap (λ s. s * (n * T + rank)) (pow-zero (N - 1)), one-mul (n * T + rank), ap (λ s. n * s) one, mul-one n)
+    where
+      T : ℕ
+      T = takers k (totalsOf K k) 0 k
+
+      one : T ≡ 1
+      one = takers-wanted 0 (omega arith) ∙ sym (one-mul (with k (keep (ofKind k true 0) (allSets K)))) ∙ sym (wanted-total K k wanted N wide 0 (omega arith) ∙ ap (λ s. s * with k (keep (ofKind k true 0) (allSets K))) (pow-zero (N - 1)))
+
+  place-wanted : (b n j rank r : ℕ) → suc b < K
+      → placeIn N k (totalsOf K k) (suc b) k ((N - 1) ^ b) (n * (N - 1) + j) rank r ≡ used N (joins N K k) (suc b) n + j * length (sideSets N K k b) + (N - 1) ^ b * rank + r
+  unfolding placeIn used joins
+  place-wanted b n j rank r h =
+      omega (arith, ap (λ s. N * s) (taken-wanted (suc b) h), ap (λ s. n * ((N - 1) * s)) size, ap (λ s. j * s) size, mul-add q ((n * (N - 1) + j) * T) rank, spread)
+    where
+      q : ℕ
+      q = (N - 1) ^ b
+
+      T : ℕ
+      T = takers k (totalsOf K k) (suc b) k
+
+      size : length (sideSets N K k b) ≡ q * T
+      size = sources-total K k wanted N wide b h ∙ ap (λ s. q * s) (sym (takers-wanted (suc b) h))
+
+      spread : q * ((n * (N - 1) + j) * T) ≡ n * ((N - 1) * (q * T)) + j * (q * T)
+      spread = mul-left-comm q (n * (N - 1) + j) T ∙ add-mul (n * (N - 1)) j (q * T) ∙ ap (λ s. s + j * (q * T)) (mul-assoc n (N - 1) (q * T))
+
+  -- A stands among all sets, after those of D; `ranks` are its messages' counters then
+  module _ (D L : List (List Bool)) (A : List Bool) (split : D ++ A ∷ L ≡ allSets K) where
+    known : IsSet K A
+    known = All-head (All-back D (A ∷ L) (subst (All (IsSet K)) (sym split) (all-sets K)))
+
+    ranks : List ℕ
+    ranks = cut (countersOf k A) (length A) (countedAll k D noCounts)
+
+    ranks-tell : (b p : ℕ) → ones A ≡ suc b → p < K → getD ranks p 0 ≡ with p (keep (ofKind k (has k A) b) D)
+    unfolding ranks countersOf counter
+    ranks-tell b p many hp =
+        cut-at (countersOf k A) (length A) p (countedAll k D noCounts) (omega (arith, known .long))
+        ∙ ap (λ i. getD (countedAll k D noCounts) i 0) (let e : bit (has k A) * 64 + (ones A - 1) * 8 + 0 + p ≡ bit (has k A) * 64 + b * 8 + p = omega arith in e)
+        ∙ counts-tell K k few (All-front D (A ∷ L) (subst (All (IsSet K)) (sym split) (all-sets K))) (has k A) b p (omega (arith, ones-most A, known .long)) hp
+
+    module _ (n : ℕ) (server : n < N) where
+      At : ℕ → ℕ → ℕ → Option ℕ
+      At b i p = getD (getD (ofSet A (block N K k b n)) i []) p none
+
+      -- the row's set lacks k
+      side-cell : (b i p : ℕ) → ones A ≡ suc b → has k A ≡ false → i < (N - 1) ^ b → p < K → has p A ≡ true → p ≢ k
+          → At b i p ≡ some (placeOf N k (totalsOf K k) ranks (plain N n (ones A) i) p)
+      unfolding At placeOf plain
+      side-cell b i p many lack hi hp g d =
+          side-at N K k wide wanted b n i p A (known .long) many lack hp g hi
+          ∙ ap some
+          (rw (ne-eqb p k d, (let e : ones A - 1 ≡ b = omega arith in e), place-side b p n (getD ranks p 0) i low hp d)
+          (ap (λ s. used N (λ j. with p (sideSets N K k j)) b n + (N - 1) ^ b * s + i) rank))
+        where
+          low : b < K
+          low = omega (arith, ones-most A, known .long)
+
+          rank : with p (before A (keep (λ B. not (has k B)) (sets K (suc b)))) ≡ getD ranks p 0
+          rank = ap (with p) (rank-side K k wanted D L A split b low (known .long) many lack) ∙ sym (ranks-tell b p many hp ∙ ap (λ t. with p (keep (ofKind k t b) D)) lack)
+
+      -- the row is of k alone
+      first-cell : (i : ℕ) → ones A ≡ 1 → has k A ≡ true → i < (N - 1) ^ 0 → At 0 i k ≡ some (placeOf N k (totalsOf K k) ranks (plain N n (ones A) i) k)
+      unfolding At placeOf plain joins
+      first-cell i many g hi =
+          ap (λ j. At 0 j k) zeroth
+          ∙ wanted-first N K k wide wanted n A server (known .long) many g
+          ∙ ap some (sym (rw (eq-eqb k k refl, (let e : ones A - 1 ≡ 0 = omega arith in e)) (place-first n (getD ranks k 0) i none-before zeroth)))
+        where
+          zeroth : i ≡ 0
+          zeroth = omega (arith, pow-zero (N - 1))
+
+          one : with k (keep (ofKind k true 0) (allSets K)) ≡ 1
+          one = sym (one-mul (with k (keep (ofKind k true 0) (allSets K)))) ∙ sym (wanted-total K k wanted N wide 0 (omega arith) ∙ ap (λ s. s * with k (keep (ofKind k true 0) (allSets K))) (pow-zero (N - 1)))
+
+          none-before : getD ranks k 0 ≡ 0
+          none-before =
+              ranks-tell 0 k many wanted
+              ∙ ap (λ t. with k (keep (ofKind k t 0) D)) g
+              ∙ omega (arith, one, rank-below K k wanted D L A split 0 (omega arith) (known .long) many g)
+
+      -- the row is joined: the j-th other server's row numbered r, with k
+      module _ (b i : ℕ) (many : ones A ≡ suc (suc b)) (has-k : has k A ≡ true) (hi : i < (N - 1) ^ suc b) where
+        q : ℕ
+        q = (N - 1) ^ b
+
+        j : ℕ
+        j = i / q
+
+        r : ℕ
+        r = i % q
+
+        whole : j * q + r ≡ i
+        unfolding j r
+        whole = div-add-mod' i q
+
+        low : suc b < K
+        low = omega (arith, ones-most A, known .long)
+
+        r-low : r < q
+        unfolding r q
+        r-low = mod-lt i (one-le-pow b (N - 1) (omega arith))
+
+        j-low : j < N - 1
+        unfolding j q
+        j-low = div-lt-iff-lt-mul (one-le-pow b (N - 1) (omega arith)) .1 (omega (arith, pow-succ' (N - 1) b))
+
+        -- with the counters of the sets with k
+        joined-ranks : (p : ℕ) → p < K → getD ranks p 0 ≡ with p (keep (ofKind k true (suc b)) D)
+        joined-ranks p hp = ranks-tell (suc b) p many hp ∙ ap (λ t. with p (keep (ofKind k t (suc b)) D)) has-k
+
+        ranked : before (set A k false) (keep (λ B. not (has k B)) (sets K (suc b))) ≡ map (λ B. set B k false) (keep (ofKind k true (suc b)) D)
+        ranked = rank-wanted K k wanted D L A split (suc b) low (known .long) many has-k
+
+        one-less : ones A - 1 ≡ suc b
+        one-less = omega arith
+
+        two-less : ones A - 2 ≡ b
+        two-less = omega arith
+
+        wanted-cell : At (suc b) i k ≡ some (placeOf N k (totalsOf K k) ranks (joined N n (ones A) i) k)
+        unfolding At placeOf joined q j r
+        wanted-cell =
+            ap (λ s. At (suc b) s k) (sym whole)
+            ∙ wanted-at N K k wide wanted b n j r A server (known .long) many has-k j-low r-low
+            ∙ ap some
+            (rw (eq-eqb k k refl, one-less, two-less, place-wanted b n j (getD ranks k 0) r low)
+            (ap (λ s. used N (joins N K k) (suc b) n + j * length (sideSets N K k b) + q * s + r) rank))
+          where
+            rank : length (before (set A k false) (keep (λ B. not (has k B)) (sets K (suc b)))) ≡ getD ranks k 0
+            rank =
+                ap length ranked
+                ∙ length-map (keep (ofKind k true (suc b)) D) (λ B. set B k false)
+                ∙ sym (joined-ranks k wanted ∙ with-wanted K k wanted (suc b) D)
+
+        other-cell : (p : ℕ) → p < K → has p A ≡ true → p ≢ k → At (suc b) i p ≡ some (placeOf N k (totalsOf K k) ranks (joined N n (ones A) i) p)
+        unfolding At placeOf joined q j r has
+        other-cell p hp g d =
+            ap (λ s. At (suc b) s p) (sym whole)
+            ∙ sym (getD-set-other (getD (ofSet A (block N K k (suc b) n)) (j * q + r) []) k p none none d)
+            ∙ ap (λ s. getD s p none) (joined-at N K k wide wanted b n j r A server has-k (known .long) many j-low r-low)
+            ∙ side-at N K k wide wanted b m r p A′ (length-set A k false ∙ known .long) (omega (arith, ones-drop A k has-k)) (has-drop A k) hp (getD-set-other A k p false false d ∙ g) r-low
+            ∙ ap some
+            (rw (ne-eqb p k d, two-less, place-side b p m (getD ranks p 0) r (omega (arith, low)) hp d)
+            (ap (λ s. used N (λ j. with p (sideSets N K k j)) b m + q * s + r) rank))
+          where
+            A′ : List Bool
+            A′ = set A k false
+
+            m : ℕ
+            m = getD (others N n) j 0
+
+            rank : with p (before A′ (keep (λ B. not (has k B)) (sets K (suc b)))) ≡ getD ranks p 0
+            rank = ap (with p) ranked ∙ with-reduced K k wanted p (keep (ofKind k true (suc b)) D) d ∙ sym (joined-ranks p hp)
+
+      -- every cell of a row
+      pub cell-is : (b i p : ℕ) → ones A ≡ suc b → i < (N - 1) ^ b → p < K → has p A ≡ true
+          → getD (getD (ofSet A (block N K k b n)) i []) p none ≡ some (placeOf N k (totalsOf K k) (cut (countersOf k A) (length A) (countedAll k D noCounts)) (originOf N k n A i) p)
+      unfolding At ranks originOf isJoined
+      cell-is b i p many hi hp g = go (has k A) refl (ℕ-discrete p k) b many hi
+        where
+          go : (t : Bool) → has k A ≡ t → Dec (p ≡ k) → (c : ℕ) → ones A ≡ suc c → i < (N - 1) ^ c
+              → At c i p ≡ some (placeOf N k (totalsOf K k) ranks (cond (t && ltb 1 (ones A)) (joined N n (ones A) i) (plain N n (ones A) i)) p)
+          go false e (yes f) c m h = absurd (false≢true (sym e ∙ ap (λ s. has s A) (sym f) ∙ g))
+          go false e (no d) c m h = side-cell c i p m e h hp g d
+          go true e (yes f) zero m h = rw (le-ltb 1 (ones A) (omega arith), f) (first-cell i m e h)
+          go true e (no d) zero m h = absurd (false≢true (sym (lone A k p m e d) ∙ g))
+          go true e (yes f) (suc c) m h = rw (lt-ltb 1 (ones A) (omega arith), f) (wanted-cell c i m e h)
+          go true e (no d) (suc c) m h = rw (lt-ltb 1 (ones A) (omega arith)) (other-cell c i m e h p hp g d)

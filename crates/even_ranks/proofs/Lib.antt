@@ -1,0 +1,5 @@
+pub mod Counters
+pub mod Ranking
+pub mod Cells
+pub mod Walk
+pub mod Steps

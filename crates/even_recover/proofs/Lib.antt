@@ -1,0 +1,9 @@
+pub mod Held
+pub mod RowSymbol
+pub mod Written
+pub mod Groups
+pub mod GroupParts
+pub mod Sized
+pub mod Fetched
+pub mod Started
+pub mod Servers

@@ -1,0 +1,49 @@
+-- Recovery server by server: the front of the table of sets is all sets, and one server's parts more are written.
+use Prim.Native.Nat.{ℕ, _+_, _-_, _^_, _≤_}
+use native.Mathlib.Omega.{arith}
+use mathlib.Core.Path.{_≡_, refl, sym, ap, _∙_}
+use mathlib.Core.List.{List, _++_, map, flatMap}
+use lib.ListN.{length, take, length-append, length-map}
+use lib.Seq.{take-at}
+use Rattle.lists.specs.Ranges.{range}
+use Rattle.symbol.specs.Xor.{xor}
+use Rattle.scheme.specs.Scheme.{answersIn}
+use Rattle.even_places.specs.Sets.{byteOf, allSets}
+use Rattle.even_scheme.specs.Even.{assemble, serverParts, recoveredParts, evenScheme}
+use Rattle.even_layout.proofs.Blocks.{all-length}
+use Rattle.even_recover.proofs.Written.{assemble-list}
+
+pub record Front (K count : ℕ) (table : List ℕ) : Type 0 where
+  pub inside : count ≤ length table
+  pub is : take count table ≡ map byteOf (allSets K)
+
+-- a table of all sets, whatever follows them
+pub front-is : (K whole : ℕ) (table rest : List ℕ) → whole ≡ 2 ^ K → table ≡ map byteOf (allSets K) ++ rest → Front K (whole - 1) table
+front-is K whole table rest e f =
+    let bytes = map byteOf (allSets K) in
+    let count : length bytes ≡ whole - 1 = omega (arith, length-map (allSets K) byteOf, all-length K) in
+    record {
+      inside = omega (arith, ap length f, length-append bytes rest);
+      is = ap (take (whole - 1)) f ∙ take-at bytes rest (whole - 1) count;
+    }
+
+module _ (N K S wanted : ℕ) (key answers : List ℕ) where
+  -- the parts of the first servers
+  unfoldable pub partsBefore : ℕ → List (ℕ × List ℕ)
+  partsBefore servers = flatMap (serverParts xor N K S wanted key (answersIn (evenScheme xor N K S) N wanted key answers)) (range 0 servers)
+
+  pub before-none : (buffer : List ℕ) → buffer ≡ assemble (partsBefore 0) buffer
+  unfolding partsBefore range flatMap assemble
+  before-none buffer = refl
+
+  pub before-more : (server : ℕ) (start message done : List ℕ) → message ≡ assemble (partsBefore server) start
+      → done ≡ assemble (serverParts xor N K S wanted key (answersIn (evenScheme xor N K S) N wanted key answers) server) message
+      → done ≡ assemble (partsBefore (server + 1)) start
+  unfolding partsBefore
+  before-more server start message done e f =
+      let parts = serverParts xor N K S wanted key (answersIn (evenScheme xor N K S) N wanted key answers) in
+      f ∙ ap (assemble (parts server)) e ∙ sym (assemble-list parts server start)
+
+  pub before-all : (servers : ℕ) → servers ≡ N → partsBefore servers ≡ recoveredParts xor N K S wanted key (answersIn (evenScheme xor N K S) N wanted key answers)
+  unfolding partsBefore recoveredParts
+  before-all servers e = ap (λ (n : ℕ). flatMap (serverParts xor N K S wanted key (answersIn (evenScheme xor N K S) N wanted key answers)) (range 0 n)) e

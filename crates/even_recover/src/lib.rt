@@ -1,0 +1,250 @@
+// Recovery of the even code (01: 'Even code', recovery): the wanted message from the answers of all servers.
+ghost use mathlib.Core.Path.{_≡_};
+ghost use mathlib.Core.Bool.{true};
+ghost use mathlib.Core.List.{map};
+ghost use Prim.Native.Nat.{ℕ, _+_, _-_, _*_, _/_, _%_, _^_, _≤_, _<_};
+ghost use lib.ListN.{length, getD};
+ghost use Rattle.lists.specs.Parts.{cut, put};
+ghost use Rattle.symbol.specs.Xor.{xor};
+ghost use Rattle.even_places.specs.Rule.{others};
+ghost use Rattle.parameters.specs.Bounds.{evenFits};
+ghost use Rattle.parameters.specs.Measures.{evenRows};
+ghost use Rattle.scheme.specs.Scheme.{answersIn};
+ghost use Rattle.even_places.specs.Sets.{byteOf, allSets};
+ghost use Rattle.even_scheme.specs.Even.{assemble, evenKeyGood, serverParts, recoveredParts, evenScheme};
+ghost use Rattle.even_layout.specs.Layout.{firstRows};
+ghost use Rattle.even_recover.specs.Rows.{readingOf, groupSymbol, groupParts, groupOf, setParts, Given, Held, Grouped, Named, Ready};
+
+// What is the same for all rows of one server's query.
+struct Reading {
+    // How many servers there are.
+    servers: usize,
+    // Bytes of a symbol.
+    symbol: usize,
+    // Rows of a query.
+    rows: usize,
+    // The wanted message's bit in the byte of a set.
+    bit: u8,
+    // The server.
+    server: usize,
+}
+
+// The rows of one set with the wanted message.
+struct Group {
+    // Messages in the set.
+    messages: usize,
+    // Rows of the set.
+    count: usize,
+    // The first of them.
+    first: usize,
+    // The first row of the set without the wanted message.
+    source: usize,
+    // How many of the rows are joined from those of each other server.
+    each: usize,
+    // The wanted message's position in the query, in the first row.
+    cell: usize,
+}
+
+// The other server than `server` whose turn it is, ascending from turn 0.
+fn other(server: usize, turn: usize) -> usize
+    requires { ⌜ turn < 16 ⌝ }
+    ensures { λ r. ⌜ ((n : ℕ) → server < n → turn < n - 1 → r ≡ getD (others n server) turn 0) ⌝ }
+{
+    if turn < server { turn } else { turn + 1 }
+}
+
+// Copies a row of the answer buffer over a symbol of the message.
+fn copy_row(symbol: usize, number: usize, row: usize, answers: &[u8], message: &mut [u8])
+    requires { ⌜ row * symbol + symbol ≤ length (now answers) ⌝ }
+    requires { ⌜ number * symbol + symbol ≤ length (now message) ⌝ }
+    ensures { λ _. ⌜ now (message .exit) ≡ put (number * symbol) (cut (row * symbol) symbol (now (answers .entry))) (now (message .entry)) ⌝ }
+{
+    let at = number * symbol;
+    let end = at + symbol;
+    let from = row * symbol;
+    let until = from + symbol;
+    symbol::copy(&mut message[at..end], &answers[from..until]);
+}
+
+// Combines a row of the answer buffer into a symbol of the message.
+fn combine_row(symbol: usize, number: usize, row: usize, answers: &[u8], message: &mut [u8])
+    requires { ⌜ row * symbol + symbol ≤ length (now answers) ⌝ }
+    requires { ⌜ number * symbol + symbol ≤ length (now message) ⌝ }
+    ensures { λ _. ⌜ now (message .exit) ≡ put (number * symbol) (xor .plus (cut (number * symbol) symbol (now (message .entry))) (cut (row * symbol) symbol (now (answers .entry)))) (now (message .entry)) ⌝ }
+{
+    let at = number * symbol;
+    let end = at + symbol;
+    let from = row * symbol;
+    let until = from + symbol;
+    symbol::combine(&mut message[at..end], &answers[from..until]);
+}
+
+// Recovers the symbol of row `i` of the group: the answer to it, combined with the answer to the row that it was joined from.
+fn from_row(
+    here: Reading,
+    group: Group,
+    i: usize,
+    number: usize,
+    answers: &[u8],
+    message: &mut [u8],
+)
+    requires { ⌜ Held here (now answers) ⌝ }
+    requires { ⌜ Grouped here group ⌝ }
+    requires { ⌜ i < group .count ⌝ }
+    requires { ⌜ number * here .symbol + here .symbol ≤ length (now message) ⌝ }
+    ensures { λ _. ⌜ now (message .exit) ≡ put (number * here .symbol) (groupSymbol here group (now (answers .entry)) i) (now (message .entry)) ⌝ }
+{
+    let row = here.server * here.rows + (group.first + i);
+    copy_row(here.symbol, number, row, answers, message);
+    if group.messages != 1 {
+        let source = other(here.server, i / group.each) * here.rows
+            + (group.source + i % group.each);
+        combine_row(here.symbol, number, source, answers, message);
+    }
+}
+
+// Recovers the symbols of the group's rows, in order.
+fn from_group(here: Reading, group: Group, query: &[u8], answers: &[u8], message: &mut [u8])
+    requires { ⌜ Held here (now answers) ⌝ }
+    requires { ⌜ Grouped here group ⌝ }
+    requires { ⌜ Named here group (now query) (now message) ⌝ }
+    ensures { λ _. ⌜ now (message .exit) ≡ assemble (groupParts here group (now (query .entry)) (now (answers .entry))) (now (message .entry)) ⌝ }
+{
+    let count = group.count;
+    let mut cell = group.cell;
+    let mut i = 0;
+    while i < count {
+        let number = query[cell] as usize;
+        from_row(here, group, i, number, answers, message);
+        cell += group.messages;
+        i += 1;
+    }
+}
+
+// The group of a set with the wanted message, whose first row starts at position `cell` of the query.
+fn group_of(here: Reading, set: u8, cell: usize, firsts: &[usize]) -> Group
+    requires { ⌜ Given here set cell (now firsts) ⌝ }
+    ensures { λ r. ⌜ r ≡ groupOf here set cell (now (firsts .entry)) ⌝ }
+{
+    let count = even_layout::rows_of(here.servers, set);
+    Group {
+        messages: u8::count_ones(set) as usize,
+        count,
+        first: firsts[set as usize],
+        source: firsts[(set - here.bit) as usize],
+        each: count / (here.servers - 1),
+        cell: cell + u8::count_ones(set % here.bit) as usize,
+    }
+}
+
+// Recovers the symbols of the rows of a set, if it has the wanted message.
+fn from_set(
+    here: Reading,
+    set: u8,
+    cell: usize,
+    firsts: &[usize],
+    query: &[u8],
+    answers: &[u8],
+    message: &mut [u8],
+)
+    requires { ⌜ 1 ≤ here .bit ⌝ }
+    requires { ⌜ Held here (now answers) ⌝ }
+    requires { ⌜ (set / here .bit % 2 ≡ 1 → Ready here set cell (now firsts) (now query) (now message)) ⌝ }
+    ensures { λ _. ⌜ now (message .exit) ≡ assemble (setParts here set cell (now (firsts .entry)) (now (query .entry)) (now (answers .entry))) (now (message .entry)) ⌝ }
+{
+    if set / here.bit % 2 == 1 {
+        from_group(
+            here,
+            group_of(here, set, cell, firsts),
+            query,
+            answers,
+            message,
+        );
+    }
+}
+
+// What is the same for all rows of a server's query.
+fn reading_of(n: usize, k: usize, s: usize, wanted: usize, server: usize) -> Reading
+    requires { ⌜ evenFits n k s ≡ true ⌝ }
+    requires { ⌜ wanted < k ⌝ }
+    ensures { λ r. ⌜ r ≡ readingOf n k s wanted server ⌝ }
+{
+    let whole = even_layout::power(n, k - 1);
+    Reading {
+        servers: n,
+        symbol: s,
+        rows: whole + (whole - 1) / (n - 1),
+        bit: even_layout::power(2, wanted) as u8,
+        server,
+    }
+}
+
+// Recovers the symbols of the rows with the wanted message of one server's query.
+fn from_server(
+    n: usize,
+    k: usize,
+    s: usize,
+    wanted: usize,
+    server: usize,
+    key: &[u8],
+    sets: &[u8],
+    firsts: &[usize],
+    answers: &[u8],
+    message: &mut [u8],
+)
+    requires { ⌜ evenFits n k s ≡ true ⌝ }
+    requires { ⌜ (wanted < k) × (server < n) ⌝ }
+    requires { ⌜ (length (now key) ≡ k * n ^ k) × (evenKeyGood n k (now key) ≡ true) ⌝ }
+    requires { ⌜ (now sets ≡ map byteOf (allSets k)) × (now firsts ≡ firstRows n k) ⌝ }
+    requires { ⌜ (n * (evenRows n k * s) ≤ length (now answers)) × (n ^ k * s ≤ length (now message)) ⌝ }
+    ensures { λ _. ⌜ now (message .exit) ≡ assemble (serverParts xor n k s wanted (now (key .entry)) (answersIn (evenScheme xor n k s) n wanted (now (key .entry)) (now (answers .entry))) server) (now (message .entry)) ⌝ }
+{
+    let here = reading_of(n, k, s, wanted, server);
+    let mut asked = [0u8; 1024];
+    even_query::query(n, k, wanted, server, key, &mut asked);
+    let mut cell = 0;
+    let mut j = 0;
+    while j < sets.len() {
+        let set = sets[j];
+        from_set(here, set, cell, firsts, &asked, answers, message);
+        cell += even_layout::rows_of(n, set) * u8::count_ones(set) as usize;
+        j += 1;
+    }
+}
+
+// Recovers the wanted message from the slots of the answer buffer, and writes each symbol at its number.
+pub fn recover(
+    n: usize,
+    k: usize,
+    s: usize,
+    wanted: usize,
+    key: &[u8],
+    answers: &[u8],
+    message: &mut [u8],
+)
+    requires { ⌜ evenFits n k s ≡ true ⌝ }
+    requires { ⌜ wanted < k ⌝ }
+    requires { ⌜ (length (now key) ≡ k * n ^ k) × (evenKeyGood n k (now key) ≡ true) ⌝ }
+    requires { ⌜ (n * (evenRows n k * s) ≤ length (now answers)) × (n ^ k * s ≤ length (now message)) ⌝ }
+    ensures { λ _. ⌜ now (message .exit) ≡ assemble (recoveredParts xor n k s wanted (now (key .entry)) (answersIn (evenScheme xor n k s) n wanted (now (key .entry)) (now (answers .entry)))) (now (message .entry)) ⌝ }
+{
+    let sets = even_layout::ordered_sets(k);
+    let count = even_layout::power(2, k) - 1;
+    let firsts = even_layout::first_rows(n, k);
+    let mut server = 0;
+    while server < n {
+        from_server(
+            n,
+            k,
+            s,
+            wanted,
+            server,
+            key,
+            &sets[..count],
+            &firsts,
+            answers,
+            message,
+        );
+        server += 1;
+    }
+}

@@ -1,0 +1,112 @@
+-- `server::verdict` meets its contract: its tests are the links of the chain, in their order.
+use mathlib.Core.Path.{_≡_, sym, ap, _∙_}
+use mathlib.Core.Bool.{true}
+use borrow.Author.Needs.{needs}
+use borrow.Author.Tests.{not-true, not-false}
+use Rattle.parameters.specs.declared.Sizes.{Sizes}
+use Rattle.catalogue.specs.Catalogue.{Admitted}
+use Rattle.codes.specs.Codes.{schemeOf}
+use Rattle.codes.proofs.Measured.{measured, unmeasured}
+use Rattle.server.specs.Answering.{answerVerdict}
+use Rattle.server.proofs.Laws.{answer-accepted}
+use Rattle.server.proofs.Refusals.{server-refused, query-refused, store-refused, room-refused}
+use Rattle.server.proofs.verdict.Statement.{statement}
+use Rattle.server.proofs.verdict.Tie as tie
+
+sizes-requires : tie.Need-sizes-requires
+sizes-requires c κs = search needs
+
+enum-known-sizes : tie.Need-enum-known-sizes
+enum-known-sizes c = search needs
+
+enum-told : tie.Need-enum-told
+enum-told c = search needs
+
+verdict-requires : tie.Need-verdict-requires
+verdict-requires c κs = search needs
+
+returns : tie.Need-returns
+unfolding answerVerdict
+returns c =
+    let from = c .before .before .before in
+    let refused = unmeasured (from .before .before .args .c) (from .sizes .result) (c .before .enum-told .given .0 .0) (from .sizes .ensures) (c .before .enum-told .given .1) in
+    c .verdict .ensures ∙ simp refused
+
+-- once the sizes are there: the catalogue is admitted, and they are its scheme's
+admitted : (c : tie.After-sizes2) → Admitted (c .before .before .before .before .args .c)
+admitted c =
+    let from = c .before .before in
+    measured (from .before .before .args .c) (from .sizes .result) (c .sizes2 .given .0 .0) (from .sizes .ensures) (c .sizes2 .given .1) .0
+
+store-size : (c : tie.After-sizes2) → c .sizes2 .given .0 .0 .store ≡ schemeOf (c .before .before .before .before .args .c) .sizes .store
+store-size c =
+    let from = c .before .before in
+    ap (λ (s : Sizes). s .store) (measured (from .before .before .args .c) (from .sizes .result) (c .sizes2 .given .0 .0) (from .sizes .ensures) (c .sizes2 .given .1) .1)
+
+returns-2 : tie.Need-returns-2
+returns-2 c =
+    let a = c .before .before .before .before .before .before .before .args in
+    server-refused schemeOf (a .c) (a .server) (a .stored) (a .query .now) (a .room) (admitted (c .before .before .before)) (c .if1 .taken)
+
+admits-requires : tie.Need-admits-requires
+admits-requires c κs = admitted (c .before .before .before)
+
+returns-3 : tie.Need-returns-3
+returns-3 c =
+    let a = c .before .before .before .before .before .before .before .before .before .args in
+    let asked = c .before .admits in
+    query-refused schemeOf (a .c) (a .server) (a .stored) (a .query .now) (a .room) (admitted (c .before .before .before .before .before))
+    (c .before .before .if1 .left) (sym (asked .ensures) ∙ not-true (asked .result) (c .if2 .taken))
+
+-- the query is admitted
+good : (c : tie.Else2) →
+    let a = c .before .before .before .before .before .before .before .before .before .args in
+    schemeOf (a .c) .admits (a .server) (a .query .now) ≡ true
+good c = sym (c .before .admits .ensures) ∙ not-false (c .before .admits .result) (c .if2 .left)
+
+returns-4 : tie.Need-returns-4
+returns-4 c =
+    let a = c .before .before .before .before .before .before .before .before .before .before .before .args in
+    let sized = c .before .before .before .before .before .before .before in
+    store-refused schemeOf (a .c) (a .server) (a .stored) (a .query .now) (a .room) (admitted sized)
+    (c .before .before .before .before .if1 .left) (good (c .before .before)) (λ e. c .if3 .taken (e ∙ sym (store-size sized)))
+
+answer-length-requires : tie.Need-answer-length-requires
+answer-length-requires c κs = admitted (c .before .before .before .before .before .before .before)
+
+returns-5 : tie.Need-returns-5
+returns-5 c =
+    let a = c .before .before .before .before .before .before .before .before .before .before .before .before .before .args in
+    let sized = c .before .before .before .before .before .before .before .before .before in
+    room-refused schemeOf (a .c) (a .server) (a .stored) (a .query .now) (a .room) (admitted sized)
+    (c .before .before .before .before .before .before .if1 .left) (good (c .before .before .before .before)) (c .before .before .if3 .left ∙ store-size sized)
+    (rw (c .before .answer-length .ensures) at (c .if4 .taken))
+
+returns-6 : tie.Need-returns-6
+returns-6 c =
+    let a = c .before .before .before .before .before .before .before .before .before .before .before .before .before .args in
+    let sized = c .before .before .before .before .before .before .before .before .before in
+    sym (answer-accepted schemeOf (a .c) (a .server) (a .stored) (a .query .now) (a .room) (record {
+      admitted = admitted sized;
+      below = c .before .before .before .before .before .before .if1 .left;
+      admits = good (c .before .before .before .before);
+      store-long = c .before .before .if3 .left ∙ store-size sized;
+      roomy = rw (c .before .answer-length .ensures) at (c .if4 .left);
+    }))
+
+pub verdict-spec : {M : Type 1} → statement M
+verdict-spec =
+    tie.close
+    (tie.spec
+    sizes-requires
+    enum-known-sizes
+    enum-told
+    verdict-requires
+    returns
+    returns-2
+    admits-requires
+    returns-3
+    returns-4
+    answer-length-requires
+    returns-5
+    returns-6)
