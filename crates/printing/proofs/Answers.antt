@@ -12,6 +12,7 @@ use Rattle.refusal.specs.declared.Refusal.{Refusal}
 use Rattle.refusal.specs.declared.Refusal.the-variants.{Wanted, KeyLength, KeyEntry}
 use Rattle.refusal.specs.declared.Verdict.{Verdict}
 use Rattle.refusal.specs.declared.Verdict.the-variants.{Accepted, Refused}
+use Rattle.refusal.specs.declared.Outcome.the-variants.{Value, Refused as NoValue}
 use Rattle.refusal.specs.Chain.{refuseIf, andThen}
 use Rattle.refusal.proofs.Chain.{not-refused, passed, both-accepted}
 use Rattle.scheme.specs.Scheme.{Scheme}
@@ -20,7 +21,7 @@ use Rattle.catalogue.specs.Catalogue.{catalogueVerdict, Admitted}
 use Rattle.session.specs.Calls.{beginVerdict}
 use Rattle.printing.specs.Input.{asked}
 use Rattle.printing.specs.Output.{refusalLine, askedVerdict, queryLines, linesBy, answerTo}
-use Rattle.printing.specs.Steps.{checkVerdict}
+use Rattle.printing.specs.Steps.{checkVerdict, valueBy}
 
 -- a refusal by the first checks stands, whatever the key's entries are worth
 checks-first : (v : Verdict) (wanted long good bytes : Bool) (refusal : Refusal)
@@ -32,6 +33,15 @@ checks-first Accepted false true good bytes refusal e = e
 checks-first Accepted false false good true refusal e = not-refused refusal (sym e)
 checks-first Accepted false false true false refusal e = e
 checks-first Accepted false false false false refusal e = e
+
+-- an outcome by a verdict says the verdict
+pub value-given : (v : Verdict) (n value : ℕ) → valueBy v n ≡ Value value → (v ≡ Accepted) × (value ≡ n)
+value-given Accepted n value e = (refl, cc)
+value-given (Refused refusal) n value e = let z : _≡_ {A = ℕ} 0 1 = cc in absurd (let w : ⊥ = omega arith in w)
+
+pub value-refused : (v : Verdict) (n : ℕ) (refusal : Refusal) → valueBy v n ≡ NoValue refusal → v ≡ Refused refusal
+value-refused Accepted n refusal e = let z : _≡_ {A = ℕ} 0 1 = cc in absurd (let w : ⊥ = omega arith in w)
+value-refused (Refused other) n refusal e = cc
 
 module _ (schemeOf : Catalogue → Scheme) (c : Catalogue) (wanted : ℕ) where
   -- what accepted checks say

@@ -5,7 +5,7 @@ use Prim.Native.Nat.{ℕ, zero, suc, _+_, _≤_, _<_}
 use native.Mathlib.Nat.{zero-add}
 use native.Mathlib.Numerals.{add-one}
 use native.Mathlib.Omega.{arith}
-use lib.ListN.{length, getD, take, length-append}
+use lib.ListN.{length, getD, take, length-append, drop-of-length-le}
 use lib.Seq.{take-suc}
 use Rattle.lists.specs.Parts.{put}
 use Rattle.lists.specs.Ranges.{range}
@@ -42,3 +42,12 @@ put-three at a b c out out₁ out₂ out₃ p₁ p₂ h i₁ i₂ o₁ o₂ o₃
     let j : p₂ ≡ at + length (a ++ b) = let l = length-append a b in omega arith in
     let two : out₂ ≡ put at (a ++ b) out = o₂ ∙ put-next at p₁ a b out out₁ h i₁ o₁ in
     o₃ ∙ put-next at p₂ (a ++ b) c out out₂ h j two ∙ ap (λ (l : List ℕ). put at l out) (append-assoc a b c)
+
+-- what a call writes at the start of a buffer and gives the length of, by another name
+pub written-as : (text same before : List ℕ) (given : ℕ) (after : List ℕ) → same ≡ text → (given ≡ length text) × (after ≡ put 0 text before)
+    → (given ≡ length same) × (after ≡ put 0 same before)
+written-as text same before given after e w = rw e w
+
+-- a part that fills its buffer
+pub put-whole : (bytes buffer : List ℕ) → length bytes ≡ length buffer → put 0 bytes buffer ≡ bytes
+put-whole bytes buffer e = ap (λ (l : List ℕ). bytes ++ l) (drop-of-length-le buffer {i = length bytes} (omega arith)) ∙ append-nil bytes

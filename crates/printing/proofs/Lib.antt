@@ -4,4 +4,7 @@ pub mod Scanning
 pub mod Filling
 pub mod Writing
 pub mod Answers
+pub mod Lines
 pub mod Room
+pub mod Issued
+pub mod RoundTrip

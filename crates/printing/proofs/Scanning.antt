@@ -7,12 +7,15 @@ use Prim.Native.Nat.{ℕ, suc, _+_, _-_, _≤_, _<_}
 use native.Mathlib.Nat.{zero-add}
 use native.Mathlib.Omega.{arith}
 use lib.Dec.{ltb, eqb}
-use lib.ListN.{length, getD, List·getD-eq-default}
+use lib.ListN.{length, getD, drop, length-append, length-drop, List·getD-eq-default}
 use Rattle.lists.specs.Below.{allBelow}
 use Rattle.text_lines.specs.declared.Line.the-variants.{Value, Refused as NoLine}
+use Rattle.text_lines.specs.Lines.{begins}
+use Rattle.text_lines.proofs.Begins.{begins-split}
 use Rattle.printing.specs.declared.Scanned.{Scanned}
 use Rattle.printing.specs.declared.Scanned.the-variants.{Of, Refused}
-use Rattle.printing.specs.NumberLists.{numeralAt, endsAt, before, numbersFrom, scanOf, listOf}
+use Rattle.printing.specs.NumberLists.{numeralAt, endsAt, before, numbersFrom, numbersAt, scanOf, listOf}
+use Rattle.printing.specs.Input.{keyName, keyLine}
 use Rattle.printing.proofs.Reading.{at-none, at-last, at-more, at-other}
 
 -- what a pass says that came by `count` numbers already, all bytes or not, if these are left
@@ -79,8 +82,36 @@ module _ (text : List ℕ) (at count : ℕ) (bytes : Bool) where
         left (λ m. scanAfter count bytes (numbersFrom m text at))
         ∙ ap (scanAfter count bytes) (at-more rest text at n end e f g) ∙ after-more count bytes n (numbersFrom rest text (end + 1))
 
--- ---- numbers that are all bytes
+-- ---- what the pass says of the whole list
 
-pub scanned-list : (o : Option (List ℕ)) (count : ℕ) → scanOf o ≡ Of count true → (length (listOf o) ≡ count) × (allBelow 256 (listOf o) ≡ true)
-scanned-list none count e = let z : _≡_ {A = ℕ} 0 1 = cc in absurd (let w : ⊥ = omega arith in w)
-scanned-list (some numbers) count e = (cc, cc)
+module _ (o : Option (List ℕ)) (count : ℕ) (bytes : Bool) where
+  pub scanned-list : scanOf o ≡ Of count bytes → (length (listOf o) ≡ count) × (allBelow 256 (listOf o) ≡ bytes)
+  scanned-list e = go o e
+    where
+      go : (p : Option (List ℕ)) → scanOf p ≡ Of count bytes → (length (listOf p) ≡ count) × (allBelow 256 (listOf p) ≡ bytes)
+      go none f = let z : _≡_ {A = ℕ} 0 1 = cc in absurd (let w : ⊥ = omega arith in w)
+      go (some numbers) f = (cc, cc)
+
+  pub scanned-some : scanOf o ≡ Of count bytes → o ≡ some (listOf o)
+  scanned-some e = go o e
+    where
+      go : (p : Option (List ℕ)) → scanOf p ≡ Of count bytes → p ≡ some (listOf p)
+      go none f = let z : _≡_ {A = ℕ} 0 1 = cc in absurd (let w : ⊥ = omega arith in w)
+      go (some numbers) f = refl
+
+pub scan-refused : (o : Option (List ℕ)) → scanOf o ≡ Refused → o ≡ none
+scan-refused none e = refl
+scan-refused (some numbers) e = let z : _≡_ {A = ℕ} 0 1 = cc in absurd (let w : ⊥ = omega arith in w)
+
+-- a key's line that was read: its numbers stand after its name
+pub key-line-read : (text : List ℕ) (at count : ℕ) (bytes : Bool) → scanOf (keyLine text at) ≡ Of count bytes
+    → (at ≤ length text) × (keyLine text at ≡ numbersAt text (at + length keyName))
+unfolding keyLine
+key-line-read text at count bytes e = go (begins keyName (drop at text)) refl
+  where
+    go : (t : Bool) → begins keyName (drop at text) ≡ t → (at ≤ length text) × (keyLine text at ≡ numbersAt text (at + length keyName))
+    go true f =
+        let l = ap length (begins-split keyName (drop at text) f) ∙ length-append keyName (drop (length keyName) (drop at text)) in
+        let d = length-drop at text in
+        (omega arith, rw f)
+    go false f = let z : _≡_ {A = ℕ} 0 1 = cc (rw f at e) in absurd (let w : ⊥ = omega arith in w)

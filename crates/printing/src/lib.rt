@@ -13,13 +13,12 @@ ghost use Rattle.lists.specs.Parts.{put};
 ghost use Rattle.lists.specs.Below.{allBelow};
 ghost use Rattle.refusal.specs.declared.Verdict.the-variants.{Accepted};
 ghost use Rattle.catalogue.specs.Catalogue.{Admitted};
-ghost use Rattle.scheme.specs.Scheme.{Valid};
 ghost use Rattle.codes.specs.Codes.{schemeOf};
 ghost use Rattle.session.specs.Calls.{beginVerdict};
 ghost use Rattle.printing.specs.declared.Scanned.the-variants.{Of};
 ghost use Rattle.printing.specs.NumberLists.{numbersAt, scanOf, listOf};
 ghost use Rattle.printing.specs.Input.{asked, keyLine};
-ghost use Rattle.printing.specs.Output.{queryHead, queryLine, refusalLine, queryLines, answerTo, printed, pageBytes, pageOf};
+ghost use Rattle.printing.specs.Output.{queryHead, queryLine, refusalLine, queryLines, answerTo, printed, pageBytes, blank, pageOf};
 ghost use Rattle.printing.specs.Steps.{keyVerdict, checkVerdict, valueBy};
 
 mod numbers;
@@ -118,15 +117,11 @@ fn put_line(out: &mut [u8], at: usize, server: usize, query: &[u8]) -> usize
     text_lines::put_bytes(out, end, b"\n")
 }
 
-// STANDIN
-fn standin(c: Catalogue, wanted: usize, server: usize, key: &[u8], out: &mut [u8])
-    requires { ⌜ Admitted c ⌝ }
-    requires { ⌜ (wanted < c .messages) × (server < c .servers) ⌝ }
-    requires { ⌜ Valid (schemeOf c) (now key) ⌝ }
-    requires { ⌜ schemeOf c .sizes .query ≤ length (now out) ⌝ }
-    ensures { λ _. ⌜ now (out .exit) ≡ put 0 (schemeOf c .query wanted server (now (key .entry))) (now (out .entry)) ⌝ }
+// 2,048 zeros: room for every key and every query of an admitted catalogue.
+fn zeros() -> [u8; 2048]
+    ensures { λ r. ⌜ length r ≡ 2048 ⌝ }
 {
-    out[0] = 0;
+    [0; 2048]
 }
 
 // Writes the line of a server from place `at` on, with the query of `size` bytes that is asked for there, and gives the place after it.
@@ -138,8 +133,8 @@ fn put_query(c: Catalogue, wanted: usize, server: usize, key: &[u8], size: usize
     ensures { λ r. ⌜ r ≤ at + (19 + 4 * size) ⌝ }
     ensures { λ _. ⌜ now (out .exit) ≡ put at (queryLine server (schemeOf c .query wanted server (now (key .entry)))) (now (out .entry)) ⌝ }
 {
-    let mut query = [0; 2048];
-    standin(c, wanted, server, key, &mut query[..size]);
+    let mut query = zeros();
+    codes::query(c, wanted, server, key, &mut query[..size]);
     put_line(out, at, server, &query[..size])
 }
 
@@ -181,7 +176,7 @@ fn put_checked(c: Catalogue, wanted: usize, text: &[u8], at: usize, count: usize
     ensures { λ r. ⌜ r ≡ length (answerTo schemeOf (asked c wanted (listOf (numbersAt (now (text .entry)) at)))) ⌝ }
     ensures { λ _. ⌜ now (out .exit) ≡ put 0 (answerTo schemeOf (asked c wanted (listOf (numbersAt (now (text .entry)) at)))) (now (out .entry)) ⌝ }
 {
-    let mut places = [0; 2048];
+    let mut places = zeros();
     numbers::put_numbers(text, at, &mut places[..count]);
     put_keyed(c, wanted, &places[..count], size, out)
 }
@@ -228,11 +223,18 @@ fn put_page(input: &[u8], out: &mut [u8]) -> usize
     put_asked(catalogue, wanted, input, at + 4, count, bytes, out)
 }
 
+// A page of zeros.
+fn blank_bytes() -> [u8; 8496]
+    ensures { λ r. ⌜ r ≡ blank ⌝ }
+{
+    [0; 8496]
+}
+
 // The output for the input.
 pub fn print(input: &[u8]) -> Page
     ensures { λ r. ⌜ r ≡ pageOf (printed schemeOf (now (input .entry))) ⌝ }
 {
-    let mut bytes = [0; 8496];
+    let mut bytes = blank_bytes();
     let length = put_page(input, &mut bytes);
     Page {
         bytes: bytes,

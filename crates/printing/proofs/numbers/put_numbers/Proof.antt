@@ -1,5 +1,6 @@
 -- `printing::numbers::put_numbers` meets its contract: after i turns the first i numbers are written, and the others are still to be read.
 use mathlib.Core.Path.{_≡_, refl, sym, ap, ap₂, _∙_}
+use mathlib.Core.Bool.{true}
 use mathlib.Core.List.{List, _++_, append-nil}
 use Prim.Native.Nat.{ℕ, _+_, _-_, _≤_, _<_}
 use native.Mathlib.Omega.{arith}
@@ -68,7 +69,7 @@ returns c =
     let from = c .before .before .before .before .before .before .before in
     let a = from .args in
     let numbers = listOf (numbersAt (a .text .now) (a .start)) in
-    let all = scanned-list (numbersAt (a .text .now) (a .start)) (length (a .out .now)) (from .pre) in
+    let all = scanned-list (numbersAt (a .text .now) (a .start)) (length (a .out .now)) true (from .pre) in
     let count : length numbers ≡ length (a .out .now) = all .0 in
     let same = at .inv .same in
     next-there (a .text .now) numbers (at .at) (at .i) (at .inv .left) (omega arith) (sym (c .before .before .number-at .ensures) ∙ c .enum-told .given .1)
@@ -80,7 +81,7 @@ cast-out c =
     let from = c .before .before .before .before .before .before .before .before in
     let a = from .args in
     let numbers = listOf (numbersAt (a .text .now) (a .start)) in
-    let all = scanned-list (numbersAt (a .text .now) (a .start)) (length (a .out .now)) (from .pre) in
+    let all = scanned-list (numbersAt (a .text .now) (a .start)) (length (a .out .now)) true (from .pre) in
     let count : length numbers ≡ length (a .out .now) = all .0 in
     let same = at .inv .same in
     let here = sym (c .before .before .before .number-at .ensures) ∙ c .before .value .given .1 in
@@ -100,7 +101,7 @@ add-at c =
     let from = c .before .before .before .before .before .before .before .before in
     let a = from .args in
     let numbers = listOf (numbersAt (a .text .now) (a .start)) in
-    let all = scanned-list (numbersAt (a .text .now) (a .start)) (length (a .out .now)) (from .pre) in
+    let all = scanned-list (numbersAt (a .text .now) (a .start)) (length (a .out .now)) true (from .pre) in
     let count : length numbers ≡ length (a .out .now) = all .0 in
     let same = at .inv .same in
     let here = sym (c .before .before .before .number-at .ensures) ∙ c .before .value .given .1 in
@@ -124,7 +125,7 @@ loop-again c =
     let from = c .before .before .before .before .before .before .before .before in
     let a = from .args in
     let numbers = listOf (numbersAt (a .text .now) (a .start)) in
-    let all = scanned-list (numbersAt (a .text .now) (a .start)) (length (a .out .now)) (from .pre) in
+    let all = scanned-list (numbersAt (a .text .now) (a .start)) (length (a .out .now)) true (from .pre) in
     let count : length numbers ≡ length (a .out .now) = all .0 in
     let same = at .inv .same in
     let here = sym (c .before .before .before .number-at .ensures) ∙ c .before .value .given .1 in
@@ -151,7 +152,7 @@ returns-2 c =
     let from = c .before .before .before .before in
     let a = from .args in
     let numbers = listOf (numbersAt (a .text .now) (a .start)) in
-    let all = scanned-list (numbersAt (a .text .now) (a .start)) (length (a .out .now)) (from .pre) in
+    let all = scanned-list (numbersAt (a .text .now) (a .start)) (length (a .out .now)) true (from .pre) in
     let count : length numbers ≡ length (a .out .now) = all .0 in
     let same = at .inv .same in
     let end : at .i ≡ length (a .out .now) = let few = at .inv .few in omega arith in
