@@ -99,24 +99,6 @@ fn put_answer(buffer: &mut [u8], at: usize, answer: &[u8])
     symbol::copy(&mut buffer[at..end], answer);
 }
 
-// What a refused begin hands back.
-fn zero_session() -> Session
-    ensures { λ r. ⌜ r ≡ zeroSession ⌝ }
-{
-    Session {
-        catalogue: Catalogue {
-            code: Code::Short,
-            servers: 0,
-            messages: 0,
-            symbol: 0,
-        },
-        wanted: 0,
-        key: [0; 2048],
-        issued: [false; 16],
-        taken: [false; 16],
-    }
-}
-
 // A session at the start of a fetch.
 fn new_session(catalogue: Catalogue, wanted: usize, key: &[u8]) -> Session
     requires { ⌜ length (now key) ≤ 2048 ⌝ }
@@ -159,11 +141,22 @@ pub fn bound(catalogue: Catalogue) -> Outcome
 }
 
 impl Session {
-    // A first value, that the session of a fetch takes the place of.
+    // Zeros, the code short: a first value, that the session of a fetch takes the place of, and what a refused begin hands back.
     pub fn blank() -> Session
         ensures { λ r. ⌜ r ≡ zeroSession ⌝ }
     {
-        zero_session()
+        Session {
+            catalogue: Catalogue {
+                code: Code::Short,
+                servers: 0,
+                messages: 0,
+                symbol: 0,
+            },
+            wanted: 0,
+            key: [0; 2048],
+            issued: [false; 16],
+            taken: [false; 16],
+        }
     }
 
     // Begins a fetch, in a new session; the old one is not read.
@@ -174,7 +167,7 @@ impl Session {
         if let Verdict::Refused(_) = verdict {
             return Handed {
                 verdict: verdict,
-                session: zero_session(),
+                session: Session::blank(),
             };
         }
         Handed {

@@ -14,8 +14,8 @@ begin-verdict-requires c κs = search needs
 enum-told : tie.Need-enum-told
 enum-told c = search needs
 
-zero-session-requires : tie.Need-zero-session-requires
-zero-session-requires c κs = search needs
+blank-requires : tie.Need-blank-requires
+blank-requires c κs = search needs
 
 returns : tie.Need-returns
 returns c =
@@ -24,7 +24,7 @@ returns c =
     let start = asked .before .before in
     let args = start .args in
     let v = asked .begin-verdict in
-    rw (c .zero-session .ensures) (begin-refused schemeOf (args .catalogue) (args .wanted) (args .key .now) (v .result) _ (v .ensures) (told .enum-told .given .1))
+    rw (c .blank .ensures) (begin-refused schemeOf (args .catalogue) (args .wanted) (args .key .now) (v .result) _ (v .ensures) (told .enum-told .given .1))
 
 enum-told-2 : tie.Need-enum-told-2
 enum-told-2 c = search needs
@@ -53,7 +53,7 @@ begin-spec =
     (tie.spec
     begin-verdict-requires
     enum-told
-    zero-session-requires
+    blank-requires
     returns
     enum-told-2
     new-session-requires
