@@ -4,7 +4,7 @@ use refusal::Refusal;
 use refusal::Verdict;
 ghost use mathlib.Core.Path.{_≡_};
 ghost use mathlib.Core.Bool.{true, _&&_};
-ghost use Prim.Native.Nat.{_^_, _≤_};
+ghost use Prim.Native.Nat.{_≤_};
 ghost use Rattle.parameters.specs.Bounds.{serversFit, symbolFits, shortFits, evenFits};
 ghost use Rattle.parameters.specs.Measures.{shortSizes, evenSizes};
 ghost use Rattle.catalogue.specs.Catalogue.{fits, catalogueVerdict, zeroCatalogue, measuredOf};
@@ -121,20 +121,6 @@ pub fn zero() -> Catalogue
     }
 }
 
-// base to the power of `exponent`.
-fn power(base: usize, exponent: usize) -> usize
-    requires { ⌜ (1 ≤ base) × (base ^ exponent ≤ 256) ⌝ }
-    ensures { λ r. ⌜ r ≡ base ^ exponent ⌝ }
-{
-    let mut product: usize = 1;
-    let mut i = 0;
-    while i < exponent {
-        product = product * base;
-        i += 1;
-    }
-    product
-}
-
 // The sizes of the short code.
 fn short_sizes(n: usize, k: usize, s: usize) -> Sizes
     requires { ⌜ shortFits n k s ≡ true ⌝ }
@@ -157,8 +143,8 @@ fn even_sizes(n: usize, k: usize, s: usize) -> Sizes
     requires { ⌜ evenFits n k s ≡ true ⌝ }
     ensures { λ r. ⌜ r ≡ evenSizes n k s ⌝ }
 {
-    let symbols = power(n, k);
-    let share = power(n, k - 1);
+    let symbols = parameters::power(n, k);
+    let share = parameters::power(n, k - 1);
     let rows = share + (share - 1) / (n - 1);
     let message = symbols * s;
     Sizes {

@@ -39,11 +39,11 @@ pub fn admits(n: usize, k: usize, server: usize, query: &[u8]) -> bool
     requires { ⌜ Bounds n k ⌝ }
     ensures { λ r. ⌜ r ≡ evenAdmits n k server (now (query .entry)) ⌝ }
 {
-    if query.len() != k * even_layout::power(n, k - 1) {
+    if query.len() != k * parameters::power(n, k - 1) {
         return false;
     }
     let messages = even_layout::positions(n, k);
-    all_fresh(even_layout::power(n, k), &messages[..query.len()], query)
+    all_fresh(parameters::power(n, k), &messages[..query.len()], query)
 }
 
 // Combines the symbol of the store that begins at `start` into `out`, or copies it there if it is the first of its row.
@@ -64,7 +64,7 @@ fn answer_row(n: usize, k: usize, s: usize, store: &[u8], set: u8, numbers: &[u8
     requires { ⌜ SetAnswerable n k s (now store) set 1 (now numbers) × (length (now out) ≡ s) ⌝ }
     ensures { λ _. ⌜ now (out .exit) ≡ rowAnswer xor n k s (now (store .entry)) (setIn k set) (now (numbers .entry)) ⌝ }
 {
-    let symbols = even_layout::power(n, k);
+    let symbols = parameters::power(n, k);
     let mut rest = set;
     let mut taken = 0;
     let mut p = 0;
@@ -110,7 +110,7 @@ pub fn answer(n: usize, k: usize, s: usize, store: &[u8], query: &[u8], out: &mu
     ensures { λ _. ⌜ now (out .exit) ≡ put 0 (evenAnswer xor n k s (now (store .entry)) (now (query .entry))) (now (out .entry)) ⌝ }
 {
     let sets = even_layout::ordered_sets(k);
-    let count = even_layout::power(2, k) - 1;
+    let count = parameters::power(2, k) - 1;
     let mut at = 0;
     let mut end = 0;
     let mut i = 0;

@@ -48,5 +48,5 @@ pub fn key_good(n: usize, k: usize, key: &[u8]) -> bool
     requires { ⌜ length (now key) ≡ k * n ^ k ⌝ }
     ensures { λ r. ⌜ r ≡ evenKeyGood n k (now (key .entry)) ⌝ }
 {
-    permutations_good(even_layout::power(n, k), k, key)
+    permutations_good(parameters::power(n, k), k, key)
 }

@@ -2,8 +2,7 @@
 use mathlib.Core.Path.{_≡_}
 use mathlib.Core.List.{List, _∷_, _++_, flatMap}
 use mathlib.Core.Bool.{Bool}
-use Prim.Native.Nat.{ℕ, zero, suc, _+_, _-_, _*_, _/_, _%_, _^_, _≤_, _<_}
-use native.Mathlib.Nat.{pow-suc, mul-zero, pow-le-pow-right}
+use Prim.Native.Nat.{ℕ, suc, _+_, _-_, _*_, _/_, _%_, _<_}
 use native.Mathlib.Numerals.{add-one}
 use native.Mathlib.Omega.{arith}
 use borrow.Author.Tests.{eq-eqb, ne-eqb}
@@ -52,9 +51,3 @@ unfolding flatMap
 rows-more A count i h =
     let left : count - i ≡ suc (count - (i + 1)) = omega arith in
     rw left
-
--- no power on the way to one that fits is too large
-pub power-fits : (base i exponent : ℕ) → i ≤ exponent → base ^ exponent < 2 ^ 64 → base ^ i < 2 ^ 64
-power-fits zero zero exponent h e = omega arith
-power-fits zero (suc i) exponent h e = omega (arith, pow-suc 0 i, mul-zero (0 ^ i))
-power-fits (suc base) i exponent h e = omega (arith, pow-le-pow-right {n = suc base} (omega arith) h)

@@ -12,20 +12,6 @@ ghost use Rattle.even_places.specs.Sets.{byteOf, members, allSets};
 ghost use Rattle.even_places.specs.Rule.{«positions»};
 ghost use Rattle.even_layout.specs.Layout.{Bounds, setIn, «subsets» as allSubsets, doubled, ofBlock, firstRows};
 
-// A power that fits.
-pub fn power(base: usize, exponent: usize) -> usize
-    requires { ⌜ base ^ exponent < 2 ^ 64 ⌝ }
-    ensures { λ r. ⌜ r ≡ base ^ exponent ⌝ }
-{
-    let mut result = 1;
-    let mut i = 0;
-    while i < exponent {
-        result *= base;
-        i += 1;
-    }
-    result
-}
-
 // Writes each byte doubled, with `low` as the new lowest bit, from `at` on.
 fn write_doubled(bytes: &[u8], low: u8, out: &mut [u8], at: usize)
     requires { ⌜ (low < 2) × Below 128 (now bytes) × (at + length (now bytes) ≤ length (now out)) ⌝ }
@@ -89,7 +75,7 @@ pub fn ordered_sets(k: usize) -> [u8; 256]
     ensures { λ r. ⌜ r ≡ map byteOf (allSets k) ++ replicate (256 - length (allSets k)) 0 ⌝ }
 {
     let all = subsets(k);
-    let count = power(2, k);
+    let count = parameters::power(2, k);
     let mut sets = [0u8; 256];
     let mut at = 0;
     let mut block = 0;
@@ -105,7 +91,7 @@ pub fn rows_of(n: usize, set: u8) -> usize
     requires { ⌜ (1 ≤ n) × (1 ≤ ones set) × ((n - 1) ^ (ones set - 1) < 2 ^ 64) ⌝ }
     ensures { λ r. ⌜ r ≡ (n - 1) ^ (ones set - 1) ⌝ }
 {
-    power(n - 1, u8::count_ones(set) as usize - 1)
+    parameters::power(n - 1, u8::count_ones(set) as usize - 1)
 }
 
 // Writes the messages of a set, ascending, from `at` on, and gives where they end.
@@ -147,7 +133,7 @@ pub fn positions(n: usize, k: usize) -> [u8; 1024]
     ensures { λ r. ⌜ r ≡ padded 1024 («positions» n k) ⌝ }
 {
     let sets = ordered_sets(k);
-    let count = power(2, k) - 1;
+    let count = parameters::power(2, k) - 1;
     let mut out = [0u8; 1024];
     let mut at = 0;
     let mut i = 0;
@@ -165,7 +151,7 @@ pub fn first_rows(n: usize, k: usize) -> [usize; 256]
     ensures { λ r. ⌜ r ≡ firstRows n k ⌝ }
 {
     let sets = ordered_sets(k);
-    let count = power(2, k) - 1;
+    let count = parameters::power(2, k) - 1;
     let mut firsts = [0usize; 256];
     let mut row = 0;
     let mut i = 0;

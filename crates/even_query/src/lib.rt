@@ -182,7 +182,7 @@ pub fn places(n: usize, k: usize, wanted: usize, server: usize) -> [u8; 1024]
     ensures { λ r. ⌜ r ≡ padded 1024 (map (λ cell. cell .1) (queryCells n k wanted server)) ⌝ }
 {
     let table = even_layout::ordered_sets(k);
-    let count = even_layout::power(2, k) - 1;
+    let count = parameters::power(2, k) - 1;
     let sets = &table[..count];
     let totals = even_ranks::totals(k, wanted, sets);
     let taken = even_ranks::takings(n, wanted, &totals);
@@ -212,9 +212,9 @@ pub fn query(n: usize, k: usize, wanted: usize, server: usize, key: &[u8], out: 
 {
     let messages = even_layout::positions(n, k);
     let places = places(n, k, wanted, server);
-    let count = k * even_layout::power(n, k - 1);
+    let count = k * parameters::power(n, k - 1);
     look_up(
-        even_layout::power(n, k),
+        parameters::power(n, k),
         key,
         &messages[..count],
         &places[..count],

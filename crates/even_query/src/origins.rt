@@ -24,7 +24,7 @@ fn plain(n: usize, server: usize, ones: usize, i: usize) -> Origin
     requires { ⌜ (1 ≤ n) × (1 ≤ ones) × ((n - 1) ^ (ones - 1) ≤ 256) ⌝ }
     ensures { λ r. ⌜ r ≡ plainOf n server ones i ⌝ }
 {
-    let rows = even_layout::power(n - 1, ones - 1);
+    let rows = parameters::power(n - 1, ones - 1);
     Origin {
         block: ones - 1,
         source: ones - 1,
@@ -40,7 +40,7 @@ fn joined(n: usize, server: usize, ones: usize, i: usize) -> Origin
     requires { ⌜ (2 ≤ n) × (n ≤ 16) × (server < n) × (2 ≤ ones) × (i < (n - 1) ^ (ones - 1)) × ((n - 1) ^ (ones - 1) ≤ 256) ⌝ }
     ensures { λ r. ⌜ r ≡ joinedOf n server ones i ⌝ }
 {
-    let rows = even_layout::power(n - 1, ones - 2);
+    let rows = parameters::power(n - 1, ones - 2);
     let other = i / rows;
     Origin {
         block: ones - 1,

@@ -169,12 +169,12 @@ fn reading_of(n: usize, k: usize, s: usize, wanted: usize, server: usize) -> Rea
     requires { ⌜ wanted < k ⌝ }
     ensures { λ r. ⌜ r ≡ readingOf n k s wanted server ⌝ }
 {
-    let whole = even_layout::power(n, k - 1);
+    let whole = parameters::power(n, k - 1);
     Reading {
         servers: n,
         symbol: s,
         rows: whole + (whole - 1) / (n - 1),
-        bit: even_layout::power(2, wanted) as u8,
+        bit: parameters::power(2, wanted) as u8,
         server,
     }
 }
@@ -229,7 +229,7 @@ pub fn recover(
     ensures { λ _. ⌜ now (message .exit) ≡ assemble (recoveredParts xor n k s wanted (now (key .entry)) (answersIn (evenScheme xor n k s) n wanted (now (key .entry)) (now (answers .entry)))) (now (message .entry)) ⌝ }
 {
     let sets = even_layout::ordered_sets(k);
-    let count = even_layout::power(2, k) - 1;
+    let count = parameters::power(2, k) - 1;
     let firsts = even_layout::first_rows(n, k);
     let mut server = 0;
     while server < n {

@@ -7,5 +7,6 @@ pub mod Theorem
 pub mod Plain
 pub mod Served
 pub mod Received
-pub mod Toy
+pub mod Closed
 pub mod Numbers
+pub mod Runs

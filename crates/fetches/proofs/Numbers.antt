@@ -25,7 +25,7 @@ use Rattle.session.proofs.Begin.{begin-says}
 use Rattle.session.proofs.Issue.{issue-says}
 use Rattle.session.proofs.Take.{take-says}
 use Rattle.session.proofs.Recover.{recover-says}
-use Rattle.session.proofs.Bound.{bound-done, bound-refused}
+use Rattle.session.proofs.ByteBound.{bound-done, bound-refused}
 use Rattle.fetches.specs.Right.{has}
 use Rattle.fetches.specs.Numbers.{Within, ValueWithin, CallNumbers}
 

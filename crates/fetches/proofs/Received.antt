@@ -18,7 +18,7 @@ use Rattle.catalogue.specs.Catalogue.{Admitted}
 use Rattle.session.specs.declared.Session.{Session}
 use Rattle.session.specs.Marks.{noMarks}
 use Rattle.session.specs.Calls.{slotsOf, takeVerdict}
-use Rattle.session.proofs.Bound.{bound-done}
+use Rattle.session.proofs.ByteBound.{bound-done}
 use Rattle.session.proofs.Take.{take-passed, take-by}
 use Rattle.fetches.specs.Fetches.{Call, issuing, taking, recovering, Made, make, run}
 use Rattle.fetches.specs.Right.{tally, has}

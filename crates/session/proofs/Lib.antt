@@ -1,9 +1,12 @@
 pub mod Padding
+pub mod Places
 pub mod Marks
+pub mod Links
 pub mod Sound
 pub mod Begin
 pub mod Issue
 pub mod Take
 pub mod Recover
 pub mod Slots
-pub mod Bound
+pub mod Promised
+pub mod ByteBound

@@ -1,14 +1,22 @@
-// The session: one fetch, from its key to its message, passed from call to call by value. Its calls are defined in specs/Calls.antt;
-// here are the parts of them that ask no code.
+// The session: one fetch, from its key to its message, passed from call to call by value. Its calls are defined in specs/Calls.antt.
+// Each has a function for its verdict; refused, it hands back what it was given, else it writes, and marks the session.
 ghost use mathlib.Core.Path.{_≡_};
+ghost use mathlib.Core.Bool.{true};
 ghost use Prim.Native.Nat.{_+_, _≤_, _<_};
 ghost use lib.ListN.{length};
 ghost use Rattle.lists.specs.Parts.{put};
+ghost use Rattle.catalogue.specs.Catalogue.{Admitted};
+ghost use Rattle.codes.specs.Codes.{schemeOf};
 ghost use Rattle.session.specs.Marks.{markGood, marksGood, allTaken};
 ghost use Rattle.session.specs.Fields.{paddedKey, zeroSession, newSession, markIssued, markTaken};
+ghost use Rattle.session.specs.Calls.{Did, codeOf, keyOf, slotsOf, recovered, begin as begin·, issue as issue·, takeAnswer, recover as recover·, bound as bound·};
 use catalogue::Catalogue;
 use catalogue::Code;
+use refusal::Outcome;
 use refusal::Verdict;
+
+// The verdict of each call.
+mod verdicts;
 
 // What a fetch holds between its calls. Any value may come in: each call checks the fields again.
 pub struct Session {
@@ -124,7 +132,112 @@ fn new_session(catalogue: Catalogue, wanted: usize, key: &[u8]) -> Session
     }
 }
 
+// Writes the message that the answers in their slots give at the start of `message`.
+fn write_message(s: Session, answers: &[u8], message: &mut [u8])
+    requires { ⌜ Admitted (s .catalogue) ⌝ }
+    requires { ⌜ s .wanted < s .catalogue .messages ⌝ }
+    requires { ⌜ codeOf schemeOf s .keyGood (keyOf schemeOf s) ≡ true ⌝ }
+    requires { ⌜ slotsOf schemeOf (s .catalogue) ≤ length (now answers) ⌝ }
+    requires { ⌜ codeOf schemeOf s .sizes .message ≤ length (now message) ⌝ }
+    ensures { λ _. ⌜ now (message .exit) ≡ put 0 (recovered schemeOf s (now (answers .entry))) (now (message .entry)) ⌝ }
+{
+    let sizes = verdicts::sizes_of(s.catalogue);
+    let size = sizes.key;
+    let key = s.key;
+    codes::recover(s.catalogue, s.wanted, &key[..size], answers, message);
+}
+
+// An upper bound on the bytes that a fetch receives: N slots.
+pub fn bound(catalogue: Catalogue) -> Outcome
+    ensures { λ r. ⌜ r ≡ bound· schemeOf catalogue ⌝ }
+{
+    if let Verdict::Refused(refusal) = catalogue::verdict(catalogue) {
+        return Outcome::Refused(refusal);
+    }
+    let sizes = verdicts::sizes_of(catalogue);
+    Outcome::Value(catalogue.servers * sizes.slot)
+}
+
 impl Session {
+    // A first value, that the session of a fetch takes the place of.
+    pub fn blank() -> Session
+        ensures { λ r. ⌜ r ≡ zeroSession ⌝ }
+    {
+        zero_session()
+    }
+
+    // Begins a fetch, in a new session; the old one is not read.
+    pub fn begin(self, catalogue: Catalogue, wanted: usize, key: &[u8]) -> Handed
+        ensures { λ r. ⌜ r ≡ begin· schemeOf catalogue wanted (now (key .entry)) ⌝ }
+    {
+        let verdict = verdicts::begin_verdict(catalogue, wanted, key);
+        if let Verdict::Refused(_) = verdict {
+            return Handed {
+                verdict: verdict,
+                session: zero_session(),
+            };
+        }
+        Handed {
+            verdict: Verdict::Accepted,
+            session: new_session(catalogue, wanted, key),
+        }
+    }
+
+    // Writes a server's query (01: a mirror's request) at the start of `query`; again, the same bytes.
+    pub fn issue(self, server: usize, query: &mut [u8]) -> Handed
+        ensures { λ r. ⌜ Did (issue· schemeOf self server (now (query .entry))) r (now (query .exit)) ⌝ }
+    {
+        let verdict = verdicts::issue_verdict(self, server, query.len());
+        if let Verdict::Refused(_) = verdict {
+            return Handed {
+                verdict: verdict,
+                session: self,
+            };
+        }
+        verdicts::write_query(self, server, query);
+        Handed {
+            verdict: Verdict::Accepted,
+            session: self.mark_issued(server),
+        }
+    }
+
+    // Takes a server's answer, into the server's slot of `answers`.
+    pub fn take(self, server: usize, answer: &[u8], answers: &mut [u8]) -> Handed
+        ensures { λ r. ⌜ Did (takeAnswer schemeOf self server (now (answer .entry)) (now (answers .entry))) r (now (answers .exit)) ⌝ }
+    {
+        let verdict = verdicts::take_verdict(self, server, answer.len(), answers.len());
+        if let Verdict::Refused(_) = verdict {
+            return Handed {
+                verdict: verdict,
+                session: self,
+            };
+        }
+        let sizes = verdicts::sizes_of(self.catalogue);
+        put_answer(answers, server * sizes.slot, answer);
+        Handed {
+            verdict: Verdict::Accepted,
+            session: self.mark_taken(server),
+        }
+    }
+
+    // Writes the wanted message (01: pack) at the start of `message`, from the answers in their slots; the session stays as it was.
+    pub fn recover(self, answers: &[u8], message: &mut [u8]) -> Handed
+        ensures { λ r. ⌜ Did (recover· schemeOf self (now (answers .entry)) (now (message .entry))) r (now (message .exit)) ⌝ }
+    {
+        let verdict = verdicts::recover_verdict(self, answers.len(), message.len());
+        if let Verdict::Refused(_) = verdict {
+            return Handed {
+                verdict: verdict,
+                session: self,
+            };
+        }
+        write_message(self, answers, message);
+        Handed {
+            verdict: Verdict::Accepted,
+            session: self,
+        }
+    }
+
     // The session with the mark that a query was issued to the server.
     fn mark_issued(mut self, server: usize) -> Self
         requires { ⌜ server < 16 ⌝ }

@@ -15,7 +15,7 @@ small : (c : tie.Start) → Small (c .args .n) (evenSizes (c .args .n) (c .args 
 small c = even-small (c .args .n) (c .args .k) (c .args .s) (bounds c)
 
 power-requires : tie.Need-power-requires
-power-requires c κs = let b = bounds c in (omega arith, b .symbols-high)
+power-requires c κs = let b = bounds c in let most = b .symbols-high in omega arith
 
 sub-power : tie.Need-sub-power
 sub-power c = let b = bounds (c .before) in omega arith
@@ -23,7 +23,8 @@ sub-power c = let b = bounds (c .before) in omega arith
 power-requires-2 : tie.Need-power-requires-2
 power-requires-2 c κs =
     let a = c .before .args in
-    let b = bounds (c .before) in (omega arith, share-small (a .n) (a .k) (a .s) b)
+    let most = share-small (a .n) (a .k) (a .s) (bounds (c .before)) in
+    omega arith
 
 sub-rows : tie.Need-sub-rows
 sub-rows c =

@@ -1,7 +1,6 @@
 -- `codes::query` meets its contract: a valid key of the catalogue's code is what that code's query asks for.
-use Prim.Native.Nat.{_≤_, _<_, _-_}
+use Prim.Native.Nat.{_-_}
 use native.Mathlib.Omega.{arith}
-use lib.ListN.{length}
 use Rattle.parameters.specs.Measures.{shortSizes, evenSizes}
 use Rattle.parameters.proofs.Bounds.{short-bounds, even-bounds}
 use Rattle.even_layout.proofs.Fits.{layout-fits}
@@ -37,8 +36,7 @@ query-requires-2 c κs =
     let e = c .before .enum-told2 .given .1 in
     let p = rw (scheme-even (a .c) e) at (start .pre) in
     let fits = admitted-even (a .c) (start .pre .0) e in
-    let b = even-bounds (a .c .servers) (a .c .messages) (a .c .symbol) fits in
-    (
+    let b = even-bounds (a .c .servers) (a .c .messages) (a .c .symbol) fits in (
       record { bounds = layout-fits (a .c .servers) (a .c .messages) (a .c .symbol) fits; servers-high = b .servers-high; message = p .1 .0 .0; server-low = p .1 .0 .1 },
       p .1 .1 .0 .long,
       p .1 .1 .1,

@@ -1,6 +1,6 @@
 -- `codes::recover` meets its contract: what the catalogue's code recovers stands at the start of the message.
-use mathlib.Core.Path.{_≡_, _∙_}
-use Rattle.parameters.specs.Measures.{shortSizes, evenSizes}
+use mathlib.Core.Path.{_∙_}
+use Rattle.parameters.specs.Measures.{evenSizes}
 use Rattle.even_scheme.proofs.Promises.{even-written}
 use Rattle.codes.proofs.Promises.{admitted-short, admitted-even, scheme-short, scheme-even}
 use borrow.Author.Needs.{needs}

@@ -1,0 +1,62 @@
+-- Two whole fetches run by computation, through the functions that the claim is about: bench cards B2 and B3 of document 01. Each server
+-- is shown its query and writes its answer; the message that is wanted stands in the buffer at the end.
+use mathlib.Core.Path.{_≡_, refl}
+use mathlib.Core.List.{List, [], _∷_, map, flatMap}
+use Prim.Native.Nat.{ℕ}
+use Rattle.lists.specs.Below.{allBelow}
+use Rattle.lists.specs.Ranges.{range, every}
+use Rattle.refusal.specs.declared.Outcome.the-variants.{Value}
+use Rattle.parameters.specs.Bounds.{shortFits}
+use Rattle.parameters.specs.Measures.{shortSizes}
+use Rattle.symbol.specs.Sum.{total, totalFrom}
+use Rattle.symbol.specs.Xor.{xorBytes}
+use Rattle.scheme.specs.Scheme.{answersIn}
+use Rattle.catalogue.specs.declared.Catalogue.{Catalogue}
+use Rattle.catalogue.specs.declared.Code.the-variants.{Short}
+use Rattle.catalogue.specs.Catalogue.{catalogueVerdict}
+use Rattle.short_code.specs.Short.{digitSum, shortQuery, shortAdmits, shortAnswerLength, named, shortAnswer, orZeros, recovered, shortRecover}
+use Rattle.codes.specs.Codes.{schemeOf}
+use Rattle.server.specs.Answering.{answerVerdict, answering}
+use Rattle.session.specs.Calls.{beginVerdict, begin, issueVerdict, issue, takeVerdict, takeAnswer, recoverVerdict, recover}
+use Rattle.session.specs.Fields.{paddedKey}
+use Rattle.session.specs.Marks.{noMarks, marksGood, allTaken}
+use Rattle.fetches.specs.Fetches.{issuing, taking, recovering, Fetch, Made, history}
+use Rattle.fetches.specs.Shown.{Shown, asked, shownTo}
+
+-- two servers, two messages of one symbol of one byte: 5A and C3 (hex)
+abbrev small : Catalogue
+small = record { code = Short; servers = 2; messages = 2; symbol = 1 }
+
+abbrev store : List ℕ
+store = 90 ∷ 195 ∷ []
+
+-- message 0 is fetched: both servers are asked, their answers taken, and the message recovered into a buffer of two bytes
+abbrev fetch : ℕ → List ℕ → List ℕ → Fetch
+fetch digit first second = record {
+  wanted = 0;
+  key = digit ∷ [];
+  answers = 7 ∷ 7 ∷ [];
+  calls = issuing 0 (0 ∷ 0 ∷ []) (0 ∷ []) ∷ issuing 1 (0 ∷ 0 ∷ []) (0 ∷ []) ∷ taking 0 first ∷ taking 1 second ∷ recovering (9 ∷ 9 ∷ []) ∷ [];
+}
+
+-- what servers 0 and 1 are shown, and how the calls leave their own buffers
+pub record Run (f : Fetch) (to-0 to-1 : List Shown) (left : List (List ℕ)) : Type 0 where
+  pub server-0 : shownTo schemeOf small store 0 (history schemeOf small f) ≡ to-0
+  pub server-1 : shownTo schemeOf small store 1 (history schemeOf small f) ≡ to-1
+  pub buffers : map (λ (made : Made). made .left) (history schemeOf small f) ≡ left
+
+-- B2: key 1
+pub b2 : Run (fetch 1 (153 ∷ []) (195 ∷ []))
+    (asked (1 ∷ 1 ∷ []) (Value 1) (153 ∷ []) ∷ [])
+    (asked (0 ∷ 1 ∷ []) (Value 1) (195 ∷ []) ∷ [])
+    ((1 ∷ 1 ∷ []) ∷ (0 ∷ 1 ∷ []) ∷ [] ∷ [] ∷ (90 ∷ 9 ∷ []) ∷ [])
+unfolding allBelow range every shortFits shortSizes total totalFrom xorBytes answersIn catalogueVerdict digitSum shortQuery shortAdmits shortAnswerLength named shortAnswer orZeros recovered shortRecover schemeOf answerVerdict answering beginVerdict begin issueVerdict issue takeVerdict takeAnswer recoverVerdict recover paddedKey noMarks marksGood allTaken flatMap
+b2 = record { server-0 = refl; server-1 = refl; buffers = refl }
+
+-- B3: key 0. Server 0 gets the row of zeros and answers with no bytes
+pub b3 : Run (fetch 0 [] (90 ∷ []))
+    (asked (0 ∷ 0 ∷ []) (Value 0) [] ∷ [])
+    (asked (1 ∷ 0 ∷ []) (Value 1) (90 ∷ []) ∷ [])
+    ((0 ∷ 0 ∷ []) ∷ (1 ∷ 0 ∷ []) ∷ [] ∷ [] ∷ (90 ∷ 9 ∷ []) ∷ [])
+unfolding allBelow range every shortFits shortSizes total totalFrom xorBytes answersIn catalogueVerdict digitSum shortQuery shortAdmits shortAnswerLength named shortAnswer orZeros recovered shortRecover schemeOf answerVerdict answering beginVerdict begin issueVerdict issue takeVerdict takeAnswer recoverVerdict recover paddedKey noMarks marksGood allTaken flatMap
+b3 = record { server-0 = refl; server-1 = refl; buffers = refl }

@@ -1,0 +1,71 @@
+-- The printer prints the queries that a session issues: for an input that is accepted, begin is accepted too, and issue to each server writes the
+-- very query that stands on the server's line.
+use mathlib.Core.Path.{_≡_, refl, sym, ap, _∙_}
+use mathlib.Core.List.{List}
+use mathlib.Core.Option.{Option, some}
+use Prim.Native.Nat.{ℕ, _≤_, _<_}
+use lib.ListN.{length}
+use Rattle.lists.specs.Parts.{put}
+use Rattle.refusal.specs.declared.Verdict.{Verdict}
+use Rattle.refusal.specs.declared.Verdict.the-variants.{Accepted}
+use Rattle.refusal.proofs.Chain.{both-accepted}
+use Rattle.scheme.specs.Scheme.{Scheme}
+use Rattle.catalogue.specs.declared.Catalogue.{Catalogue}
+use Rattle.session.specs.declared.Session.{Session}
+use Rattle.session.specs.declared.Handed.{Handed}
+use Rattle.session.specs.Fields.{newSession}
+use Rattle.session.specs.Calls.{queryOf, beginVerdict, begin, issue}
+use Rattle.session.proofs.Begin.{Begins, begin-passed, begin-says, begin-done, key-kept, new-sound}
+use Rattle.session.proofs.Issue.{issue-accepted, issue-done}
+use Rattle.printing.specs.Input.{Asked, inputAsks}
+use Rattle.printing.specs.Output.{askedVerdict, askedQuery, queryLines, linesBy, answerTo, outputBy, printed}
+
+module _ (schemeOf : Catalogue → Scheme) where
+  -- the session that what is asked for begins
+  abbrev pub begunBy : Asked → Handed
+  begunBy a = begin schemeOf (a .catalogue) (a .wanted) (a .key)
+
+  pub record AsIssued (input : List ℕ) (a : Asked) : Type 0 where
+    -- the whole output: a line for each server, with the query that is asked for there
+    pub output : printed schemeOf input ≡ queryLines schemeOf a
+    pub begun : begunBy a .verdict ≡ Accepted
+    -- into every buffer with room for it, the session writes that query
+    pub issued : (server : ℕ) (buffer : List ℕ) → server < a .catalogue .servers → schemeOf (a .catalogue) .sizes .query ≤ length buffer
+        → (issue schemeOf (begunBy a .session) server buffer .handed .verdict ≡ Accepted)
+        × (issue schemeOf (begunBy a .session) server buffer .buffer ≡ put 0 (askedQuery schemeOf a server) buffer)
+
+  module _ (a : Asked) (e : beginVerdict schemeOf (a .catalogue) (a .wanted) (a .key) ≡ Accepted) where
+    b : Begins schemeOf (a .catalogue) (a .wanted) (a .key)
+    b = begin-passed schemeOf (a .catalogue) (a .wanted) (a .key) e
+
+    abbrev new : Session
+    new = newSession (a .catalogue) (a .wanted) (a .key)
+
+    begun-new : begunBy a .session ≡ new
+    begun-new = ap (λ (h : Handed). h .session) (sym (begin-done schemeOf (a .catalogue) (a .wanted) (a .key) Accepted (sym e) refl))
+
+    new-query : (server : ℕ) → queryOf schemeOf new server ≡ askedQuery schemeOf a server
+    new-query server =
+        ap (schemeOf (a .catalogue) .query (a .wanted) server) (key-kept schemeOf (a .catalogue) (a .wanted) (a .key) (b .valid .long))
+
+    issues : (server : ℕ) (buffer : List ℕ) → server < a .catalogue .servers → schemeOf (a .catalogue) .sizes .query ≤ length buffer
+        → (issue schemeOf new server buffer .handed .verdict ≡ Accepted)
+        × (issue schemeOf new server buffer .buffer ≡ put 0 (askedQuery schemeOf a server) buffer)
+    issues server buffer below roomy =
+        let accepted =
+        issue-accepted schemeOf new server (length buffer)
+        (record { sound = new-sound schemeOf (a .catalogue) (a .wanted) (a .key) b; below = below; roomy = roomy }) in
+        let did = issue-done schemeOf new server buffer Accepted (put 0 (queryOf schemeOf new server) buffer) (sym accepted) refl refl in (
+          sym (ap (λ (h : Handed). h .verdict) (did .handed)),
+          sym (did .buffer) ∙ ap (λ (q : List ℕ). put 0 q buffer) (new-query server),
+        )
+
+  pub printed-as-issued : (input : List ℕ) (a : Asked) → inputAsks input ≡ some a → askedVerdict schemeOf a ≡ Accepted → AsIssued input a
+  unfolding printed answerTo askedVerdict
+  printed-as-issued input a asks accepted =
+      let e = both-accepted (beginVerdict schemeOf (a .catalogue) (a .wanted) (a .key)) _ accepted .0 in
+      record {
+        output = ap (outputBy schemeOf) asks ∙ ap (λ (v : Verdict). linesBy schemeOf v a) accepted;
+        begun = begin-says schemeOf (a .catalogue) (a .wanted) (a .key) ∙ e;
+        issued = λ server buffer below roomy. rw (begun-new a e) (issues a e server buffer below roomy);
+      }

@@ -1,0 +1,10 @@
+pub mod Joined
+pub mod Reading
+pub mod Scanning
+pub mod Filling
+pub mod Writing
+pub mod Answers
+pub mod Lines
+pub mod Room
+pub mod Issued
+pub mod RoundTrip

@@ -1,0 +1,27 @@
+-- The output's lines, server by server.
+use mathlib.Core.Path.{_≡_, refl}
+use mathlib.Core.List.{List, [], _++_, flatMap}
+use Prim.Native.Nat.{ℕ, _+_}
+use Rattle.lists.specs.Ranges.{range}
+use Rattle.scheme.specs.Scheme.{Scheme}
+use Rattle.catalogue.specs.declared.Catalogue.{Catalogue}
+use Rattle.printing.specs.Input.{Asked}
+use Rattle.printing.specs.Output.{queryLine, askedQuery, queryLines}
+use Rattle.printing.proofs.Joined.{joined-range}
+
+module _ (schemeOf : Catalogue → Scheme) (a : Asked) where
+  -- those of the first servers
+  unfoldable pub linesTo : ℕ → List ℕ
+  linesTo count = flatMap (λ server. queryLine server (askedQuery schemeOf a server)) (range 0 count)
+
+  pub lines-none : linesTo 0 ≡ []
+  unfolding linesTo flatMap range
+  lines-none = refl
+
+  pub lines-more : (count : ℕ) → linesTo (count + 1) ≡ linesTo count ++ queryLine count (askedQuery schemeOf a count)
+  unfolding linesTo
+  lines-more count = joined-range (λ server. queryLine server (askedQuery schemeOf a server)) count
+
+  pub lines-all : linesTo (a .catalogue .servers) ≡ queryLines schemeOf a
+  unfolding linesTo queryLines
+  lines-all = refl

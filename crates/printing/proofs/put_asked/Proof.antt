@@ -1,0 +1,76 @@
+-- `printing::put_asked` meets its contract: the checks refuse, or the key's numbers are as many as are due and all bytes.
+use mathlib.Core.Path.{_≡_, sym, _∙_}
+use borrow.Author.Needs.{needs}
+use Rattle.codes.specs.Codes.{schemeOf}
+use Rattle.printing.specs.NumberLists.{numbersAt, listOf}
+use Rattle.printing.proofs.Answers.{value-given, value-refused, check-passed, answer-refused}
+use Rattle.printing.proofs.Joined.{written-as}
+use Rattle.printing.proofs.Scanning.{scanned-list}
+use Rattle.printing.proofs.put_asked.Statement.{statement}
+use Rattle.printing.proofs.put_asked.Tie as tie
+use Rattle.printing.proofs.put_asked.Reads as reads
+use Rattle.printing.proofs.put_asked.Lts as lts
+use Rattle.printing.proofs.check.Reads as check-reads
+use Rattle.printing.proofs.put_checked.Reads as put-checked-reads
+use Rattle.printing.proofs.put_refusal.Reads as put-refusal-reads
+
+-- src/lib.rt:184:9
+check-requires : tie.Need-check-requires
+check-requires c κs = search needs
+
+-- src/lib.rt:186:24
+enum-known-outcome : tie.Need-enum-known-outcome
+enum-known-outcome c = search needs
+
+-- src/lib.rt:186:33
+put-checked-requires : tie.Need-put-checked-requires
+put-checked-requires c κs =
+    let from = c .before .before .before .before .before .before .before in
+    let a = from .args in
+    let given = value-given _ _ _ (sym (c .before .before .before .before .check .ensures) ∙ c .before .before .outcome .given .1) in
+    let bytes = check-passed schemeOf (a .c) (a .wanted) (a .count) (a .bytes) (given .0) .1 in
+    (rw bytes at (given .0), (rw bytes at (from .pre .0), (given .1, from .pre .1)))
+
+-- src/lib.rt:187:26
+enum-known-outcome-2 : tie.Need-enum-known-outcome-2
+enum-known-outcome-2 c = search needs
+
+-- src/lib.rt:187:38
+put-refusal-requires : tie.Need-put-refusal-requires
+put-refusal-requires c κs = search needs
+
+-- src/lib.rt:178:1
+same-length : tie.Need-same-length
+same-length c = search needs
+
+-- src/lib.rt:178:1
+returns : tie.Need-returns
+returns c = search needs
+
+-- src/lib.rt:178:1
+same-length-2 : tie.Need-same-length-2
+same-length-2 c = search needs
+
+-- src/lib.rt:178:1
+returns-2 : tie.Need-returns-2
+returns-2 c =
+    let from = c .before .before .before .before .before .before .before .before .before .before in
+    let a = from .args in
+    let numbers = numbersAt (a .text .now) (a .at) in
+    let refused = value-refused _ _ _ (sym (c .before .before .before .before .before .before .before .check .ensures) ∙ c .before .before .before .before .before .outcome2 .given .1) in
+    let found = scanned-list numbers (a .count) (a .bytes) (from .pre .0) in
+    written-as _ _ (a .out .now) _ _ (answer-refused schemeOf (a .c) (a .wanted) (listOf numbers) _ (rw (found .0, found .1) refused)) (c .before .before .put-refusal .ensures)
+
+pub put-asked-spec : {M : Type 1} → statement M
+put-asked-spec =
+    tie.close
+    (tie.spec
+    check-requires
+    enum-known-outcome
+    put-checked-requires
+    enum-known-outcome-2
+    put-refusal-requires
+    same-length
+    returns
+    same-length-2
+    returns-2)

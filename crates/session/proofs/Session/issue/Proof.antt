@@ -1,0 +1,74 @@
+-- `session::Session::issue` meets its contract: it goes by its verdict.
+use native.Mathlib.Omega.{arith}
+use mathlib.Core.Path.{refl, sym, _∙_}
+use lib.ListN.{length}
+use Rattle.codes.specs.Codes.{schemeOf}
+use Rattle.session.proofs.Issue.{issue-passed, issue-refused, issue-done}
+use Rattle.session.proofs.Promised.{sizes-small}
+use borrow.Author.Needs.{needs}
+use Rattle.session.proofs.Session.issue.Statement.{statement}
+use Rattle.session.proofs.Session.issue.Tie as tie
+
+issue-verdict-requires : tie.Need-issue-verdict-requires
+issue-verdict-requires c κs = search needs
+
+enum-told : tie.Need-enum-told
+enum-told c = search needs
+
+returns : tie.Need-returns
+returns c =
+    let asked = c .before .before in
+    let start = asked .before .before in
+    let args = start .args in
+    let v = asked .issue-verdict in
+    issue-refused schemeOf (args .self) (args .server) (args .query .now) (v .result) _ (v .ensures) (c .enum-told .given .1)
+
+enum-told-2 : tie.Need-enum-told-2
+enum-told-2 c = search needs
+
+write-query-requires : tie.Need-write-query-requires
+write-query-requires c κs =
+    let told = c .before in
+    let asked = told .before .before in
+    let start = asked .before .before in
+    let args = start .args in
+    let v = asked .issue-verdict in
+    let i = issue-passed schemeOf (args .self) (args .server) (length (args .query .now)) (sym (v .ensures) ∙ told .enum-told2 .given .1) in
+    (i .sound .admitted, ((i .sound .inside, i .below), (i .sound .good, i .roomy)))
+
+mark-issued-requires : tie.Need-mark-issued-requires
+mark-issued-requires c κs =
+    let told = c .before .before .before .before in
+    let asked = told .before .before in
+    let start = asked .before .before in
+    let args = start .args in
+    let v = asked .issue-verdict in
+    let i = issue-passed schemeOf (args .self) (args .server) (length (args .query .now)) (sym (v .ensures) ∙ told .enum-told2 .given .1) in
+    omega (arith, i .below, sizes-small (args .self .catalogue) (schemeOf (args .self .catalogue) .sizes) (i .sound .admitted) refl .servers)
+
+same-length : tie.Need-same-length
+same-length c = search needs
+
+returns-2 : tie.Need-returns-2
+returns-2 c =
+    let written = c .before .before .before in
+    let told = written .before .before in
+    let asked = told .before .before in
+    let start = asked .before .before in
+    let args = start .args in
+    let v = asked .issue-verdict in
+    rw (c .mark-issued .ensures)
+    (issue-done schemeOf (args .self) (args .server) (args .query .now) (v .result) _ (v .ensures) (told .enum-told2 .given .1) (written .write-query .ensures))
+
+pub issue-spec : {M : Type 1} → statement M
+issue-spec =
+    tie.close
+    (tie.spec
+    issue-verdict-requires
+    enum-told
+    returns
+    enum-told-2
+    write-query-requires
+    mark-issued-requires
+    same-length
+    returns-2)

@@ -1,0 +1,60 @@
+-- `session::Session::recover` meets its contract: it goes by its verdict.
+use mathlib.Core.Path.{sym, _∙_}
+use lib.ListN.{length}
+use Rattle.codes.specs.Codes.{schemeOf}
+use Rattle.session.proofs.Recover.{recover-passed, recover-refused, recover-done}
+use borrow.Author.Needs.{needs}
+use Rattle.session.proofs.Session.recover.Statement.{statement}
+use Rattle.session.proofs.Session.recover.Tie as tie
+
+recover-verdict-requires : tie.Need-recover-verdict-requires
+recover-verdict-requires c κs = search needs
+
+enum-told : tie.Need-enum-told
+enum-told c = search needs
+
+returns : tie.Need-returns
+returns c =
+    let asked = c .before .before in
+    let start = asked .before .before .before in
+    let args = start .args in
+    let v = asked .recover-verdict in
+    recover-refused schemeOf (args .self) (args .answers .now) (args .message .now) (v .result) _ (v .ensures) (c .enum-told .given .1)
+
+enum-told-2 : tie.Need-enum-told-2
+enum-told-2 c = search needs
+
+write-message-requires : tie.Need-write-message-requires
+write-message-requires c κs =
+    let told = c .before in
+    let asked = told .before .before in
+    let start = asked .before .before .before in
+    let args = start .args in
+    let v = asked .recover-verdict in
+    let r = recover-passed schemeOf (args .self) (length (args .answers .now)) (length (args .message .now)) (sym (v .ensures) ∙ told .enum-told2 .given .1) in
+    (r .sound .admitted, (r .sound .inside, (r .sound .good, (r .slots-fit, r .roomy))))
+
+same-length : tie.Need-same-length
+same-length c = search needs
+
+returns-2 : tie.Need-returns-2
+returns-2 c =
+    let written = c .before .before in
+    let told = written .before .before in
+    let asked = told .before .before in
+    let start = asked .before .before .before in
+    let args = start .args in
+    let v = asked .recover-verdict in
+    recover-done schemeOf (args .self) (args .answers .now) (args .message .now) (v .result) _ (v .ensures) (told .enum-told2 .given .1) (written .write-message .ensures)
+
+pub recover-spec : {M : Type 1} → statement M
+recover-spec =
+    tie.close
+    (tie.spec
+    recover-verdict-requires
+    enum-told
+    returns
+    enum-told-2
+    write-message-requires
+    same-length
+    returns-2)

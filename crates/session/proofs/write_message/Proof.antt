@@ -1,0 +1,69 @@
+-- `session::write_message` meets its contract: the code writes the message that the answers give by the key's places that are used.
+use mathlib.Core.Path.{sym, ap, _∙_}
+use lib.ListN.{take}
+use Rattle.lists.specs.Parts.{put}
+use Rattle.parameters.specs.declared.Sizes.{Sizes}
+use Rattle.scheme.specs.Scheme.{answersIn}
+use Rattle.codes.specs.Codes.{schemeOf}
+use Rattle.session.specs.Calls.{codeOf}
+use Rattle.session.proofs.Places.{key-places}
+use Rattle.session.proofs.Promised.{key-fits, key-count, key-valid}
+use borrow.Author.Needs.{needs}
+use Rattle.session.proofs.write_message.Statement.{statement}
+use Rattle.session.proofs.write_message.Tie as tie
+
+sizes-of-requires : tie.Need-sizes-of-requires
+sizes-of-requires c κs = search needs
+
+array-share-prefix-key : tie.Need-array-share-prefix-key
+array-share-prefix-key c =
+    let sized = c .before in
+    let start = sized .before .before .before in
+    let s = start .args .s in
+    let long = key-places s _ (start .good .0) in
+    key-fits s long (sized .sizes-of .result) (start .pre .0) (sized .sizes-of .ensures)
+
+slice-aggregate-recover : tie.Need-slice-aggregate-recover
+slice-aggregate-recover c =
+    let sized = c .before .before in
+    let start = sized .before .before .before in
+    let s = start .args .s in
+    let sizes = sized .sizes-of in
+    let long = key-places s _ (start .good .0) in
+    sym (key-count s long (sizes .result) (start .pre .0) (sizes .ensures))
+
+recover-requires : tie.Need-recover-requires
+recover-requires c κs =
+    let sized = c .before .before .before in
+    let start = sized .before .before .before in
+    let s = start .args .s in
+    let pre = start .pre in
+    let sizes = sized .sizes-of in
+    let long = key-places s _ (start .good .0) in
+    (pre .0, (pre .1 .0, (key-valid s long (sizes .result) (pre .0) (sizes .ensures) (pre .1 .1 .0), pre .1 .1 .1)))
+
+same-length : tie.Need-same-length
+same-length c = search needs
+
+returns : tie.Need-returns
+returns c =
+    let written = c .before .before in
+    let sized = written .before .before .before .before in
+    let start = sized .before .before .before in
+    let args = start .args in
+    let s = args .s in
+    let code = codeOf schemeOf s in
+    written .recover .ensures
+    ∙ ap (λ (sizes : Sizes). put 0 (code .recover (s .wanted) (take (sizes .key) (s .key))
+    (answersIn code (s .catalogue .servers) (s .wanted) (take (sizes .key) (s .key)) (args .answers .now))) (args .message .now)) (sized .sizes-of .ensures)
+
+pub write-message-spec : {M : Type 1} → statement M
+write-message-spec =
+    tie.close
+    (tie.spec
+    sizes-of-requires
+    array-share-prefix-key
+    slice-aggregate-recover
+    recover-requires
+    same-length
+    returns)
