@@ -38,8 +38,8 @@ plus-requires c κs =
     let a = c .before .before .before .before .before .before .before .before .before .before .before .before .before .before .before .args in
     let asked = c .before .before .before .before .before .answer in
     let told = c .before .outcome .given in
-    answer-small (c .before .before .before .before .before .before .before .before .before .before .read .result .catalogue) (a .mirror) (a .store .now) (a .request .now) (a .answer .now) (asked .result) (told .0 .0)
-    (asked .ensures .outcome) (told .1)
+    let value = c .before .before .before .before .before .before .before .before .before .before .read .result .catalogue in
+    answer-small value (a .mirror) (a .store .now) (a .request .now) (a .answer .now) (asked .result) (told .0 .0) (asked .ensures .outcome) (told .1)
 
 enum-known-outcome-2 : tie.Need-enum-known-outcome-2
 enum-known-outcome-2 c = search needs

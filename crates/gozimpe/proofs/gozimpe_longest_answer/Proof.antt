@@ -1,6 +1,5 @@
 -- `gozimpe::gozimpe_longest_answer` meets its contract: a catalogue that was read is admitted, and so it is measured.
 use mathlib.Core.Path.{sym, ap, _∙_}
-use Prim.Native.Nat.{ℕ}
 use native.Mathlib.Omega.{arith}
 use lib.IntN.{pos}
 use mir.Facts.{toZ-ofZ}
@@ -24,10 +23,10 @@ minus-requires c κs = search needs
 
 returns : tie.Need-returns
 returns c =
+    let text = c .before .before .before .before .before .before .before .args .catalogue .now in
     let from = c .before .before .before .before .before .read in
     let told = c .before .before .verdict .given in
-    toZ-ofZ (record { sfits = c .minus .ok }) ∙ c .minus .ensures
-    ∙ ap signed (sym (longest-refused (c .before .before .before .before .before .before .before .args .catalogue .now) (from .result) (from .ensures) (told .0 .0) (told .1)))
+    toZ-ofZ (record { sfits = c .minus .ok }) ∙ c .minus .ensures ∙ ap signed (sym (longest-refused text (from .result) (from .ensures) (told .0 .0) (told .1)))
 
 enum-told : tie.Need-enum-told
 enum-told c = search needs
@@ -55,20 +54,24 @@ minus-requires-2 c κs = search needs
 
 returns-2 : tie.Need-returns-2
 returns-2 c =
+    let text = c .before .before .before .before .before .before .before .before .before .before .args .catalogue .now in
     let from = c .before .before .before .before .before .before .before .before .read in
+    let accepted = c .before .before .before .before .before .enum-told .given .1 in
     let sized = c .before .before .before .before .sizes in
     let told = c .before .before .sizes2 .given in
     toZ-ofZ (record { sfits = c .plus .ok }) ∙ c .plus .ensures
     ∙ ap (λ (s : Sizes). pos (s .slot)) (measured (from .result .catalogue) (sized .result) (told .0 .0) (sized .ensures) (told .1) .1)
-    ∙ ap signed (sym (longest-given (c .before .before .before .before .before .before .before .before .before .before .args .catalogue .now) (from .result) (from .ensures) (c .before .before .before .before .before .enum-told .given .1)))
+    ∙ ap signed (sym (longest-given text (from .result) (from .ensures) accepted))
 
 returns-3 : tie.Need-returns-3
 returns-3 c =
+    let text = c .before .before .before .before .before .before .before .before .before .before .args .catalogue .now in
     let from = c .before .before .before .before .before .before .before .before .read in
+    let accepted = c .before .before .before .before .before .enum-told .given .1 in
     let sized = c .before .before .before .before .sizes in
     let told = c .before .before .refusal .given in
     let refused = unmeasured (from .result .catalogue) (sized .result) (told .0 .0) (sized .ensures) (told .1) in
-    not-refused (told .0 .0) (sym refused ∙ read-admitted (c .before .before .before .before .before .before .before .before .before .before .args .catalogue .now) (from .result) (from .ensures) (c .before .before .before .before .before .enum-told .given .1))
+    not-refused (told .0 .0) (sym refused ∙ read-admitted text (from .result) (from .ensures) accepted)
 
 pub gozimpe-longest-answer-spec : {M : Type 1} → statement M
 gozimpe-longest-answer-spec =
