@@ -10,28 +10,20 @@ use Rattle.printing.specs.declared.Page.{Page}
 use Rattle.printing.specs.Output.{printed, blank, pageOf}
 use Rattle.printing.proofs.print.Statement.{statement}
 use Rattle.printing.proofs.print.Tie as tie
-use Rattle.printing.proofs.print.Reads as reads
-use Rattle.printing.proofs.print.Lts as lts
-use Rattle.printing.proofs.blank_bytes.Reads as blank-bytes-reads
-use Rattle.printing.proofs.put_page.Reads as put-page-reads
 
 page-is : (text bytes : List ℕ) (n : ℕ) → n ≡ length text → bytes ≡ put 0 text blank → _≡_ {A = Page} (record { bytes = bytes; length = n }) (pageOf text)
 unfolding pageOf
 page-is text bytes n e f = rw (e, f)
 
--- src/lib.rt:237:21
 blank-bytes-requires : tie.Need-blank-bytes-requires
 blank-bytes-requires c κs = search needs
 
--- src/lib.rt:238:34
 slice-aggregate-put-page : tie.Need-slice-aggregate-put-page
 slice-aggregate-put-page c = search needs
 
--- src/lib.rt:238:9
 put-page-requires : tie.Need-put-page-requires
 put-page-requires c κs = search needs
 
--- src/lib.rt:234:1
 returns : tie.Need-returns
 returns c =
     let text = printed schemeOf (c .before .before .before .before .before .args .input .now) in
