@@ -257,7 +257,7 @@ fn blank_bytes() -> [u8; 8496]
 // The output for the input, any bytes of any length; it fits the page.
 pub fn print(input: &[u8]) -> Page
     ensures { λ r. ⌜ r ≡ pageOf (printed schemeOf (now (input .entry))) ⌝ }
-    ensures { λ r. ⌜ r .length ≤ pageBytes ⌝ }
+    ensures { λ r. ⌜ r .length ≤ length (r .bytes) ⌝ }
 {
     let mut bytes = blank_bytes();
     let length = put_page(input, &mut bytes);

@@ -4,21 +4,17 @@ use mathlib.Core.List.{List}
 use Prim.Native.Nat.{ℕ, _≤_}
 use native.Mathlib.Omega.{arith}
 use borrow.Author.Needs.{needs}
-use lib.ListN.{length, drop, length-append, length-replicate}
+use lib.ListN.{length, drop, length-append}
 use Rattle.lists.specs.Parts.{put}
 use Rattle.codes.specs.Codes.{schemeOf}
 use Rattle.printing.specs.declared.Page.{Page}
-use Rattle.printing.specs.Output.{printed, pageBytes, blank, pageOf}
+use Rattle.printing.specs.Output.{printed, blank, pageOf}
 use Rattle.printing.proofs.print.Statement.{statement}
 use Rattle.printing.proofs.print.Tie as tie
 
 page-is : (text bytes : List ℕ) (n : ℕ) → n ≡ length text → bytes ≡ put 0 text blank → _≡_ {A = Page} (record { bytes = bytes; length = n }) (pageOf text)
 unfolding pageOf
 page-is text bytes n e f = rw (e, f)
-
-blank-length : length blank ≡ pageBytes
-unfolding blank
-blank-length = length-replicate {A = ℕ} pageBytes 0
 
 -- what was written without changing the buffer's length fits it
 page-fits : (text before after : List ℕ) → after ≡ put 0 text before → length after ≡ length before → length text ≤ length before
@@ -39,8 +35,8 @@ returns c =
     let text = printed schemeOf (c .before .before .before .before .before .args .input .now) in
     let page = c .before .put-page in
     let zeros = c .before .before .before .blank-bytes in
-    let long : length (zeros .result) ≡ pageBytes = ap length (zeros .ensures) ∙ blank-length in
-    let fits = page-fits text (zeros .result) (page .last .1 .0) (page .ensures .1) (page .kept .1 .0) in
+    let same = page .kept .1 .0 in
+    let fits = page-fits text (zeros .result) (page .last .1 .0) (page .ensures .1) same in
     let is = page .ensures .0 in
     (page-is text (page .last .1 .0) (page .result) is (page .ensures .1 ∙ ap (put 0 text) (zeros .ensures)), omega arith)
 
