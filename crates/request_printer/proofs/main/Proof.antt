@@ -1,5 +1,7 @@
 -- `request_printer::main` meets its contract: what is lent of the page is the output, which fits it.
+use mathlib.Core.Path.{sym}
 use borrow.Author.Needs.{needs}
+use lib.Seq.{length-take-le}
 use Rattle.request_printer.proofs.main.Statement.{statement}
 use Rattle.request_printer.proofs.main.Tie as tie
 
@@ -22,7 +24,8 @@ array-share-prefix-bytes : tie.Need-array-share-prefix-bytes
 array-share-prefix-bytes c = search needs
 
 slice-aggregate-write-all : tie.Need-slice-aggregate-write-all
-slice-aggregate-write-all c = ?
+slice-aggregate-write-all c =
+    let page = c .before .before .print in sym (length-take-le (page .result .length) (page .result .bytes) (page .ensures .1))
 
 write-all-requires : tie.Need-write-all-requires
 write-all-requires c κs = search needs
