@@ -1,11 +1,10 @@
 -- Laws of the second pass over a list of numbers, which writes those that the first one counted: each stands where the pass comes to it.
-use mathlib.Core.Path.{_≡_, sym, ap, ap₂, _∙_}
+use mathlib.Core.Path.{_≡_, sym, ap, _∙_}
 use mathlib.Core.List.{List, _∷_}
-use mathlib.Core.Option.{Option, some}
+use mathlib.Core.Option.{some}
 use Prim.Native.Nat.{ℕ, suc, _+_, _-_, _<_}
 use native.Mathlib.Omega.{arith}
 use lib.ListN.{length, drop, getD, length-drop}
-use Rattle.text_lines.specs.declared.Line.{Line}
 use Rattle.text_lines.specs.declared.Line.the-variants.{Value, Refused}
 use Rattle.text_lines.proofs.DigitTexts.{step}
 use Rattle.printing.specs.NumberLists.{numeralAt, numbersFrom, numbersAt, listOf}

@@ -11,7 +11,6 @@ use Rattle.refusal.specs.declared.Verdict.{Verdict}
 use Rattle.refusal.specs.declared.Verdict.the-variants.{Accepted, Refused}
 use Rattle.catalogue.specs.declared.Catalogue.{Catalogue}
 use Rattle.text_lines.specs.Lines.{begins, numberText, numberLine}
-use Rattle.catalogue_text.specs.declared.Lines.{Lines}
 use Rattle.catalogue_text.specs.Text.{textOf}
 use Rattle.catalogue_text.specs.Parsing.{fourLines}
 use Rattle.printing.specs.NumberLists.{onLine, numbersAt, spaced}

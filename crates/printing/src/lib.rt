@@ -125,7 +125,15 @@ fn zeros() -> [u8; 2048]
 }
 
 // Writes the line of a server from place `at` on, with the query of `size` bytes that is asked for there, and gives the place after it.
-fn put_query(c: Catalogue, wanted: usize, server: usize, key: &[u8], size: usize, out: &mut [u8], at: usize) -> usize
+fn put_query(
+    c: Catalogue,
+    wanted: usize,
+    server: usize,
+    key: &[u8],
+    size: usize,
+    out: &mut [u8],
+    at: usize,
+) -> usize
     requires { ⌜ beginVerdict schemeOf c wanted (now key) ≡ Accepted ⌝ }
     requires { ⌜ (server < c .servers) × (size ≡ schemeOf c .sizes .query) ⌝ }
     requires { ⌜ at + (19 + 4 * size) ≤ length (now out) ⌝ }
@@ -169,7 +177,15 @@ fn put_keyed(c: Catalogue, wanted: usize, key: &[u8], size: usize, out: &mut [u8
 }
 
 // Reads the key's numbers at place `at` of the text, which are as many as are due and all bytes, and writes the output for them.
-fn put_checked(c: Catalogue, wanted: usize, text: &[u8], at: usize, count: usize, size: usize, out: &mut [u8]) -> usize
+fn put_checked(
+    c: Catalogue,
+    wanted: usize,
+    text: &[u8],
+    at: usize,
+    count: usize,
+    size: usize,
+    out: &mut [u8],
+) -> usize
     requires { ⌜ checkVerdict schemeOf c wanted count true ≡ Accepted ⌝ }
     requires { ⌜ scanOf (numbersAt (now text) at) ≡ Of count true ⌝ }
     requires { ⌜ (size ≡ schemeOf c .sizes .query) × (pageBytes ≤ length (now out)) ⌝ }
@@ -182,7 +198,15 @@ fn put_checked(c: Catalogue, wanted: usize, text: &[u8], at: usize, count: usize
 }
 
 // Writes the output for what is asked for, where the key's numbers are at place `at` of the text: refused 2, 4, 5 or 6, or the queries.
-fn put_asked(c: Catalogue, wanted: usize, text: &[u8], at: usize, count: usize, bytes: bool, out: &mut [u8]) -> usize
+fn put_asked(
+    c: Catalogue,
+    wanted: usize,
+    text: &[u8],
+    at: usize,
+    count: usize,
+    bytes: bool,
+    out: &mut [u8],
+) -> usize
     requires { ⌜ scanOf (numbersAt (now text) at) ≡ Of count bytes ⌝ }
     requires { ⌜ pageBytes ≤ length (now out) ⌝ }
     ensures { λ r. ⌜ r ≡ length (answerTo schemeOf (asked c wanted (listOf (numbersAt (now (text .entry)) at)))) ⌝ }
@@ -230,9 +254,10 @@ fn blank_bytes() -> [u8; 8496]
     [0; 8496]
 }
 
-// The output for the input.
+// The output for the input, any bytes of any length; it fits the page.
 pub fn print(input: &[u8]) -> Page
     ensures { λ r. ⌜ r ≡ pageOf (printed schemeOf (now (input .entry))) ⌝ }
+    ensures { λ r. ⌜ r .length ≤ length (r .bytes) ⌝ }
 {
     let mut bytes = blank_bytes();
     let length = put_page(input, &mut bytes);

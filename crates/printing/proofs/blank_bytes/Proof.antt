@@ -3,10 +3,7 @@ use mathlib.Core.Path.{refl}
 use Rattle.printing.specs.Output.{blank}
 use Rattle.printing.proofs.blank_bytes.Statement.{statement}
 use Rattle.printing.proofs.blank_bytes.Tie as tie
-use Rattle.printing.proofs.blank_bytes.Reads as reads
-use Rattle.printing.proofs.blank_bytes.Lts as lts
 
--- src/lib.rt:227:1
 returns : tie.Need-returns
 unfolding blank
 returns c =

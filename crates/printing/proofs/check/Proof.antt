@@ -5,35 +5,25 @@ use Rattle.codes.proofs.Measured.{measured, unmeasured}
 use borrow.Author.Needs.{needs}
 use Rattle.printing.proofs.check.Statement.{statement}
 use Rattle.printing.proofs.check.Tie as tie
-use Rattle.printing.proofs.check.Reads as reads
-use Rattle.printing.proofs.check.Lts as lts
-use Rattle.catalogue.proofs.sizes.Reads as sizes-reads
-use Rattle.printing.proofs.check_key.Reads as check-key-reads
 
--- src/lib.rt:64:9
 sizes-requires : tie.Need-sizes-requires
 sizes-requires c κs = search needs
 
--- src/lib.rt:66:22
 enum-known-measured : tie.Need-enum-known-measured
 enum-known-measured c = search needs
 
--- src/lib.rt:66:32
 check-key-requires : tie.Need-check-key-requires
 check-key-requires c κs = search needs
 
--- src/lib.rt:67:27
 enum-known-measured-2 : tie.Need-enum-known-measured-2
 enum-known-measured-2 c = search needs
 
--- src/lib.rt:61:1
 returns : tie.Need-returns
 unfolding checkVerdict
 returns c =
     let m = measured (c .before .before .before .before .before .args .c) _ _ (c .before .before .before .before .sizes .ensures) (c .before .before .measured .given .1) in
     c .check-key .ensures ∙ simp (m .0, m .1)
 
--- src/lib.rt:61:1
 returns-2 : tie.Need-returns-2
 unfolding checkVerdict
 returns-2 c =

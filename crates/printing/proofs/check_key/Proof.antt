@@ -2,22 +2,16 @@
 use borrow.Author.Tests.{le-leb, lt-leb, eq-eqb, ne-eqb, not-true, not-false}
 use Rattle.printing.proofs.check_key.Statement.{statement}
 use Rattle.printing.proofs.check_key.Tie as tie
-use Rattle.printing.proofs.check_key.Reads as reads
-use Rattle.printing.proofs.check_key.Lts as lts
 
--- src/lib.rt:49:9
 returns : tie.Need-returns
 returns c = simp (le-leb _ _ (c .if1 .taken))
 
--- src/lib.rt:52:9
 returns-2 : tie.Need-returns-2
 returns-2 c = simp (lt-leb _ _ (c .before .if1 .left), ne-eqb _ _ (c .if2 .taken))
 
--- src/lib.rt:55:9
 returns-3 : tie.Need-returns-3
 returns-3 c = simp (lt-leb _ _ (c .before .before .if1 .left), eq-eqb _ _ (c .before .if2 .left), not-true (c .before .before .before .args .bytes) (c .if3 .taken))
 
--- src/lib.rt:45:1
 returns-4 : tie.Need-returns-4
 returns-4 c = simp (lt-leb _ _ (c .before .before .if1 .left), eq-eqb _ _ (c .before .if2 .left), not-false (c .before .before .before .args .bytes) (c .if3 .left))
 

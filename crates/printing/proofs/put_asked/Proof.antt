@@ -1,5 +1,5 @@
 -- `printing::put_asked` meets its contract: the checks refuse, or the key's numbers are as many as are due and all bytes.
-use mathlib.Core.Path.{_≡_, sym, _∙_}
+use mathlib.Core.Path.{sym, _∙_}
 use borrow.Author.Needs.{needs}
 use Rattle.codes.specs.Codes.{schemeOf}
 use Rattle.printing.specs.NumberLists.{numbersAt, listOf}
@@ -8,21 +8,13 @@ use Rattle.printing.proofs.Joined.{written-as}
 use Rattle.printing.proofs.Scanning.{scanned-list}
 use Rattle.printing.proofs.put_asked.Statement.{statement}
 use Rattle.printing.proofs.put_asked.Tie as tie
-use Rattle.printing.proofs.put_asked.Reads as reads
-use Rattle.printing.proofs.put_asked.Lts as lts
-use Rattle.printing.proofs.check.Reads as check-reads
-use Rattle.printing.proofs.put_checked.Reads as put-checked-reads
-use Rattle.printing.proofs.put_refusal.Reads as put-refusal-reads
 
--- src/lib.rt:184:9
 check-requires : tie.Need-check-requires
 check-requires c κs = search needs
 
--- src/lib.rt:186:24
 enum-known-outcome : tie.Need-enum-known-outcome
 enum-known-outcome c = search needs
 
--- src/lib.rt:186:33
 put-checked-requires : tie.Need-put-checked-requires
 put-checked-requires c κs =
     let from = c .before .before .before .before .before .before .before in
@@ -31,27 +23,21 @@ put-checked-requires c κs =
     let bytes = check-passed schemeOf (a .c) (a .wanted) (a .count) (a .bytes) (given .0) .1 in
     (rw bytes at (given .0), (rw bytes at (from .pre .0), (given .1, from .pre .1)))
 
--- src/lib.rt:187:26
 enum-known-outcome-2 : tie.Need-enum-known-outcome-2
 enum-known-outcome-2 c = search needs
 
--- src/lib.rt:187:38
 put-refusal-requires : tie.Need-put-refusal-requires
 put-refusal-requires c κs = search needs
 
--- src/lib.rt:178:1
 same-length : tie.Need-same-length
 same-length c = search needs
 
--- src/lib.rt:178:1
 returns : tie.Need-returns
 returns c = search needs
 
--- src/lib.rt:178:1
 same-length-2 : tie.Need-same-length-2
 same-length-2 c = search needs
 
--- src/lib.rt:178:1
 returns-2 : tie.Need-returns-2
 returns-2 c =
     let from = c .before .before .before .before .before .before .before .before .before .before in

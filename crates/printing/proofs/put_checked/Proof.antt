@@ -13,7 +13,7 @@ use Rattle.refusal.specs.declared.Verdict.the-variants.{Accepted}
 use Rattle.catalogue.specs.declared.Catalogue.{Catalogue}
 use Rattle.codes.specs.Codes.{schemeOf}
 use Rattle.printing.specs.declared.Scanned.the-variants.{Of}
-use Rattle.printing.specs.NumberLists.{numbersAt, scanOf, listOf}
+use Rattle.printing.specs.NumberLists.{numbersAt, listOf}
 use Rattle.printing.specs.Input.{asked}
 use Rattle.printing.specs.Output.{answerTo}
 use Rattle.printing.specs.Steps.{checkVerdict}
@@ -22,11 +22,6 @@ use Rattle.printing.proofs.Room.{key-fits}
 use Rattle.printing.proofs.Scanning.{scanned-list}
 use Rattle.printing.proofs.put_checked.Statement.{statement}
 use Rattle.printing.proofs.put_checked.Tie as tie
-use Rattle.printing.proofs.put_checked.Reads as reads
-use Rattle.printing.proofs.put_checked.Lts as lts
-use Rattle.printing.proofs.numbers.put_numbers.Reads as put-numbers-reads
-use Rattle.printing.proofs.put_keyed.Reads as put-keyed-reads
-use Rattle.printing.proofs.zeros.Reads as zeros-reads
 
 -- what is known of the key, and of the part of a buffer of 2,048 bytes that is lent for it
 module _ (c : Catalogue) (wanted count : ℕ) (numbers zeros : List ℕ) (accepted : checkVerdict schemeOf c wanted count true ≡ Accepted)
@@ -45,11 +40,9 @@ module _ (c : Catalogue) (wanted count : ℕ) (numbers zeros : List ℕ) (accept
   part-is : (lent : List ℕ) → lent ≡ numbers → take count (lent ++ drop count zeros) ≡ numbers
   part-is lent left = take-at lent (drop count zeros) count (ap length left ∙ many) ∙ left
 
--- src/lib.rt:179:22
 zeros-requires : tie.Need-zeros-requires
 zeros-requires c κs = search needs
 
--- src/lib.rt:180:36
 array-borrow-prefix-places : tie.Need-array-borrow-prefix-places
 array-borrow-prefix-places c =
     let from = c .before .before .before in
@@ -58,7 +51,6 @@ array-borrow-prefix-places c =
     let found = scanned-list (numbersAt (a .text .now) (a .at)) (a .count) true (from .pre .1 .0) in
     fits (a .c) (a .wanted) (a .count) (listOf (numbersAt (a .text .now) (a .at))) (zeros .result) (from .pre .0) (found .0) (zeros .ensures)
 
--- src/lib.rt:180:36
 slice-aggregate-put-numbers : tie.Need-slice-aggregate-put-numbers
 slice-aggregate-put-numbers c =
     let from = c .before .before .before .before in
@@ -67,7 +59,6 @@ slice-aggregate-put-numbers c =
     let found = scanned-list (numbersAt (a .text .now) (a .at)) (a .count) true (from .pre .1 .0) in
     sym (part-length (a .c) (a .wanted) (a .count) (listOf (numbersAt (a .text .now) (a .at))) (zeros .result) (from .pre .0) (found .0) (zeros .ensures))
 
--- src/lib.rt:180:5
 put-numbers-requires : tie.Need-put-numbers-requires
 put-numbers-requires c κs =
     let from = c .before .before .before .before in
@@ -76,7 +67,6 @@ put-numbers-requires c κs =
     let found = scanned-list (numbersAt (a .text .now) (a .at)) (a .count) true (from .pre .1 .0) in
     from .pre .1 .0 ∙ ap (λ (n : ℕ). Of n true) (sym (part-length (a .c) (a .wanted) (a .count) (listOf (numbersAt (a .text .now) (a .at))) (zeros .result) (from .pre .0) (found .0) (zeros .ensures)))
 
--- src/lib.rt:181:26
 array-share-prefix-places : tie.Need-array-share-prefix-places
 array-share-prefix-places c =
     let from = c .before .before .before .before .before .before in
@@ -86,7 +76,6 @@ array-share-prefix-places c =
     let l = ap length (c .before .put-numbers .ensures) ∙ found .0 in
     simp length-append (omega arith)
 
--- src/lib.rt:181:26
 slice-aggregate-put-keyed : tie.Need-slice-aggregate-put-keyed
 slice-aggregate-put-keyed c =
     let from = c .before .before .before .before .before .before .before in
@@ -95,7 +84,6 @@ slice-aggregate-put-keyed c =
     let found = scanned-list (numbersAt (a .text .now) (a .at)) (a .count) true (from .pre .1 .0) in
     sym (ap length (part-is (a .c) (a .wanted) (a .count) (listOf (numbersAt (a .text .now) (a .at))) (zeros .result) (from .pre .0) (found .0) (zeros .ensures) (c .before .before .put-numbers .last .1 .1 .0) (c .before .before .put-numbers .ensures)) ∙ found .0)
 
--- src/lib.rt:181:5
 put-keyed-requires : tie.Need-put-keyed-requires
 put-keyed-requires c κs =
     let from = c .before .before .before .before .before .before .before .before in
@@ -106,11 +94,9 @@ put-keyed-requires c κs =
     let part = part-is (a .c) (a .wanted) (a .count) (listOf (numbersAt (a .text .now) (a .at))) (zeros .result) (from .pre .0) (found .0) (zeros .ensures) (c .before .before .before .put-numbers .last .1 .1 .0) (c .before .before .before .put-numbers .ensures) in
     ((checked .admitted, checked .inside), ((ap length part ∙ found .0 ∙ checked .long, ap (allBelow 256) part ∙ found .1), from .pre .1 .1))
 
--- src/lib.rt:172:1
 same-length : tie.Need-same-length
 same-length c = search needs
 
--- src/lib.rt:172:1
 returns : tie.Need-returns
 returns c =
     let from = c .before .before .before .before .before .before .before .before .before .before .before in

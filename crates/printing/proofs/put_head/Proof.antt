@@ -1,30 +1,20 @@
 -- `printing::put_head` meets its contract: the three parts are written side by side.
-use mathlib.Core.Path.{_≡_, ap, _∙_}
 use native.Mathlib.Omega.{arith}
-use lib.ListN.{length, length-append}
 use Rattle.lists.specs.Ascii.{ascii}
 use Rattle.text_lines.specs.Decimal.{decimal}
 use Rattle.text_lines.proofs.Decimal.{length-most}
-use Rattle.printing.specs.Output.{queryHead}
 use Rattle.printing.proofs.Joined.{put-three}
 use Rattle.printing.proofs.Writing.{head-length}
 use borrow.Author.Needs.{needs}
 use Rattle.printing.proofs.put_head.Statement.{statement}
 use Rattle.printing.proofs.put_head.Tie as tie
-use Rattle.printing.proofs.put_head.Reads as reads
-use Rattle.printing.proofs.put_head.Lts as lts
-use Rattle.text_lines.proofs.put_bytes.Reads as put-bytes-reads
-use Rattle.text_lines.proofs.put_decimal.Reads as put-decimal-reads
 
--- src/lib.rt:87:49
 slice-aggregate-put-bytes : tie.Need-slice-aggregate-put-bytes
 slice-aggregate-put-bytes c = search needs
 
--- src/lib.rt:87:9
 put-bytes-requires : tie.Need-put-bytes-requires
 put-bytes-requires c κs = search needs
 
--- src/lib.rt:88:9
 put-decimal-requires : tie.Need-put-decimal-requires
 put-decimal-requires c κs =
     let s = length-most 1 (c .before .before .before .before .before .before .before .args .server) (omega arith) in
@@ -32,11 +22,9 @@ put-decimal-requires c κs =
     let e = c .before .before .before .put-bytes .ensures .0 in
     omega arith
 
--- src/lib.rt:89:38
 slice-aggregate-put-bytes-2 : tie.Need-slice-aggregate-put-bytes-2
 slice-aggregate-put-bytes-2 c = search needs
 
--- src/lib.rt:89:5
 put-bytes-requires-2 : tie.Need-put-bytes-requires-2
 put-bytes-requires-2 c κs =
     let s = length-most 1 (c .before .before .before .before .before .before .before .before .before .before .before .before .args .server) (omega arith) in
@@ -46,11 +34,9 @@ put-bytes-requires-2 c κs =
     let f = c .before .before .before .before .put-decimal .ensures .0 in
     omega arith
 
--- src/lib.rt:82:1
 same-length : tie.Need-same-length
 same-length c = search needs
 
--- src/lib.rt:82:1
 returns : tie.Need-returns
 returns c =
     let a = c .before .before .before .before .before .before .before .before .before .before .before .before .before .before .before .args in

@@ -1,5 +1,5 @@
 -- `printing::put_keyed` meets its contract: the key's entries are refused, or the verdict is accepted and the queries are written.
-use mathlib.Core.Path.{_≡_, sym, _∙_}
+use mathlib.Core.Path.{sym, _∙_}
 use borrow.Author.Needs.{needs}
 use borrow.Author.Tests.{not-true, not-false}
 use lib.ListN.{length}
@@ -9,25 +9,16 @@ use Rattle.printing.proofs.Answers.{Checked, answer-bad-key, answer-que
 use Rattle.printing.proofs.Joined.{written-as}
 use Rattle.printing.proofs.put_keyed.Statement.{statement}
 use Rattle.printing.proofs.put_keyed.Tie as tie
-use Rattle.printing.proofs.put_keyed.Reads as reads
-use Rattle.printing.proofs.put_keyed.Lts as lts
-use Rattle.codes.proofs.key_good.Reads as key-good-reads
-use Rattle.printing.proofs.put_queries.Reads as put-queries-reads
-use Rattle.printing.proofs.put_refusal.Reads as put-refusal-reads
 
--- src/lib.rt:158:9
 key-good-requires : tie.Need-key-good-requires
 key-good-requires c κs = search needs
 
--- src/lib.rt:159:9
 put-refusal-requires : tie.Need-put-refusal-requires
 put-refusal-requires c κs = search needs
 
--- src/lib.rt:159:9
 same-length : tie.Need-same-length
 same-length c = search needs
 
--- src/lib.rt:159:9
 returns : tie.Need-returns
 returns c =
     let from = c .before .before .before .before .before .before .before .before in
@@ -36,7 +27,6 @@ returns c =
     let checked : Checked schemeOf (a .c) (a .wanted) (length (a .key .now)) = record { admitted = from .pre .0 .0; inside = from .pre .0 .1; long = from .pre .1 .0 .0 } in
     written-as _ _ (a .out .now) _ _ (answer-bad-key schemeOf (a .c) (a .wanted) (a .key .now) checked bad) (c .before .before .put-refusal .ensures)
 
--- src/lib.rt:161:5
 put-queries-requires : tie.Need-put-queries-requires
 put-queries-requires c κs =
     let from = c .before .before .before .before .before in
@@ -46,11 +36,9 @@ put-queries-requires c κs =
     let accepted = begin-accepted schemeOf (a .c) (a .wanted) (a .key .now) begins in
     (accepted, from .pre .1 .1)
 
--- src/lib.rt:151:1
 same-length-2 : tie.Need-same-length-2
 same-length-2 c = search needs
 
--- src/lib.rt:151:1
 returns-2 : tie.Need-returns-2
 returns-2 c =
     let from = c .before .before .before .before .before .before .before .before in

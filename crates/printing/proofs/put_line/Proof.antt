@@ -1,7 +1,6 @@
 -- `printing::put_line` meets its contract: the head, the numbers and byte 10 are written side by side.
-use mathlib.Core.Path.{_≡_, ap, _∙_}
 use native.Mathlib.Omega.{arith}
-use lib.ListN.{length, length-append}
+use lib.ListN.{length-append}
 use mathlib.Core.List.{_++_}
 use Rattle.lists.specs.Ascii.{ascii}
 use Rattle.text_lines.proofs.Decimal.{length-most}
@@ -12,17 +11,10 @@ use Rattle.printing.proofs.Writing.{head-length}
 use borrow.Author.Needs.{needs}
 use Rattle.printing.proofs.put_line.Statement.{statement}
 use Rattle.printing.proofs.put_line.Tie as tie
-use Rattle.printing.proofs.put_line.Reads as reads
-use Rattle.printing.proofs.put_line.Lts as lts
-use Rattle.printing.proofs.numbers.put_spaced.Reads as put-spaced-reads
-use Rattle.printing.proofs.put_head.Reads as put-head-reads
-use Rattle.text_lines.proofs.put_bytes.Reads as put-bytes-reads
 
--- src/lib.rt:99:9
 put-head-requires : tie.Need-put-head-requires
 put-head-requires c κs = search needs
 
--- src/lib.rt:100:9
 put-spaced-requires : tie.Need-put-spaced-requires
 put-spaced-requires c κs =
     let s = length-most 1 (c .before .before .before .before .before .before .before .args .server) (omega arith) in
@@ -31,11 +23,9 @@ put-spaced-requires c κs =
     let k = c .before .before .before .put-head .kept .0 in
     omega arith
 
--- src/lib.rt:101:37
 slice-aggregate-put-bytes : tie.Need-slice-aggregate-put-bytes
 slice-aggregate-put-bytes c = search needs
 
--- src/lib.rt:101:5
 put-bytes-requires : tie.Need-put-bytes-requires
 put-bytes-requires c κs =
     let s = length-most 1 (c .before .before .before .before .before .before .before .before .before .before .before .before .args .server) (omega arith) in
@@ -46,11 +36,9 @@ put-bytes-requires c κs =
     let m = c .before .before .before .before .put-spaced .kept .0 in
     omega arith
 
--- src/lib.rt:93:1
 same-length : tie.Need-same-length
 same-length c = search needs
 
--- src/lib.rt:93:1
 returns : tie.Need-returns
 unfolding queryLine
 returns c =

@@ -1,7 +1,6 @@
 -- `printing::put_page` meets its contract: the length, the catalogue's lines, the wanted message's and the key's are read in this order, and each
 -- ends the reading with refusal 1 or goes on.
 use mathlib.Core.Path.{_≡_, sym, ap, _∙_}
-use mathlib.Core.List.{List}
 use Prim.Native.Nat.{_+_}
 use native.Mathlib.Omega.{arith}
 use borrow.Author.Needs.{needs}
@@ -15,23 +14,13 @@ use Rattle.printing.proofs.Joined.{written-as}
 use Rattle.printing.proofs.Scanning.{scan-refused, scanned-some, key-line-read}
 use Rattle.printing.proofs.put_page.Statement.{statement}
 use Rattle.printing.proofs.put_page.Tie as tie
-use Rattle.printing.proofs.put_page.Reads as reads
-use Rattle.printing.proofs.put_page.Lts as lts
-use Rattle.catalogue_text.proofs.four_lines.Reads as four-lines-reads
-use Rattle.printing.proofs.put_asked.Reads as put-asked-reads
-use Rattle.printing.proofs.put_refusal.Reads as put-refusal-reads
-use Rattle.printing.proofs.scan_key.Reads as scan-key-reads
-use Rattle.text_lines.proofs.number_line.Reads as number-line-reads
 
--- src/lib.rt:198:9
 put-refusal-requires : tie.Need-put-refusal-requires
 put-refusal-requires c κs = search needs
 
--- src/lib.rt:198:9
 same-length : tie.Need-same-length
 same-length c = search needs
 
--- src/lib.rt:198:9
 returns : tie.Need-returns
 unfolding printed inputAsks linesAsk
 returns c =
@@ -40,26 +29,21 @@ returns c =
     let e : printed schemeOf text ≡ refusalLine Text = simp (lt-ltb _ _ (c .before .before .before .before .if1 .taken)) in
     written-as _ _ (a .out .now) _ _ e (c .before .before .put-refusal .ensures)
 
--- src/lib.rt:200:9
 four-lines-requires : tie.Need-four-lines-requires
 four-lines-requires c κs = search needs
 
 enum-told : tie.Need-enum-told
 enum-told c = search needs
 
--- src/lib.rt:204:28
 enum-told-2 : tie.Need-enum-told-2
 enum-told-2 c = search needs
 
--- src/lib.rt:204:9
 put-refusal-requires-2 : tie.Need-put-refusal-requires-2
 put-refusal-requires-2 c κs = search needs
 
--- src/lib.rt:204:9
 same-length-2 : tie.Need-same-length-2
 same-length-2 c = search needs
 
--- src/lib.rt:204:9
 returns-2 : tie.Need-returns-2
 unfolding printed inputAsks linesAsk
 returns-2 c =
@@ -68,31 +52,24 @@ returns-2 c =
     let e : printed schemeOf text ≡ refusalLine Text = simp (le-ltb _ _ (c .before .before .before .before .before .before .before .before .if1 .left), sym (c .before .before .before .before .before .before .before .four-lines .ensures), c .before .before .before .before .enum-told2 .given .1) in
     written-as _ _ (a .out .now) _ _ e (c .before .before .put-refusal2 .ensures)
 
--- src/lib.rt:209:33
 slice-aggregate-number-line : tie.Need-slice-aggregate-number-line
 slice-aggregate-number-line c = search needs
 
--- src/lib.rt:209:9
 number-line-requires : tie.Need-number-line-requires
 number-line-requires c κs = search needs
 
--- src/lib.rt:207:16
 enum-known-wanted : tie.Need-enum-known-wanted
 enum-known-wanted c = search needs
 
--- src/lib.rt:211:28
 enum-told-3 : tie.Need-enum-told-3
 enum-told-3 c = search needs
 
--- src/lib.rt:211:9
 put-refusal-requires-3 : tie.Need-put-refusal-requires-3
 put-refusal-requires-3 c κs = search needs
 
--- src/lib.rt:211:9
 same-length-3 : tie.Need-same-length-3
 same-length-3 c = search needs
 
--- src/lib.rt:211:9
 returns-3 : tie.Need-returns-3
 unfolding printed inputAsks linesAsk
 returns-3 c =
@@ -101,27 +78,21 @@ returns-3 c =
     let e : printed schemeOf text ≡ refusalLine Text = simp (le-ltb _ _ (c .before .before .before .before .before .before .before .before .before .before .before .before .if1 .left), sym (c .before .before .before .before .before .before .before .before .before .before .before .four-lines .ensures), c .before .before .before .before .before .before .before .before .enum-told .given .1, sym (c .before .before .before .before .before .before .number-line .ensures) ∙ c .before .before .before .before .enum-told3 .given .1) in
     written-as _ _ (a .out .now) _ _ e (c .before .before .put-refusal3 .ensures)
 
--- src/lib.rt:213:40
 scan-key-requires : tie.Need-scan-key-requires
 scan-key-requires c κs = search needs
 
--- src/lib.rt:213:23
 enum-known-count : tie.Need-enum-known-count
 enum-known-count c = search needs
 
--- src/lib.rt:214:28
 enum-told-4 : tie.Need-enum-told-4
 enum-told-4 c = search needs
 
--- src/lib.rt:214:9
 put-refusal-requires-4 : tie.Need-put-refusal-requires-4
 put-refusal-requires-4 c κs = search needs
 
--- src/lib.rt:214:9
 same-length-4 : tie.Need-same-length-4
 same-length-4 c = search needs
 
--- src/lib.rt:214:9
 returns-4 : tie.Need-returns-4
 unfolding printed inputAsks linesAsk
 returns-4 c =
@@ -130,23 +101,19 @@ returns-4 c =
     let e : printed schemeOf text ≡ refusalLine Text = simp (le-ltb _ _ (c .before .before .before .before .before .before .before .before .before .before .before .before .before .before .before .before .if1 .left), sym (c .before .before .before .before .before .before .before .before .before .before .before .before .before .before .before .four-lines .ensures), c .before .before .before .before .before .before .before .before .before .before .before .before .enum-told .given .1, sym (c .before .before .before .before .before .before .before .before .before .before .number-line .ensures) ∙ c .before .before .before .before .before .before .before .before .wanted .given .1, scan-refused (keyLine text (c .before .before .before .before .before .before .before .before .wanted .given .0 .1 .0)) (sym (c .before .before .before .before .before .before .scan-key .ensures) ∙ c .before .before .before .before .enum-told4 .given .1)) in
     written-as _ _ (a .out .now) _ _ e (c .before .before .put-refusal4 .ensures)
 
--- src/lib.rt:216:41
 add-put-asked : tie.Need-add-put-asked
 add-put-asked c =
     let w = key-line-read _ _ _ _ (sym (c .before .before .before .scan-key .ensures) ∙ c .before .count .given .1) in
     omega arith
 
--- src/lib.rt:216:5
 put-asked-requires : tie.Need-put-asked-requires
 put-asked-requires c κs =
     let told = sym (c .before .before .before .before .scan-key .ensures) ∙ c .before .before .count .given .1 in
     (ap scanOf (sym (key-line-read _ _ _ _ told .1)) ∙ told, c .before .before .before .before .before .before .before .before .before .before .before .before .before .before .before .before .before .pre)
 
--- src/lib.rt:192:1
 same-length-5 : tie.Need-same-length-5
 same-length-5 c = search needs
 
--- src/lib.rt:192:1
 returns-5 : tie.Need-returns-5
 unfolding printed inputAsks linesAsk
 returns-5 c =

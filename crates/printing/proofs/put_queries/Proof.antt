@@ -21,9 +21,6 @@ use Rattle.printing.proofs.Lines.{linesTo, lines-none, lines-more, line
 use Rattle.printing.proofs.Room.{lines-fit}
 use Rattle.printing.proofs.put_queries.Statement.{statement}
 use Rattle.printing.proofs.put_queries.Tie as tie
-use Rattle.printing.proofs.put_queries.Reads as reads
-use Rattle.printing.proofs.put_queries.Lts as lts
-use Rattle.printing.proofs.put_query.Reads as put-query-reads
 
 -- after so many servers, over the buffer at first
 record Printed (a : Asked) (size : ℕ) (first out : List ℕ) (at server : ℕ) : Type 0 where
@@ -47,7 +44,6 @@ Inv-loop c wanted key size out₀ at₀ server₀ out at server = Printed (asked
 abbrev μ-loop : tie.MeasureT-loop
 μ-loop c wanted key size out₀ at₀ server₀ out at server = c .servers - server
 
--- src/lib.rt:155:5
 loop-holds : tie.Need-loop-holds Inv-loop μ-loop
 loop-holds c =
     let a = c .before .before .args in
@@ -61,7 +57,6 @@ loop-holds c =
       same = refl;
     }
 
--- src/lib.rt:156:9
 put-query-requires : tie.Need-put-query-requires Inv-loop μ-loop
 put-query-requires c κs =
     let from = c .before .before .before .before .before .before in
@@ -72,17 +67,14 @@ put-query-requires c κs =
     let same = at .inv .same in
     (from .pre .0, ((omega arith, from .pre .1 .0), omega arith))
 
--- src/lib.rt:157:9
 add-server : tie.Need-add-server Inv-loop μ-loop
 add-server c =
     omega arith
 
--- src/lib.rt:155:5
 loop-less : tie.Need-loop-less Inv-loop μ-loop
 loop-less c =
     omega arith
 
--- src/lib.rt:155:5
 loop-again : tie.Need-loop-again Inv-loop μ-loop
 loop-again c =
     let from = c .before .before .before .before .before .before .before .before .before in
@@ -109,12 +101,10 @@ loop-again c =
       same = omega arith;
     }
 
--- src/lib.rt:147:1
 same-length : tie.Need-same-length Inv-loop μ-loop
 same-length c =
     c .before .before .loop .inv .same
 
--- src/lib.rt:147:1
 returns : tie.Need-returns Inv-loop μ-loop
 returns c =
     let a = c .before .before .before .before .before .args in

@@ -19,11 +19,6 @@ use Rattle.printing.proofs.Joined.{put-whole}
 use Rattle.printing.proofs.Room.{query-fits}
 use Rattle.printing.proofs.put_query.Statement.{statement}
 use Rattle.printing.proofs.put_query.Tie as tie
-use Rattle.printing.proofs.put_query.Reads as reads
-use Rattle.printing.proofs.put_query.Lts as lts
-use Rattle.codes.proofs.query.Reads as query-reads
-use Rattle.printing.proofs.put_line.Reads as put-line-reads
-use Rattle.printing.proofs.zeros.Reads as zeros-reads
 
 -- what is known of the query, and of the part of a buffer of 2,048 bytes that is lent for it
 module _ (c : Catalogue) (wanted server size : ℕ) (key zeros : List ℕ) (accepted : beginVerdict schemeOf c wanted key ≡ Accepted)
@@ -50,11 +45,9 @@ module _ (c : Catalogue) (wanted server size : ℕ) (key zeros : List ℕ) (acce
     part-is : take size (lent ++ drop size zeros) ≡ schemeOf c .query wanted server key
     part-is = take-at lent (drop size zeros) size lent-length ∙ lent-is
 
--- src/lib.rt:136:21
 zeros-requires : tie.Need-zeros-requires
 zeros-requires c κs = search needs
 
--- src/lib.rt:137:42
 array-borrow-prefix-query : tie.Need-array-borrow-prefix-query
 array-borrow-prefix-query c =
     let from = c .before .before .before in
@@ -62,7 +55,6 @@ array-borrow-prefix-query c =
     let zeros = c .zeros in
     fits (a .c) (a .wanted) (a .server) (a .size) (a .key .now) (zeros .result) (from .pre .0) (from .pre .1 .0 .0) (from .pre .1 .0 .1) (zeros .ensures)
 
--- src/lib.rt:137:42
 slice-aggregate-query : tie.Need-slice-aggregate-query
 slice-aggregate-query c =
     let from = c .before .before .before .before in
@@ -70,7 +62,6 @@ slice-aggregate-query c =
     let zeros = c .before .zeros in
     sym (part-length (a .c) (a .wanted) (a .server) (a .size) (a .key .now) (zeros .result) (from .pre .0) (from .pre .1 .0 .0) (from .pre .1 .0 .1) (zeros .ensures))
 
--- src/lib.rt:137:5
 query-requires : tie.Need-query-requires
 query-requires c κs =
     let from = c .before .before .before .before in
@@ -81,7 +72,6 @@ query-requires c κs =
     let due = from .pre .1 .0 .1 in
     (b .admitted, ((b .inside, from .pre .1 .0 .0), (b .valid, omega arith)))
 
--- src/lib.rt:138:31
 array-share-prefix-query : tie.Need-array-share-prefix-query
 array-share-prefix-query c =
     let from = c .before .before .before .before .before .before .before in
@@ -90,7 +80,6 @@ array-share-prefix-query c =
     let l = lent-length (a .c) (a .wanted) (a .server) (a .size) (a .key .now) (zeros .result) (from .pre .0) (from .pre .1 .0 .0) (from .pre .1 .0 .1) (zeros .ensures) (c .before .before .query2 .last .1 .1 .1 .1 .0) (c .before .before .query2 .ensures) in
     simp length-append (omega arith)
 
--- src/lib.rt:138:31
 slice-aggregate-put-line : tie.Need-slice-aggregate-put-line
 slice-aggregate-put-line c =
     let from = c .before .before .before .before .before .before .before .before in
@@ -98,7 +87,6 @@ slice-aggregate-put-line c =
     let zeros = c .before .before .before .before .before .zeros in
     sym (ap length (part-is (a .c) (a .wanted) (a .server) (a .size) (a .key .now) (zeros .result) (from .pre .0) (from .pre .1 .0 .0) (from .pre .1 .0 .1) (zeros .ensures) (c .before .before .before .query2 .last .1 .1 .1 .1 .0) (c .before .before .before .query2 .ensures)) ∙ query-length (a .c) (a .wanted) (a .server) (a .size) (a .key .now) (zeros .result) (from .pre .0) (from .pre .1 .0 .0) (from .pre .1 .0 .1) (zeros .ensures))
 
--- src/lib.rt:138:5
 put-line-requires : tie.Need-put-line-requires
 put-line-requires c κs =
     let from = c .before .before .before .before .before .before .before .before in
@@ -110,11 +98,9 @@ put-line-requires c κs =
     let roomy = from .pre .1 .1 in
     (omega arith, omega arith)
 
--- src/lib.rt:128:1
 same-length : tie.Need-same-length
 same-length c = search needs
 
--- src/lib.rt:128:1
 returns : tie.Need-returns
 returns c =
     let from = c .before .before .before .before .before .before .before .before .before .before .before in

@@ -1,6 +1,5 @@
 -- `printing::scan_key` meets its contract: the part that is lent goes to the text's end, and past that end there is no line.
-use mathlib.Core.Path.{_≡_, sym, ap, _∙_}
-use mathlib.Core.Bool.{Bool}
+use mathlib.Core.Path.{sym, ap, _∙_}
 use native.Mathlib.Omega.{arith}
 use borrow.Author.Tests.{not-true, not-false}
 use lib.ListN.{drop-of-length-le}
@@ -10,50 +9,36 @@ use Rattle.printing.specs.Input.{keyName, keyLine}
 use borrow.Author.Needs.{needs}
 use Rattle.printing.proofs.scan_key.Statement.{statement}
 use Rattle.printing.proofs.scan_key.Tie as tie
-use Rattle.printing.proofs.scan_key.Reads as reads
-use Rattle.printing.proofs.scan_key.Lts as lts
-use Rattle.printing.proofs.numbers.scan.Reads as scan-reads
-use Rattle.text_lines.proofs.starts.Reads as starts-reads
 
--- src/lib.rt:35:9
 returns : tie.Need-returns
 unfolding keyLine begins
 returns c = simp (drop-of-length-le (c .before .before .args .text .now) {i = c .before .before .args .at} (omega arith))
 
--- src/lib.rt:37:28
 slice-aggregate-starts : tie.Need-slice-aggregate-starts
 slice-aggregate-starts c = search needs
 
--- src/lib.rt:37:37
 sub-starts : tie.Need-sub-starts
 sub-starts c = search needs
 
--- src/lib.rt:37:37
 part-starts-start : tie.Need-part-starts-start
 part-starts-start c = search needs
 
--- src/lib.rt:37:37
 part-starts-end : tie.Need-part-starts-end
 part-starts-end c = search needs
 
--- src/lib.rt:37:9
 starts-requires : tie.Need-starts-requires
 starts-requires c κs = search needs
 
--- src/lib.rt:38:9
 returns-2 : tie.Need-returns-2
 unfolding keyLine
 returns-2 c = simp (sym (c .before .starts .ensures ∙ ap (begins keyName) (to-end (c .before .before .before .before .before .before .args .text .now) (c .before .before .before .before .before .before .args .at))) ∙ not-true _ (c .if2 .taken))
 
--- src/lib.rt:40:25
 add-scan : tie.Need-add-scan
 add-scan c = search needs
 
--- src/lib.rt:40:5
 scan-requires : tie.Need-scan-requires
 scan-requires c κs = search needs
 
--- src/lib.rt:31:1
 returns-3 : tie.Need-returns-3
 unfolding keyLine
 returns-3 c = c .scan .ensures ∙ simp (sym (c .before .before .starts .ensures ∙ ap (begins keyName) (to-end (c .before .before .before .before .before .before .before .args .text .now) (c .before .before .before .before .before .before .before .args .at))) ∙ not-false _ (c .before .if2 .left))

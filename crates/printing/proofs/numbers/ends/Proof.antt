@@ -1,31 +1,22 @@
 -- `printing::numbers::ends` meets its contract: each test is a part of the rule, and no byte stands past the end.
-use Prim.Native.Nat.{_≤_}
 use borrow.Author.Tests.{eq-eqb, ne-eqb}
 use lib.ListN.{List·getD-eq-default}
-use mathlib.Core.Bool.{Bool}
 use borrow.Author.Needs.{needs}
 use Rattle.printing.proofs.numbers.ends.Statement.{statement}
 use Rattle.printing.proofs.numbers.ends.Tie as tie
-use Rattle.printing.proofs.numbers.ends.Reads as reads
-use Rattle.printing.proofs.numbers.ends.Lts as lts
 
--- src/numbers.rt:44:9
 returns : tie.Need-returns
 returns c = simp (List·getD-eq-default (c .before .args .text .now) 0 {n = c .before .args .at} (c .if1 .taken))
 
--- src/numbers.rt:46:8
 shared-slice-read-if2 : tie.Need-shared-slice-read-if2
 shared-slice-read-if2 c = search needs
 
--- src/numbers.rt:47:9
 returns-2 : tie.Need-returns-2
 returns-2 c = simp (ne-eqb _ _ (c .if2 .taken))
 
--- src/numbers.rt:49:19
 add-result : tie.Need-add-result
 add-result c = search needs
 
--- src/numbers.rt:40:1
 returns-3 : tie.Need-returns-3
 returns-3 c = simp (eq-eqb _ _ (c .if2 .left))
 

@@ -1,5 +1,5 @@
 -- `printing::numbers::number_at` meets its contract: past the end there is no number, and the part that is lent goes to the end.
-use mathlib.Core.Path.{_≡_, sym, ap, _∙_}
+use mathlib.Core.Path.{sym, ap, _∙_}
 use native.Mathlib.Omega.{arith}
 use Rattle.lists.proofs.Rests.{to-end}
 use Rattle.printing.specs.NumberLists.{numeralFrom}
@@ -7,31 +7,22 @@ use Rattle.printing.proofs.Reading.{numeral-past}
 use borrow.Author.Needs.{needs}
 use Rattle.printing.proofs.numbers.number_at.Statement.{statement}
 use Rattle.printing.proofs.numbers.number_at.Tie as tie
-use Rattle.printing.proofs.numbers.number_at.Reads as reads
-use Rattle.printing.proofs.numbers.number_at.Lts as lts
-use Rattle.printing.proofs.numbers.numeral.Reads as numeral-reads
 
--- src/numbers.rt:34:9
 returns : tie.Need-returns
 returns c = sym (numeral-past (c .before .before .args .text .now) (c .before .before .args .at) (omega arith))
 
--- src/numbers.rt:36:13
 sub-numeral : tie.Need-sub-numeral
 sub-numeral c = search needs
 
--- src/numbers.rt:36:13
 part-numeral-start : tie.Need-part-numeral-start
 part-numeral-start c = search needs
 
--- src/numbers.rt:36:13
 part-numeral-end : tie.Need-part-numeral-end
 part-numeral-end c = search needs
 
--- src/numbers.rt:36:5
 numeral-requires : tie.Need-numeral-requires
 numeral-requires c κs = search needs
 
--- src/numbers.rt:30:1
 returns-2 : tie.Need-returns-2
 returns-2 c = c .numeral .ensures ∙ ap (numeralFrom (c .before .before .before .before .args .at)) (to-end (c .before .before .before .before .args .text .now) (c .before .before .before .before .args .at))
 

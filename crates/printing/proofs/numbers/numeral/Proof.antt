@@ -14,30 +14,20 @@ use Rattle.printing.specs.NumberLists.{numeralFrom}
 use borrow.Author.Needs.{needs}
 use Rattle.printing.proofs.numbers.numeral.Statement.{statement}
 use Rattle.printing.proofs.numbers.numeral.Tie as tie
-use Rattle.printing.proofs.numbers.numeral.Reads as reads
-use Rattle.printing.proofs.numbers.numeral.Lts as lts
-use Rattle.text_lines.proofs.digits.Reads as digits-reads
-use Rattle.text_lines.proofs.is_numeral.Reads as is-numeral-reads
-use Rattle.text_lines.proofs.value.Reads as value-reads
 
--- src/numbers.rt:18:9
 digits-requires : tie.Need-digits-requires
 digits-requires c κs = search needs
 
--- src/numbers.rt:19:9
 is-numeral-requires : tie.Need-is-numeral-requires
 is-numeral-requires c κs = search needs
 
--- src/numbers.rt:20:9
 returns : tie.Need-returns
 unfolding numeralFrom
 returns c = simp (sym (c .before .before .digits .ensures .0), sym (c .before .is-numeral .ensures) ∙ not-true _ (c .if1 .taken))
 
--- src/numbers.rt:22:35
 slice-aggregate-value : tie.Need-slice-aggregate-value
 slice-aggregate-value c = simp length-take (omega arith)
 
--- src/numbers.rt:22:9
 value-requires : tie.Need-value-requires
 unfolding isNumeral
 value-requires c κs =
@@ -48,11 +38,9 @@ value-requires c κs =
     let few : d .result ≤ 5 = leb-true (d .result) 5 (both-true _ _ (both-true (leb 1 (d .result)) _ rule .1) .0) in
     (omega arith, ap (λ (n : ℕ). digitCount (take n text)) (d .ensures .0) ∙ count-all (digits-first text) ∙ ap (λ (n : ℕ). length (take n text)) (sym (d .ensures .0)))
 
--- src/numbers.rt:25:15
 add-t9 : tie.Need-add-t9
 add-t9 c = search needs
 
--- src/numbers.rt:14:1
 returns-2 : tie.Need-returns-2
 unfolding numeralFrom
 returns-2 c = simp (sym (c .before .before .before .before .digits .ensures .0), sym (c .before .before .before .is-numeral .ensures) ∙ not-false _ (c .before .before .if1 .left), c .value .ensures)

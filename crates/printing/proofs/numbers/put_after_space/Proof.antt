@@ -1,7 +1,6 @@
 -- `printing::numbers::put_after_space` meets its contract: the space and the digits are written side by side.
-use mathlib.Core.Path.{_≡_, ap, _∙_}
+use mathlib.Core.Path.{_∙_}
 use native.Mathlib.Omega.{arith}
-use lib.ListN.{length}
 use Rattle.lists.specs.Ascii.{ascii}
 use Rattle.lists.proofs.Puts.{put-next}
 use Rattle.text_lines.specs.Decimal.{decimal}
@@ -9,20 +8,13 @@ use Rattle.printing.proofs.Writing.{byte-length}
 use borrow.Author.Needs.{needs}
 use Rattle.printing.proofs.numbers.put_after_space.Statement.{statement}
 use Rattle.printing.proofs.numbers.put_after_space.Tie as tie
-use Rattle.printing.proofs.numbers.put_after_space.Reads as reads
-use Rattle.printing.proofs.numbers.put_after_space.Lts as lts
-use Rattle.text_lines.proofs.put_bytes.Reads as put-bytes-reads
-use Rattle.text_lines.proofs.put_decimal.Reads as put-decimal-reads
 
--- src/numbers.rt:125:49
 slice-aggregate-put-bytes : tie.Need-slice-aggregate-put-bytes
 slice-aggregate-put-bytes c = search needs
 
--- src/numbers.rt:125:9
 put-bytes-requires : tie.Need-put-bytes-requires
 put-bytes-requires c κs = search needs
 
--- src/numbers.rt:126:5
 put-decimal-requires : tie.Need-put-decimal-requires
 put-decimal-requires c κs =
     let n = c .before .before .before .before .before .before .before .args .n in
@@ -31,11 +23,9 @@ put-decimal-requires c κs =
     let e = c .before .before .before .put-bytes .ensures .0 in
     omega arith
 
--- src/numbers.rt:120:1
 same-length : tie.Need-same-length
 same-length c = search needs
 
--- src/numbers.rt:120:1
 returns : tie.Need-returns
 returns c =
     let a = c .before .before .before .before .before .before .before .before .before .before .args in

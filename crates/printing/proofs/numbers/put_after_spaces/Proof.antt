@@ -3,20 +3,15 @@ use mathlib.Core.Path.{_≡_, refl, sym, ap, _∙_}
 use mathlib.Core.List.{List}
 use Prim.Native.Nat.{ℕ, _+_, _-_, _*_, _≤_}
 use native.Mathlib.Omega.{arith}
-use borrow.Author.Needs.{needs}
 use lib.ListN.{length, take, getD, length-append}
 use lib.Seq.{take-all}
 use Rattle.lists.specs.Parts.{put}
-use Rattle.lists.proofs.Parts.{put-length}
 use Rattle.lists.proofs.Puts.{put-next}
 use Rattle.lists.proofs.Writes.{put-nil}
 use Rattle.printing.specs.NumberLists.{afterSpace, afterSpaces}
 use Rattle.printing.proofs.Writing.{byte-length, after-none, after-more}
 use Rattle.printing.proofs.numbers.put_after_spaces.Statement.{statement}
 use Rattle.printing.proofs.numbers.put_after_spaces.Tie as tie
-use Rattle.printing.proofs.numbers.put_after_spaces.Reads as reads
-use Rattle.printing.proofs.numbers.put_after_spaces.Lts as lts
-use Rattle.printing.proofs.numbers.put_after_space.Reads as put-after-space-reads
 
 abbrev Inv-loop : tie.InvT-loop
 Inv-loop out₀ start numbers at₀ i₀ out at i = (i ≤ length numbers) × (at ≡ start + length (afterSpaces (take i numbers))) × (at ≤ start + 4 * i) × (out ≡ put start (afterSpaces (take i numbers)) out₀) × (length out ≡ length out₀)
@@ -24,7 +19,6 @@ Inv-loop out₀ start numbers at₀ i₀ out at i = (i ≤ length numbers) × (a
 abbrev μ-loop : tie.MeasureT-loop
 μ-loop out₀ start numbers at₀ i₀ out at i = length numbers - i
 
--- src/numbers.rt:138:5
 loop-holds : tie.Need-loop-holds Inv-loop μ-loop
 loop-holds c =
     let a = c .before .before .args in
@@ -32,27 +26,22 @@ loop-holds c =
     let l = ap length none in
     (omega arith, omega arith, omega arith, sym (ap (λ (t : List ℕ). put (a .start) t (a .out .now)) none ∙ put-nil (a .start) (a .out .now)), refl)
 
--- src/numbers.rt:139:17
 shared-slice-read-n : tie.Need-shared-slice-read-n Inv-loop μ-loop
 shared-slice-read-n c =
     omega arith
 
--- src/numbers.rt:140:9
 put-after-space-requires : tie.Need-put-after-space-requires Inv-loop μ-loop
 put-after-space-requires c κs =
     omega arith
 
--- src/numbers.rt:141:9
 add-i : tie.Need-add-i Inv-loop μ-loop
 add-i c =
     omega arith
 
--- src/numbers.rt:138:5
 loop-less : tie.Need-loop-less Inv-loop μ-loop
 loop-less c =
     omega arith
 
--- src/numbers.rt:138:5
 loop-again : tie.Need-loop-again Inv-loop μ-loop
 loop-again c =
     let at = c .before .before .before .before .before .before .loop in
@@ -72,12 +61,10 @@ loop-again c =
       omega arith,
     )
 
--- src/numbers.rt:130:1
 same-length : tie.Need-same-length Inv-loop μ-loop
 same-length c =
     c .before .loop .inv .4
 
--- src/numbers.rt:130:1
 returns : tie.Need-returns Inv-loop μ-loop
 returns c =
     let at = c .before .loop in

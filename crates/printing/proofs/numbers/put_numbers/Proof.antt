@@ -2,7 +2,7 @@
 use mathlib.Core.Path.{_≡_, refl, sym, ap, ap₂, _∙_}
 use mathlib.Core.Bool.{true}
 use mathlib.Core.List.{List, _++_, append-nil}
-use Prim.Native.Nat.{ℕ, _+_, _-_, _≤_, _<_}
+use Prim.Native.Nat.{ℕ, _+_, _-_, _≤_}
 use native.Mathlib.Omega.{arith}
 use borrow.Author.Needs.{needs}
 use lib.ListN.{length, take, drop, set, getD, length-set, drop-of-length-le}
@@ -15,9 +15,6 @@ use Rattle.printing.proofs.Scanning.{scanned-list}
 use Rattle.printing.proofs.Filling.{LeftAt, left-first, next-there, next-value, next-left}
 use Rattle.printing.proofs.numbers.put_numbers.Statement.{statement}
 use Rattle.printing.proofs.numbers.put_numbers.Tie as tie
-use Rattle.printing.proofs.numbers.put_numbers.Reads as reads
-use Rattle.printing.proofs.numbers.put_numbers.Lts as lts
-use Rattle.printing.proofs.numbers.number_at.Reads as number-at-reads
 
 filled : (numbers first : List ℕ) (i : ℕ) → length numbers ≤ i → length first ≤ i → take i numbers ++ drop i first ≡ numbers
 filled numbers first i h k =
@@ -36,33 +33,27 @@ Inv-loop text start out₀ at₀ i₀ out at i = Filled text (listOf (numbersAt 
 abbrev μ-loop : tie.MeasureT-loop
 μ-loop text start out₀ at₀ i₀ out at i = length out₀ - i
 
--- src/numbers.rt:109:5
 loop-holds : tie.Need-loop-holds Inv-loop μ-loop
 loop-holds c =
     let a = c .before .before .args in
     record { few = omega arith; written = refl; same = refl; left = left-first (a .text .now) (a .start) }
 
--- src/numbers.rt:110:43
 number-at-requires : tie.Need-number-at-requires Inv-loop μ-loop
 number-at-requires c κs =
     search needs
 
--- src/numbers.rt:110:27
 enum-known-value : tie.Need-enum-known-value Inv-loop μ-loop
 enum-known-value c =
     search needs
 
--- src/numbers.rt:111:13
 enum-told : tie.Need-enum-told Inv-loop μ-loop
 enum-told c =
     search needs
 
--- src/numbers.rt:111:13
 same-length : tie.Need-same-length Inv-loop μ-loop
 same-length c =
     c .before .before .before .before .loop .inv .same
 
--- src/numbers.rt:111:13
 returns : tie.Need-returns Inv-loop μ-loop
 returns c =
     let at = c .before .before .before .before .loop in
@@ -74,7 +65,6 @@ returns c =
     let same = at .inv .same in
     next-there (a .text .now) numbers (at .at) (at .i) (at .inv .left) (omega arith) (sym (c .before .before .number-at .ensures) ∙ c .enum-told .given .1)
 
--- src/numbers.rt:113:18
 cast-out : tie.Need-cast-out Inv-loop μ-loop
 cast-out c =
     let at = c .before .before .before .before .before .loop in
@@ -89,12 +79,10 @@ cast-out c =
     let b = allBelow-below 256 numbers (all .1) (at .i) (omega arith) in
     omega arith
 
--- src/numbers.rt:113:9
 slice-write-out : tie.Need-slice-write-out Inv-loop μ-loop
 slice-write-out c =
     let same = c .before .before .before .before .before .loop .inv .same in omega arith
 
--- src/numbers.rt:114:14
 add-at : tie.Need-add-at Inv-loop μ-loop
 add-at c =
     let at = c .before .before .before .before .before .loop in
@@ -108,17 +96,14 @@ add-at c =
     let w = numeral-within (a .text .now) (at .at) _ _ here in
     omega arith
 
--- src/numbers.rt:115:9
 add-i : tie.Need-add-i Inv-loop μ-loop
 add-i c =
     omega arith
 
--- src/numbers.rt:109:5
 loop-less : tie.Need-loop-less Inv-loop μ-loop
 loop-less c =
     let same = c .before .before .before .before .before .loop .inv .same in omega arith
 
--- src/numbers.rt:109:5
 loop-again : tie.Need-loop-again Inv-loop μ-loop
 loop-again c =
     let at = c .before .before .before .before .before .loop in
@@ -140,12 +125,10 @@ loop-again c =
       left = next-left (a .text .now) numbers (at .at) (at .i) (at .inv .left) (omega arith) _ _ here;
     }
 
--- src/numbers.rt:103:1
 same-length-2 : tie.Need-same-length-2 Inv-loop μ-loop
 same-length-2 c =
     c .before .loop .inv .same
 
--- src/numbers.rt:103:1
 returns-2 : tie.Need-returns-2 Inv-loop μ-loop
 returns-2 c =
     let at = c .before .loop in

@@ -14,12 +14,7 @@ use Rattle.printing.proofs.Writing.{byte-length, spaced-none, spaced-so
 use borrow.Author.Needs.{needs}
 use Rattle.printing.proofs.numbers.put_spaced.Statement.{statement}
 use Rattle.printing.proofs.numbers.put_spaced.Tie as tie
-use Rattle.printing.proofs.numbers.put_spaced.Reads as reads
-use Rattle.printing.proofs.numbers.put_spaced.Lts as lts
-use Rattle.printing.proofs.numbers.put_after_spaces.Reads as put-after-spaces-reads
-use Rattle.text_lines.proofs.put_decimal.Reads as put-decimal-reads
 
--- src/numbers.rt:154:9
 returns : tie.Need-returns
 returns c =
     let a = c .before .before .before .args in
@@ -27,34 +22,27 @@ returns c =
     let l = ap length none in
     (omega arith, (omega arith, sym (ap (λ (t : List ℕ). put (a .at) t (a .out .now)) none ∙ put-nil (a .at) (a .out .now))))
 
--- src/numbers.rt:156:17
 shared-slice-read-first : tie.Need-shared-slice-read-first
 shared-slice-read-first c = search needs
 
--- src/numbers.rt:157:49
 cast-put-decimal : tie.Need-cast-put-decimal
 cast-put-decimal c = omega (arith, c .before .shared-slice-known2 .given 0)
 
--- src/numbers.rt:157:9
 put-decimal-requires : tie.Need-put-decimal-requires
 put-decimal-requires c κs =
     let a = c .before .before .before .before .before .args in
     let b = byte-length (getD (a .numbers .now) 0 0) (omega (arith, c .before .shared-slice-known2 .given 0)) in
     omega arith
 
--- src/numbers.rt:158:33
 sub-put-after-spaces : tie.Need-sub-put-after-spaces
 sub-put-after-spaces c = search needs
 
--- src/numbers.rt:158:33
 part-put-after-spaces-start : tie.Need-part-put-after-spaces-start
 part-put-after-spaces-start c = search needs
 
--- src/numbers.rt:158:33
 part-put-after-spaces-end : tie.Need-part-put-after-spaces-end
 part-put-after-spaces-end c = search needs
 
--- src/numbers.rt:158:5
 put-after-spaces-requires : tie.Need-put-after-spaces-requires
 put-after-spaces-requires c κs =
     let a = c .before .before .before .before .before .before .before .before .before .before .args in
@@ -63,11 +51,9 @@ put-after-spaces-requires c κs =
     let k = c .before .before .before .before .put-decimal .kept .0 in
     simp (length-take, length-drop) (omega arith)
 
--- src/numbers.rt:147:1
 same-length : tie.Need-same-length
 same-length c = search needs
 
--- src/numbers.rt:147:1
 returns-2 : tie.Need-returns-2
 returns-2 c =
     let a = c .before .before .before .before .before .before .before .before .before .before .before .before .before .args in

@@ -5,25 +5,17 @@ use Rattle.lists.specs.Below.{allBelow}
 use borrow.Author.Needs.{needs}
 use Rattle.printing.proofs.numbers.scan.Statement.{statement}
 use Rattle.printing.proofs.numbers.scan.Tie as tie
-use Rattle.printing.proofs.numbers.scan.Reads as reads
-use Rattle.printing.proofs.numbers.scan.Lts as lts
-use Rattle.printing.proofs.numbers.ends.Reads as ends-reads
-use Rattle.printing.proofs.numbers.scan_some.Reads as scan-some-reads
 
--- src/numbers.rt:93:8
 ends-requires : tie.Need-ends-requires
 ends-requires c κs = search needs
 
--- src/numbers.rt:94:9
 returns : tie.Need-returns
 unfolding numbersAt allBelow
 returns c = simp (sym (c .before .ends .ensures) ∙ c .if1 .taken)
 
--- src/numbers.rt:99:5
 scan-some-requires : tie.Need-scan-some-requires
 scan-some-requires c κs = search needs
 
--- src/numbers.rt:90:1
 returns-2 : tie.Need-returns-2
 unfolding numbersAt
 returns-2 c = c .scan-some .ensures ∙ simp (sym (c .before .before .ends .ensures) ∙ c .before .if1 .left)

@@ -11,11 +11,6 @@ use Rattle.printing.proofs.Reading.{numeral-within, numeral-past}
 use Rattle.printing.proofs.Scanning.{scanLeft, scan-starts, scan-none, scan-last, scan-other, scan-past, scan-more}
 use Rattle.printing.proofs.numbers.scan_some.Statement.{statement}
 use Rattle.printing.proofs.numbers.scan_some.Tie as tie
-use Rattle.printing.proofs.numbers.scan_some.Reads as reads
-use Rattle.printing.proofs.numbers.scan_some.Lts as lts
-use Rattle.printing.proofs.numbers.ends.Reads as ends-reads
-use Rattle.printing.proofs.numbers.number_at.Reads as number-at-reads
-use Rattle.printing.proofs.numbers.still_bytes.Reads as still-bytes-reads
 
 abbrev Inv-loop : tie.InvT-loop
 Inv-loop text start at₀ count₀ bytes₀ at count bytes = (count ≤ at) × (scanOf (numbersFrom (length text) text start) ≡ scanLeft text at count bytes)
@@ -23,43 +18,34 @@ Inv-loop text start at₀ count₀ bytes₀ at count bytes = (count ≤ at) × (
 abbrev μ-loop : tie.MeasureT-loop
 μ-loop text start at₀ count₀ bytes₀ at count bytes = length text - at
 
--- src/numbers.rt:69:5
 loop-holds : tie.Need-loop-holds Inv-loop μ-loop
 loop-holds c =
     (omega arith, scan-starts (c .before .args .text .now) (c .before .args .start))
 
--- src/numbers.rt:70:43
 number-at-requires : tie.Need-number-at-requires Inv-loop μ-loop
 number-at-requires c κs = search needs
 
--- src/numbers.rt:70:27
 enum-known-value : tie.Need-enum-known-value Inv-loop μ-loop
 enum-known-value c = search needs
 
--- src/numbers.rt:71:13
 enum-told : tie.Need-enum-told Inv-loop μ-loop
 enum-told c = search needs
 
--- src/numbers.rt:71:13
 returns : tie.Need-returns Inv-loop μ-loop
 returns c =
     let at = c .before .before .before .before .loop in
     let text = c .before .before .before .before .before .before .args .text .now in
     sym (at .inv .1 ∙ scan-none text (at .at) (at .count) (at .bytes) (sym (c .before .before .number-at .ensures) ∙ c .enum-told .given .1))
 
--- src/numbers.rt:73:9
 add-count : tie.Need-add-count Inv-loop μ-loop
 add-count c = omega arith
 
--- src/numbers.rt:74:9
 still-bytes-requires : tie.Need-still-bytes-requires Inv-loop μ-loop
 still-bytes-requires c κs = search needs
 
--- src/numbers.rt:75:12
 ends-requires : tie.Need-ends-requires Inv-loop μ-loop
 ends-requires c κs = search needs
 
--- src/numbers.rt:76:13
 returns-2 : tie.Need-returns-2 Inv-loop μ-loop
 returns-2 c =
     let at = c .before .before .before .before .before .before .before .before .loop in
@@ -67,7 +53,6 @@ returns-2 c =
     let here = sym (c .before .before .before .before .before .before .number-at .ensures) ∙ c .before .before .before .before .value .given .1 in
     ap (Of (at .count + 1)) (c .before .before .still-bytes .ensures) ∙ sym (at .inv .1 ∙ scan-last text (at .at) (at .count) (at .bytes) _ _ (omega arith) here (sym (c .before .ends .ensures) ∙ c .if1 .taken))
 
--- src/numbers.rt:79:13
 returns-3 : tie.Need-returns-3 Inv-loop μ-loop
 returns-3 c =
     let at = c .before .before .before .before .before .before .before .before .before .loop in
@@ -75,11 +60,9 @@ returns-3 c =
     let here = sym (c .before .before .before .before .before .before .before .number-at .ensures) ∙ c .before .before .before .before .before .value .given .1 in
     sym (at .inv .1 ∙ scan-past text (at .at) (at .count) (at .bytes) _ _ (omega arith) here (c .if2 .taken))
 
--- src/numbers.rt:81:12
 shared-slice-read-if3 : tie.Need-shared-slice-read-if3 Inv-loop μ-loop
 shared-slice-read-if3 c = omega arith
 
--- src/numbers.rt:82:13
 returns-4 : tie.Need-returns-4 Inv-loop μ-loop
 returns-4 c =
     let at = c .before .before .before .before .before .before .before .before .before .before .before .loop in
@@ -87,7 +70,6 @@ returns-4 c =
     let here = sym (c .before .before .before .before .before .before .before .before .before .number-at .ensures) ∙ c .before .before .before .before .before .before .before .value .given .1 in
     sym (at .inv .1 ∙ scan-other text (at .at) (at .count) (at .bytes) _ _ (omega arith) here (sym (c .before .before .before .before .ends .ensures) ∙ c .before .before .before .if1 .left) (ne-eqb _ _ (c .if3 .taken)))
 
--- src/numbers.rt:84:14
 add-at : tie.Need-add-at Inv-loop μ-loop
 add-at c =
     let at = c .before .before .before .before .before .before .before .before .before .before .before .loop in
@@ -96,7 +78,6 @@ add-at c =
     let w = numeral-within text (at .at) _ _ here in
     omega arith
 
--- src/numbers.rt:69:5
 loop-less : tie.Need-loop-less Inv-loop μ-loop
 loop-less c =
     let at = c .before .before .before .before .before .before .before .before .before .before .before .loop in
@@ -105,7 +86,6 @@ loop-less c =
     let w = numeral-within text (at .at) _ _ here in
     omega arith
 
--- src/numbers.rt:69:5
 loop-again : tie.Need-loop-again Inv-loop μ-loop
 loop-again c =
     let at = c .before .before .before .before .before .before .before .before .before .before .before .loop in
@@ -114,7 +94,6 @@ loop-again c =
     let w = numeral-within text (at .at) _ _ here in
     (omega arith, at .inv .1 ∙ scan-more text (at .at) (at .count) (at .bytes) _ _ (omega arith) here (sym (c .before .before .before .before .ends .ensures) ∙ c .before .before .before .if1 .left) (eq-eqb _ _ (c .if3 .left)) ∙ ap (scanLeft text _ (at .count + 1)) (sym (c .before .before .before .before .before .still-bytes .ensures)))
 
--- src/numbers.rt:63:1
 returns-5 : tie.Need-returns-5 Inv-loop μ-loop
 returns-5 c =
     let at = c .before .loop in
