@@ -18,7 +18,7 @@
 
 enum { BAD_USAGE = 64, NO_INPUT = 66, NO_OUTPUT = 74 };
 
-/* No request is longer than 1,024 bytes and no catalogue than 51: what is cut off here is refused anyway. */
+/* No request is longer than 1,024 bytes and no catalogue than 49: what is cut off here is refused anyway. */
 enum { MOST_REQUEST = 4096, MOST_CATALOGUE = 4096 };
 
 static const char *meaning(int64_t number) {
