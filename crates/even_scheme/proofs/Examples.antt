@@ -1,63 +1,35 @@
--- Worked examples, from the definitions by computation: cards B7, B8, B9 and B12 of document 01, and the tables of source 003 for
--- N = 2, K = 2 and N = 3, K = 3 (sections IV-A and IV-C), as one table with one theorem.
+-- The tables of source 003 for N = 2, K = 2 and N = 3, K = 3 (sections IV-A and IV-C), from the definitions by computation: one table
+-- with one theorem.
 use mathlib.Core.Path.{_≡_, refl}
-use mathlib.Core.Bool.{false}
 use mathlib.Core.List.{List, [], _∷_, map}
 use Prim.Native.Nat.{ℕ, suc, _-_, _^_}
-use Rattle.lists.specs.Below.{allBelow}
-use Rattle.lists.specs.Distinct.{distinct, isPermutation, stands}
-use Rattle.lists.specs.Ranges.{range, every}
+use Rattle.lists.specs.Ranges.{range}
 use Rattle.lists.specs.Sums.{All, allNil, allCons}
-use Rattle.parameters.specs.Measures.{evenRows}
 use Rattle.symbol.specs.Xor.{xor}
 use Rattle.even_places.specs.Rule.{layout, positions, queryCells}
 use Rattle.even_places.specs.Sets.{members}
-use Rattle.even_scheme.specs.Even.{permutation, numberAt, evenKeyGood, evenQuery, evenScheme}
+use Rattle.even_scheme.specs.Even.{permutation, numberAt, evenQuery, evenScheme}
 use Rattle.even_scheme.proofs.Keys.{keyOf}
 
 pub data Example : Type 0 where
-  -- gives N K wanted server key query
-  gives : ℕ → ℕ → ℕ → ℕ → List ℕ → List ℕ → Example
   -- printed N K θ DB indices: the output of 003's algorithm for message θ and database DB, both counted from 1, as the indices of
   -- its symbols a_1, b_1, ..
   printed : ℕ → ℕ → ℕ → ℕ → List ℕ → Example
   -- structure N K messages: 003's query structure, as the messages of its symbols: 0 for a (U_1), 1 for b, 2 for c
   structure : ℕ → ℕ → List ℕ → Example
-  -- rows N K count
-  rows : ℕ → ℕ → ℕ → Example
-  -- no-key N K key: refusal 6
-  no-key : ℕ → ℕ → List ℕ → Example
 
 -- under the key that leaves every place as it is, a query lists places
 abbrev plain : ℕ → ℕ → List ℕ
 plain N K = keyOf K (λ p. range 0 (N ^ K))
 
 unfoldable pub Holds : Example → Type 0
-Holds (gives N K wanted server key query) = evenScheme xor N K 1 .query wanted server key ≡ query
 Holds (printed N K θ DB indices) = map (λ place. suc place) (evenScheme xor N K 1 .query (θ - 1) (DB - 1) (plain N K)) ≡ indices
 Holds (structure N K messages) = positions N K ≡ messages
-Holds (rows N K count) = evenRows N K ≡ count
-Holds (no-key N K key) = evenScheme xor N K 1 .keyGood key ≡ false
-
-abbrev same : List ℕ
-same = 0 ∷ 1 ∷ 2 ∷ 3 ∷ 0 ∷ 1 ∷ 2 ∷ 3 ∷ []
 
 unfoldable pub table : List Example
 table =
-    -- B7
-    gives 2 2 0 0 same (0 ∷ 0 ∷ 2 ∷ 1 ∷ [])
-    ∷ gives 2 2 0 1 same (1 ∷ 1 ∷ 3 ∷ 0 ∷ [])
-    -- B8
-    ∷ gives 2 2 1 0 same (0 ∷ 0 ∷ 1 ∷ 2 ∷ [])
-    ∷ gives 2 2 1 1 same (1 ∷ 1 ∷ 0 ∷ 3 ∷ [])
-    -- B9
-    ∷ rows 3 3 13
-    ∷ rows 2 8 255
-    ∷ rows 16 2 17
-    -- B12
-    ∷ no-key 2 1 (0 ∷ 0 ∷ [])
     -- 003, N = 2, K = 2
-    ∷ structure 2 2 (0 ∷ 1 ∷ 0 ∷ 1 ∷ [])
+    structure 2 2 (0 ∷ 1 ∷ 0 ∷ 1 ∷ [])
     ∷ printed 2 2 1 1 (1 ∷ 1 ∷ 3 ∷ 2 ∷ [])
     ∷ printed 2 2 1 2 (2 ∷ 2 ∷ 4 ∷ 1 ∷ [])
     ∷ printed 2 2 2 1 (1 ∷ 1 ∷ 2 ∷ 3 ∷ [])
@@ -77,6 +49,6 @@ table =
     ∷ []
 
 pub examples : All Holds table
-unfolding Holds table evenQuery numberAt permutation queryCells keyOf range evenRows evenKeyGood every isPermutation allBelow distinct stands positions layout members
+unfolding Holds table evenQuery numberAt permutation queryCells keyOf range positions layout members
 examples =
-    allCons refl (allCons refl (allCons refl (allCons refl (allCons refl (allCons refl (allCons refl (allCons refl (allCons refl (allCons refl (allCons refl (allCons refl (allCons refl (allCons refl (allCons refl (allCons refl (allCons refl (allCons refl (allCons refl (allCons refl (allCons refl (allCons refl (allCons refl allNil))))))))))))))))))))))
+    allCons refl (allCons refl (allCons refl (allCons refl (allCons refl (allCons refl (allCons refl (allCons refl (allCons refl (allCons refl (allCons refl (allCons refl (allCons refl (allCons refl (allCons refl allNil))))))))))))))

@@ -1,0 +1,1 @@
+// No code: the bench cards of document 01, as one table with one theorem.
