@@ -6,7 +6,10 @@
 //!     rustc --edition 2021 -O docs/src/second.rs -o second
 //!     ./second self               checks it against the bench cards and the papers' tables, and that fetches recover
 //!     ./second printer FOLDER     writes inputs of the request printer, and what it must print for each
+//!     ./second cases              prints the calls that the program `conformance` makes (its `stdin`)
+//!     ./second expected           prints what they must give (its `stdout`)
 use std::fmt::Write;
+use std::io::Write as _;
 
 type Bytes = Vec<u8>;
 
@@ -603,6 +606,514 @@ fn printer_inputs() -> Vec<Bytes> {
     all
 }
 
+// ---------------------------------------------------------------- cases for the conformance program: what each line gives
+
+/// The numbers that keys and stores are drawn from, in `conformance` as here.
+fn next(x: u64) -> u64 {
+    (x * 1103515245 + 12345) % (1 << 31)
+}
+
+fn drawn(x: u64, n: usize) -> usize {
+    (x >> 16) as usize % n
+}
+
+fn fill_drawn(seed: u64, n: usize, out: &mut [u8]) {
+    let mut x = seed;
+    for place in out.iter_mut() {
+        x = next(x);
+        *place = drawn(x, n) as u8;
+    }
+}
+
+/// A key of the catalogue's code, and more of the same up to `length` bytes; for the seed 0, zeros or permutations in order.
+fn drawn_key(seed: u64, c: Catalogue, length: usize) -> Bytes {
+    let mut out = vec![0; length];
+    if !c.even {
+        if seed > 0 {
+            fill_drawn(seed, c.n, &mut out);
+        }
+        return out;
+    }
+    let mut x = seed;
+    for permutation in out.chunks_exact_mut(pieces(c)) {
+        for (i, entry) in permutation.iter_mut().enumerate() {
+            *entry = i as u8;
+        }
+        for i in (1..permutation.len()).rev().filter(|_| seed > 0) {
+            x = next(x);
+            permutation.swap(i, drawn(x, i + 1));
+        }
+    }
+    out
+}
+
+fn sum(start: u64, bytes: &[u8]) -> u64 {
+    bytes.iter().fold(start, |sum, &b| (sum * 257 + b as u64 + 1) % 1000003)
+}
+
+fn shown_bytes(bytes: &[u8]) -> String {
+    if bytes.len() > 32 {
+        return format!("( {} bytes {} )", bytes.len(), sum(0, bytes));
+    }
+    let mut out = String::from("(");
+    bytes.iter().for_each(|b| write!(out, " {b}").unwrap());
+    out + " )"
+}
+
+fn shown_catalogue(c: Catalogue) -> String {
+    format!("{} {} {} {}", c.even as u8, c.n, c.k, c.s)
+}
+
+fn shown_session(s: &Session) -> String {
+    let marks = |all: [bool; 16]| all.iter().fold(0, |out, &m| out * 2 + m as usize);
+    format!("[ {} {} {} {} {} ]", shown_catalogue(s.cat), s.wanted, sum(0, &s.key), marks(s.issued), marks(s.taken))
+}
+
+fn verdict(result: Result<(), u8>) -> u8 {
+    result.err().unwrap_or(0)
+}
+
+fn outcome(result: Result<usize, u8>) -> String {
+    result.map_or_else(|refusal| format!("-{refusal}"), |value| value.to_string())
+}
+
+/// What stands between two lines: the catalogue, the session, the lent buffers, and how much of key and store is lent.
+struct Bench {
+    cat: Catalogue,
+    session: Session,
+    key: Bytes,
+    store: Bytes,
+    query: Bytes,
+    answer: Bytes,
+    answers: Bytes,
+    message: Bytes,
+    lent: [usize; 2],
+}
+
+const LENGTHS: [usize; 6] = [2304, 262656, 2304, 66048, 139776, 131584];
+
+impl Bench {
+    fn new() -> Bench {
+        let [key, store, query, answer, answers, message] = LENGTHS.map(|length| vec![0; length]);
+        Bench { cat: ZERO, session: blank(), key, store, query, answer, answers, message, lent: [0, 0] }
+    }
+
+    /// A line that reads a catalogue's text.
+    fn text(&mut self, text: &[u8]) -> String {
+        let (first, value) = match read(text) {
+            Ok(c) => (0, c),
+            Err(refusal) => (refusal, ZERO),
+        };
+        self.cat = value;
+        let (second, start, end) = match lines(text) {
+            Some((c, rest)) if admitted(c) => (0, c, text.len() - rest.len()),
+            Some(_) => (2, ZERO, 0),
+            None => (1, ZERO, 0),
+        };
+        format!("t {first} {} {second} {} {end}\n", shown_catalogue(value), shown_catalogue(start))
+    }
+
+    /// A line of a letter and numbers; those that make no call print nothing.
+    fn line(&mut self, letter: &str, [a, b, c, d]: [usize; 4]) -> String {
+        match letter {
+            "c" => return self.catalogue(Catalogue { even: a != 0, n: b, k: c, s: d }),
+            "k" => {
+                if admitted(self.cat) {
+                    self.key = drawn_key(a as u64, self.cat, self.key.len());
+                }
+                self.lent[0] = b;
+            }
+            "s" => {
+                let end = b.min(self.store.len());
+                fill_drawn(a as u64, 256, &mut self.store[..end]);
+                self.lent[1] = b;
+            }
+            "e" => fill_drawn(a as u64, 256, &mut self.answer),
+            "o" => self.key[a] = b as u8,
+            "d" => self.store[a] = b as u8,
+            "q" => self.query[a] = b as u8,
+            "z" => self.answers.fill(a as u8),
+            "g" => self.session.cat = Catalogue { even: a != 0, n: b, k: c, s: d },
+            "v" => self.session.wanted = a,
+            "y" => self.session.key[a] = b as u8,
+            "u" => self.session.issued[a] = b != 0,
+            "j" => self.session.taken[a] = b != 0,
+            "x" => return self.whole(a),
+            _ => return self.call(letter, a, b, c),
+        }
+        String::new()
+    }
+
+    fn catalogue(&mut self, c: Catalogue) -> String {
+        self.cat = c;
+        if !admitted(c) {
+            return "c 2 -2\n".to_string();
+        }
+        let sizes = [pieces(c), pack_length(c), c.k * pack_length(c), key_length(c), request_length(c), slot(c), c.n * slot(c)];
+        format!("c 0 {}\n", sizes.map(|x| x.to_string()).join(" "))
+    }
+
+    /// A line that makes one call.
+    fn call(&mut self, letter: &str, a: usize, b: usize, c: usize) -> String {
+        match letter {
+            "w" => {
+                self.answer[..a].fill(170);
+                let text = write_text(self.cat);
+                let result = if !admitted(self.cat) { Err(2) } else if a < text.len() { Err(9) } else { Ok(text.len()) };
+                if let Ok(length) = result {
+                    self.answer[..length].copy_from_slice(text.as_bytes());
+                }
+                format!("w {} {}\n", outcome(result), shown_bytes(&self.answer[..a]))
+            }
+            "b" => {
+                let begun = begin(self.cat, a, &self.key[..self.lent[0]]);
+                let refusal = begun.as_ref().err().copied().unwrap_or(0);
+                self.session = begun.unwrap_or_else(|_| blank());
+                format!("b {refusal} {}\n", shown_session(&self.session))
+            }
+            "i" => {
+                self.query[..b].fill(238);
+                let gave = verdict(self.session.issue(a, &mut self.query[..b]));
+                format!("i {gave} {} {}\n", shown_bytes(&self.query[..b]), shown_session(&self.session))
+            }
+            "a" => {
+                self.answer[..c].fill(221);
+                let result = answering(self.cat, a, &self.store[..self.lent[1]], &self.query[..b], c);
+                if let Ok(bytes) = &result {
+                    self.answer[..bytes.len()].copy_from_slice(bytes);
+                }
+                format!("a {} {}\n", outcome(result.map(|bytes| bytes.len())), shown_bytes(&self.answer[..c]))
+            }
+            "h" => {
+                let gave = verdict(self.session.take(a, &self.answer[..b], &mut self.answers[..c]));
+                format!("h {gave} {} {}\n", shown_bytes(&self.answers[..c]), shown_session(&self.session))
+            }
+            "r" => {
+                self.message[..b].fill(204);
+                let gave = verdict(self.session.recover(&self.answers[..a], &mut self.message[..b]));
+                format!("r {gave} {} {}\n", shown_bytes(&self.message[..b]), shown_session(&self.session))
+            }
+            _ => panic!("no such letter: {letter}"),
+        }
+    }
+
+    /// A whole fetch, in buffers of exactly the lengths that it needs.
+    fn whole(&mut self, wanted: usize) -> String {
+        let mut session = match begin(self.cat, wanted, &self.key[..self.lent[0]]) {
+            Ok(session) => session,
+            Err(refusal) => return format!("x {refusal}\n"),
+        };
+        let (cat, store) = (self.cat, &self.store[..self.lent[1]]);
+        let (asked, room, slots) = (request_length(cat), slot(cat), cat.n * slot(cat));
+        let (mut queries, mut answers, mut received) = (0, 0, 0);
+        for mirror in 0..cat.n {
+            session.issue(mirror, &mut self.query[..asked]).unwrap();
+            let answer = answering(cat, mirror, store, &self.query[..asked], room).unwrap();
+            session.take(mirror, &answer, &mut self.answers[..slots]).unwrap();
+            self.answer[..answer.len()].copy_from_slice(&answer);
+            queries = sum(queries, &self.query[..asked]);
+            answers = sum(answers, &answer);
+            received += answer.len();
+        }
+        let message = &mut self.message[..pack_length(cat)];
+        session.recover(&self.answers[..slots], message).unwrap();
+        assert_eq!(message, &store[wanted * pack_length(cat)..(wanted + 1) * pack_length(cat)]);
+        format!("x 0 {queries} {answers} {received} 0 {}\n", shown_bytes(message))
+    }
+}
+
+/// What the program `conformance` must print for an input.
+fn expected(input: &[u8]) -> Bytes {
+    let (mut bench, mut out, mut at) = (Bench::new(), Vec::new(), 0);
+    while at < input.len() {
+        let stop = if input[at] == b't' { b'~' } else { b'\n' };
+        let end = at + input[at..].iter().position(|&b| b == stop).unwrap();
+        match input[at] {
+            b'#' => out.extend_from_slice(&input[at..=end]),
+            b't' => out.extend(bench.text(&input[at + 1..end]).bytes()),
+            _ => {
+                let line = std::str::from_utf8(&input[at..end]).unwrap();
+                let (letter, numbers) = line.split_at(1);
+                let mut four = [0; 4];
+                for (place, word) in four.iter_mut().zip(numbers.split_whitespace()) {
+                    *place = word.parse().unwrap();
+                }
+                out.extend(bench.line(letter, four).bytes());
+            }
+        }
+        at = if stop == b'~' { end + 2 } else { end + 1 };
+    }
+    out
+}
+
+// ---------------------------------------------------------------- cases for the conformance program: its lines
+
+fn all_even() -> Vec<Catalogue> {
+    let pairs = (2..=16).flat_map(|n| (1..=8).map(move |k| Catalogue { even: true, n, k, s: 1 }));
+    pairs.filter(|&c| admitted(c)).collect()
+}
+
+/// The catalogue with the largest piece, up to `s`, for which the buffers of `conformance` have room.
+fn fitted(c: Catalogue, s: usize) -> Catalogue {
+    let fits = |s: usize| {
+        let c = Catalogue { s, ..c };
+        c.k * pack_length(c) < LENGTHS[1] && slot(c) < LENGTHS[3] && c.n * slot(c) < LENGTHS[4] && pack_length(c) < LENGTHS[5]
+    };
+    Catalogue { s: (1..=s).rev().find(|&s| fits(s)).unwrap(), ..c }
+}
+
+struct Cases {
+    out: Bytes,
+    draw: Draw,
+}
+
+impl Cases {
+    fn put(&mut self, line: String) {
+        self.out.extend(line.bytes());
+        self.out.push(b'\n');
+    }
+
+    fn text(&mut self, text: &[u8]) {
+        self.out.push(b't');
+        self.out.extend_from_slice(text);
+        self.out.extend(b"~\n");
+    }
+
+    fn catalogue(&mut self, c: Catalogue) {
+        self.put(format!("c {} {} {} {}", c.even as u8, c.n, c.k, c.s));
+    }
+
+    /// A store and a key for the catalogue.
+    fn lend(&mut self, c: Catalogue) {
+        let (store, key) = (1 + self.draw.below(9999), 1 + self.draw.below(9999));
+        self.put(format!("s {store} {}", c.k * pack_length(c)));
+        self.put(format!("k {key} {}", key_length(c)));
+    }
+
+    /// Catalogue texts, good and damaged, and writing them with the room that they need, less and more.
+    fn texts(&mut self) {
+        self.put("# texts".to_string());
+        for (even, n, k, s) in [(false, 2, 1, 1), (false, 16, 32, 4096), (true, 2, 8, 128), (true, 16, 2, 10), (false, 3, 3, 4)] {
+            let text = write_text(Catalogue { even, n, k, s });
+            self.text(text.as_bytes());
+            for room in [text.len(), text.len() - 1, text.len() + 3, 0] {
+                self.put(format!("w {room}"));
+            }
+            self.text(&[text.as_bytes(), b"wanted=0\n"].concat());
+        }
+        self.text(b"code=short\nmirrors=17\npacks=3\npiece=4\n");
+        self.put("w 100".to_string());
+        self.text(b"code=even\nmirrors=99999\npacks=99999\npiece=99999\n\n");
+        let good = write_text(Catalogue { even: false, n: 3, k: 12, s: 40 });
+        for (from, to) in [("short", "Short"), ("short", "shorts"), ("short", ""), ("mirrors=3", "mirrors=03"), ("mirrors=3", "mirrors="), ("mirrors=3", "mirrors=0"),
+            ("mirrors=3", "mirrors=+3"), ("mirrors=3", " mirrors=3"), ("mirrors=3", "mirrors=3 "), ("packs=12", "packs=00"), ("packs=12", "packs=000012"),
+            ("packs=12", "packs=100012"), ("packs=12", "packs=1x"), ("piece=40\n", "piece=40"), ("piece=40\n", "piece=40\r\n"), ("piece=40", "piece=40960"), ("piece", "pieces"),
+            ("mirrors=3\npacks=12", "packs=12\nmirrors=3"), ("code=short\n", ""), ("code=short\n", "code=short\ncode=short\n")] {
+            self.text(good.replacen(from, to, 1).as_bytes());
+        }
+        for at in 0..good.len() {
+            let mut text = good.clone().into_bytes();
+            text[at] ^= 1 << self.draw.below(4);
+            self.text(&text);
+            self.text(&good.as_bytes()[..at]);
+        }
+        self.text(b"code=short\nmirrors=3\npacks=3\npiece=\xB4\n");
+    }
+
+    /// Each bound of the catalogue from both sides.
+    fn bounds(&mut self) {
+        self.put("# bounds".to_string());
+        for n in [0, 1, 2, 16, 17, 99999] {
+            self.catalogue(Catalogue { even: false, n, k: 5, s: 9 });
+            self.catalogue(Catalogue { even: true, n, k: 1, s: 9 });
+        }
+        for k in [0, 1, 32, 33, 99999] {
+            self.catalogue(Catalogue { even: false, n: 3, k, s: 9 });
+        }
+        for s in [0, 1, 4096, 4097, 99999] {
+            self.catalogue(Catalogue { even: false, n: 3, k: 2, s });
+            self.catalogue(Catalogue { even: true, n: 3, k: 2, s });
+        }
+        for n in 2..=16usize {
+            for k in 0..=9 {
+                let near = |k: usize| n.saturating_pow(k as u32) <= 256;
+                if near(k) || k > 0 && near(k - 1) {
+                    self.catalogue(Catalogue { even: true, n, k, s: 4096 });
+                }
+            }
+        }
+    }
+
+    /// The requests and answers of the papers' tables: I to III of 000 and those of 003, with keys that leave places in order.
+    fn papers(&mut self) {
+        self.put("# 000, table I".to_string());
+        self.put("c 0 2 2 1\ns 1 2\nd 0 90\nd 1 195".to_string());
+        for (key, wanted) in [(0, 0), (1, 0), (0, 1), (1, 1)] {
+            self.put(format!("k 0 1\no 0 {key}\nb {wanted}\ni 0 2\na 0 2 1\ni 1 2\na 1 2 1"));
+        }
+        self.put("# 000, table II and 003, N = K = 2".to_string());
+        self.put("c 1 2 2 1\ns 1 8\nk 0 8".to_string());
+        for place in 0..8 {
+            self.put(format!("d {place} {}", 1 << place));
+        }
+        for wanted in 0..2 {
+            self.put(format!("b {wanted}\ni 0 4\na 0 4 3\ni 1 4\na 1 4 3"));
+        }
+        self.put("# 000, table III and section III-C".to_string());
+        self.put("c 0 3 3 1\ns 1 6".to_string());
+        for place in 0..6 {
+            self.put(format!("d {place} {}", 1 << place));
+        }
+        for x in 0..27 {
+            self.put(format!("q 0 {}\nq 1 {}\nq 2 {}", x / 9, x / 3 % 3, x % 3));
+            self.put("a 0 3 1\na 1 3 1\na 2 3 1".to_string());
+        }
+        self.put("k 0 2\no 1 2\nb 1\ni 0 3\na 0 3 1\ni 1 3\na 1 3 1\ni 2 3\na 2 3 1".to_string());
+        self.put("# 003, N = K = 3".to_string());
+        self.put("c 1 3 3 1\nk 0 81".to_string());
+        for wanted in 0..3 {
+            self.put(format!("b {wanted}\ni 0 27\ni 1 27\ni 2 27"));
+        }
+    }
+
+    /// Whole fetches: every (N, K) of the even code, every wanted pack; a spread of the short one; two keys each, one in order or of zeros.
+    fn fetches(&mut self) {
+        self.put("# fetches".to_string());
+        let sizes = [1, 2, 4096, 3, 33, 4096, 256, 1000];
+        let short = (2..=16).flat_map(|n| [1, 2, 3, 8, 31, 32].map(|k| Catalogue { even: false, n, k, s: 1 }));
+        for (i, c) in all_even().into_iter().chain(short).enumerate() {
+            let c = fitted(c, sizes[i % sizes.len()]);
+            self.catalogue(c);
+            let (store, other) = (1 + self.draw.below(9999), self.draw.below(c.k));
+            self.put(format!("s {store} {}", c.k * pack_length(c)));
+            for wanted in (0..c.k).filter(|&w| c.even || w == 0 || w == c.k / 2 || w + 1 == c.k) {
+                let key = 1 + self.draw.below(9999);
+                self.put(format!("k {key} {}\nx {wanted}", key_length(c)));
+            }
+            self.put(format!("k 0 {}\nx {other}\nx {}", key_length(c), c.k));
+        }
+    }
+
+    /// Every refusal of every call, each with what is just accepted beside it.
+    fn refusals(&mut self, c: Catalogue) {
+        let (asked, slots, pack) = (request_length(c), c.n * slot(c), pack_length(c));
+        let last = c.n - 1;
+        self.put(format!("# refusals {}", shown_catalogue(c)));
+        // a catalogue out of bounds: 2 of every call that is given one
+        for bad in [Catalogue { n: 17, ..c }, Catalogue { k: 0, ..c }, Catalogue { s: 4097, ..c }] {
+            self.catalogue(bad);
+            self.put(format!("b {}\na {} {asked} {}\nw 60\nx 0", c.k, c.n, slot(c)));
+        }
+        self.catalogue(c);
+        self.lend(c);
+        self.put("z 51".to_string());
+        // begin: 4, 5, 6
+        self.put(format!("b {}\nb {}", c.k, c.k - 1));
+        for length in [key_length(c) + 1, key_length(c), key_length(c).saturating_sub(1)] {
+            self.put(format!("k 3 {length}\nb 0\nb {}", c.k));
+        }
+        self.put(format!("k 3 {}", key_length(c)));
+        let most = if c.even { pieces(c) } else { c.n };
+        for value in [most - 1, most, 255] {
+            self.put(format!("k 3 {}\no 0 {value}\nb 0", key_length(c)));
+        }
+        self.put(format!("k 3 {}\nb 0", key_length(c)));
+        // issue: 3, 9, and an issue again; answering: 3, 7, 8, 9
+        self.put(format!("i {last} {asked}\ni {} {asked}\ni {last} {}\ni {last} {}", c.n, asked - 1, asked + 2));
+        self.put(format!("a {last} {asked} {0}\na {last} {asked} {1}\na {last} {asked} {2}\na {3} {asked} {0}", slot(c), slot(c) - 1, slot(c) + 2, c.n));
+        self.put(format!("a {last} {} {}\na {last} {} {}", asked + 1, slot(c), asked - 1, slot(c)));
+        self.put(format!("a 0 {asked} {}", slot(c)));
+        self.put(format!("q {} {most}\na {last} {asked} {}", asked - 1, slot(c)));
+        for (seed, length) in [(7, c.k * pack + 1), (7, c.k * pack - 1), (7, 0), (7, c.k * pack)] {
+            self.put(format!("s {seed} {length}\ni {last} {asked}\na {last} {asked} {}", slot(c)));
+        }
+        // take: 3, 9, 10, 11, and a second one
+        self.put(format!("h 0 {} {slots}", slot(c)));
+        self.put(format!("h {last} {0} {slots}\nh {last} {1} {slots}\nh {2} {0} {slots}\nh {last} {0} {3}", slot(c) + 1, slot(c) - 1, c.n, slots - 1));
+        self.put(format!("r {slots} {pack}"));
+        self.put(format!("h {last} {0} {slots}\nh {last} {0} {slots}", slot(c)));
+        // recover: 12, 9, then done, into more room, and again
+        for mirror in 0..last {
+            self.put(format!("r {slots} {pack}\ni {mirror} {asked}\na {mirror} {asked} {0}\nh {mirror} {0} {slots}\nh {mirror} 0 {slots}", slot(c)));
+        }
+        self.put(format!("r {} {pack}\nr {slots} {}\nr {slots} {pack}\nr {slots} {}", slots - 1, pack - 1, pack + 1));
+        self.fields(c, asked, slots, pack);
+    }
+
+    /// Every field of a session set to what no history gives: 2, 4, 6, 11 of each call, and the places that are not used.
+    fn fields(&mut self, c: Catalogue, asked: usize, slots: usize, pack: usize) {
+        let calls = format!("i 0 {asked}\nh 0 {} {slots}\nr {slots} {pack}", slot(c));
+        let set_cat = |n: usize, k: usize, s: usize| format!("g {} {n} {k} {s}", c.even as u8);
+        let most = if c.even { pieces(c) } else { c.n };
+        let mut sets = vec![
+            (set_cat(17, c.k, c.s), set_cat(c.n, c.k, c.s)),
+            (set_cat(c.n, 0, c.s), set_cat(c.n, c.k, c.s)),
+            (set_cat(c.n, c.k, 4097), set_cat(c.n, c.k, c.s)),
+            (format!("v {}", c.k), "v 0".to_string()),
+            ("u 0 0".to_string(), "u 0 1".to_string()),
+            ("j 0 0".to_string(), "j 0 1".to_string()),
+            ("y 2047 9".to_string(), "y 2047 0".to_string()),
+        ];
+        if key_length(c) > 0 {
+            sets.push((format!("y 0 {most}"), format!("y 0 {}", most - 1)));
+        }
+        if c.n < 16 {
+            sets.push((format!("u {} 1", c.n), format!("u {} 0", c.n)));
+            sets.push(("j 15 1".to_string(), "j 15 0".to_string()));
+        }
+        for (set, undo) in sets {
+            self.put(format!("{set}\n{calls}\n{undo}"));
+        }
+    }
+
+    /// A session with calls in any order, with numbers and lengths at their bounds and beside them.
+    fn session(&mut self, c: Catalogue, calls: usize) {
+        self.put(format!("# session {}", shown_catalogue(c)));
+        self.catalogue(c);
+        self.lend(c);
+        let (before, wanted) = (self.draw.below(256), self.draw.below(c.k));
+        self.put(format!("z {before}\nb {wanted}"));
+        for _ in 0..calls {
+            let mirror = self.draw.below(c.n + 1).min(c.n - 1 + self.draw.below(20) / 19);
+            let mut near = |length: usize| match self.draw.below(8) {
+                0 => length - 1,
+                1 => length + 1,
+                _ => length,
+            };
+            let (asked, room, slots, pack) = (near(request_length(c)), near(slot(c)), near(c.n * slot(c)), near(pack_length(c)));
+            let size = near(slot(c));
+            let line = match self.draw.below(12) {
+                0 | 1 => format!("i {mirror} {asked}"),
+                2 => format!("h {mirror} {size} {slots}"),
+                3 => format!("h {mirror} 0 {slots}"),
+                4 => format!("e {}", 1 + self.draw.below(9999)),
+                5 => format!("r {slots} {pack}"),
+                6 => format!("q {} {}", self.draw.below(request_length(c)), self.draw.below(c.n + 1)),
+                7 => format!("a {mirror} {asked} {room}"),
+                _ => format!("i {mirror} {0}\na {mirror} {0} {1}\nh {mirror} {1} {slots}", request_length(c), slot(c)),
+            };
+            self.put(line);
+        }
+    }
+}
+
+/// The lines of the program `conformance`.
+fn cases() -> Bytes {
+    let mut cases = Cases { out: Vec::new(), draw: Draw(7) };
+    cases.texts();
+    cases.bounds();
+    cases.papers();
+    cases.fetches();
+    let small = [(false, 2, 1, 1), (false, 2, 2, 1), (false, 3, 3, 2), (false, 16, 32, 1), (true, 2, 1, 1), (true, 2, 2, 3), (true, 3, 3, 1), (true, 16, 2, 1), (true, 2, 8, 2)];
+    for (even, n, k, s) in small {
+        cases.refusals(Catalogue { even, n, k, s });
+    }
+    for (even, n, k, s) in small.into_iter().chain([(false, 4, 3, 4096), (true, 4, 2, 4096), (false, 5, 4, 2), (true, 2, 3, 2)]) {
+        cases.session(Catalogue { even, n, k, s }, 40);
+    }
+    cases.out
+}
+
 /// Whole fetches: every (N, K) of the even code and a spread of the short one recover each wanted pack.
 fn fetches() {
     let mut draw = Draw(1);
@@ -646,6 +1157,8 @@ fn main() {
                 std::fs::write(format!("{folder}/{i:04}.out"), printed(input)).unwrap();
             }
         }
-        _ => eprintln!("usage: second self | second printer FOLDER"),
+        ["cases"] => std::io::stdout().write_all(&cases()).unwrap(),
+        ["expected"] => std::io::stdout().write_all(&expected(&cases())).unwrap(),
+        _ => eprintln!("usage: second self | printer FOLDER | cases | expected"),
     }
 }

@@ -1,0 +1,52 @@
+// Sessions that no history gives: a field set to any value, nothing checked.
+use crate::draw;
+use catalogue::Catalogue;
+use session::Session;
+
+// The session with another catalogue.
+pub fn catalogue(s: Session, c: Catalogue) -> Session {
+    let key = s.key;
+    let issued = s.issued;
+    let taken = s.taken;
+    Session {
+        catalogue: c,
+        wanted: s.wanted,
+        key: key,
+        issued: issued,
+        taken: taken,
+    }
+}
+
+// The session with another wanted message.
+pub fn wanted(s: Session, wanted: usize) -> Session {
+    let mut out = s;
+    out.wanted = wanted;
+    out
+}
+
+// The session with another byte in its key, where there is such a place.
+pub fn key(s: Session, place: usize, value: usize) -> Session {
+    let mut out = s;
+    if place < 2048 {
+        out.key[place] = draw::byte(value);
+    }
+    out
+}
+
+// The session with the mark of a query set or taken away, where there is such a place.
+pub fn issued(s: Session, place: usize, value: usize) -> Session {
+    let mut out = s;
+    if place < 16 {
+        out.issued[place] = value != 0;
+    }
+    out
+}
+
+// The session with the mark of an answer set or taken away, where there is such a place.
+pub fn taken(s: Session, place: usize, value: usize) -> Session {
+    let mut out = s;
+    if place < 16 {
+        out.taken[place] = value != 0;
+    }
+    out
+}

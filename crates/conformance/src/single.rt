@@ -1,0 +1,127 @@
+// Single calls, each printed on a line of its own: what it gave, then the whole of the buffer that it was lent to write, filled before with one byte,
+// and the session that it handed back.
+use crate::draw;
+use crate::input::Line;
+use crate::show;
+use crate::state::State;
+use catalogue::Catalogue;
+use catalogue::Code;
+use catalogue::Measured;
+
+// t: reads a catalogue's text, as a whole and as the start of a longer one; the catalogue handed back is the next calls'.
+pub fn text(s: State, text: &[u8]) -> State {
+    let reading = catalogue_text::read(text);
+    show::letter(b't');
+    let verdict = reading.verdict;
+    show::verdict(verdict);
+    let c = reading.catalogue;
+    show::catalogue(c);
+    let lines = catalogue_text::read_lines(text);
+    let verdict = lines.verdict;
+    show::verdict(verdict);
+    let start = lines.catalogue;
+    show::catalogue(start);
+    show::number(lines.next);
+    show::end();
+    s.with_catalogue(c)
+}
+
+// The catalogue of four numbers: code (0 short, else even), N, K, S.
+pub fn catalogue_of(line: Line) -> Catalogue {
+    let code = if line.a == 0 { Code::Short } else { Code::Even };
+    Catalogue {
+        code: code,
+        servers: line.b,
+        messages: line.c,
+        symbol: line.d,
+    }
+}
+
+// c: a catalogue, its verdict, its sizes and the bound on received bytes.
+pub fn catalogue(s: State, line: Line) -> State {
+    let c = catalogue_of(line);
+    show::letter(b'c');
+    show::verdict(catalogue::verdict(c));
+    if let Measured::Of(sizes) = catalogue::sizes(c) {
+        show::number(sizes.symbols);
+        show::number(sizes.message);
+        show::number(sizes.store);
+        show::number(sizes.key);
+        show::number(sizes.query);
+        show::number(sizes.slot);
+    }
+    show::outcome(session::bound(c));
+    show::end();
+    s.with_catalogue(c)
+}
+
+// w ROOM: writes the catalogue's text.
+pub fn write(s: State, out: &mut [u8]) {
+    draw::fill(170, out);
+    show::letter(b'w');
+    show::outcome(catalogue_text::write(s.catalogue, out));
+    show::bytes(out);
+    show::end();
+}
+
+// b WANTED: begins a fetch with the lent key.
+pub fn begin(s: State, wanted: usize, key: &[u8]) -> State {
+    let handed = s.session.begin(s.catalogue, wanted, key);
+    show::letter(b'b');
+    let verdict = handed.verdict;
+    show::verdict(verdict);
+    let session = handed.session;
+    show::session(session);
+    show::end();
+    s.with_session(session)
+}
+
+// i SERVER ROOM: issues a query.
+pub fn issue(s: State, n: usize, query: &mut [u8]) -> State {
+    draw::fill(238, query);
+    let handed = s.session.issue(n, query);
+    show::letter(b'i');
+    let verdict = handed.verdict;
+    show::verdict(verdict);
+    show::bytes(query);
+    let session = handed.session;
+    show::session(session);
+    show::end();
+    s.with_session(session)
+}
+
+// a SERVER LENGTH ROOM: answers the query of that length.
+pub fn answer(s: State, n: usize, store: &[u8], query: &[u8], out: &mut [u8]) {
+    draw::fill(221, out);
+    show::letter(b'a');
+    show::outcome(server::answer(s.catalogue, n, store, query, out));
+    show::bytes(out);
+    show::end();
+}
+
+// h SERVER LENGTH ROOM: takes the answer of that length into an answer buffer of that many bytes.
+pub fn take(s: State, n: usize, answer: &[u8], answers: &mut [u8]) -> State {
+    let handed = s.session.take(n, answer, answers);
+    show::letter(b'h');
+    let verdict = handed.verdict;
+    show::verdict(verdict);
+    show::bytes(answers);
+    let session = handed.session;
+    show::session(session);
+    show::end();
+    s.with_session(session)
+}
+
+// r ANSWERS ROOM: recovers the message from an answer buffer of that many bytes.
+pub fn recover(s: State, answers: &[u8], message: &mut [u8]) -> State {
+    draw::fill(204, message);
+    let handed = s.session.recover(answers, message);
+    show::letter(b'r');
+    let verdict = handed.verdict;
+    show::verdict(verdict);
+    show::bytes(message);
+    let session = handed.session;
+    show::session(session);
+    show::end();
+    s.with_session(session)
+}
