@@ -7,6 +7,8 @@ pub mod Theorem
 pub mod Plain
 pub mod Served
 pub mod Received
+pub mod ByHistory
 pub mod Closed
 pub mod Numbers
+pub mod Faults
 pub mod Runs
