@@ -8,7 +8,9 @@ pub mod Plain
 pub mod Served
 pub mod Received
 pub mod ByHistory
+pub mod Reached
 pub mod Closed
 pub mod Numbers
 pub mod Faults
+pub mod Unused
 pub mod Runs

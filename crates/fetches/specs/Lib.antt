@@ -7,3 +7,5 @@ pub mod Received
 pub mod Numbers
 pub mod Faults
 pub mod ByHistory
+pub mod Reached
+pub mod Unused

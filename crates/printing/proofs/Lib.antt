@@ -8,3 +8,4 @@ pub mod Lines
 pub mod Room
 pub mod Issued
 pub mod RoundTrip
+pub mod InForm
