@@ -1,45 +1,21 @@
--- The table of numbers (document 01, 'Numbers a call can give'), call by call: which faults a call can have, and that of those that are there
--- the smallest number is given, in whatever order they are listed. `smallest-given` shows that every verdict is this one.
+-- The table of numbers (document 01, 'Numbers a call can give') for the calls of a session and for answering: which faults a call can have. Of
+-- those that are there it gives the smallest number: `smallest-given`.
 use mathlib.Core.Path.{_≡_}
-use mathlib.Core.Bool.{Bool, cond, not}
+use mathlib.Core.Bool.{not}
 use mathlib.Core.List.{List, [], _∷_}
 use Prim.Native.Nat.{ℕ}
 use lib.Dec.{leb, ltb, eqb}
 use lib.ListN.{length}
-use Rattle.refusal.specs.declared.Refusal.{Refusal}
-use Rattle.refusal.specs.declared.Refusal.the-variants.{Bounds, Server, Wanted, KeyLength, KeyEntry, Query, StoreLength, Room, AnswerLength, History, Missing}
-use Rattle.refusal.specs.declared.Verdict.{Verdict}
-use Rattle.refusal.specs.declared.Verdict.the-variants.{Accepted, Refused}
-use Rattle.refusal.specs.Numbers.{numberOf}
+use Rattle.refusal.specs.declared.Refusal.the-variants.{Server, Wanted, KeyLength, KeyEntry, Query, StoreLength, Room, AnswerLength, History, Missing}
+use Rattle.refusal.specs.Smallest.{Fault, fault, smallest}
 use Rattle.scheme.specs.Scheme.{Scheme}
 use Rattle.catalogue.specs.declared.Catalogue.{Catalogue}
-use Rattle.catalogue.specs.Catalogue.{fits, catalogueVerdict}
+use Rattle.catalogue.specs.Catalogue.{catalogueVerdict}
+use Rattle.catalogue.specs.Faults.{unfit}
 use Rattle.server.specs.Answering.{answerVerdict}
 use Rattle.session.specs.declared.Session.{Session}
 use Rattle.session.specs.Marks.{marked, marksGood, allTaken}
 use Rattle.session.specs.Calls.{codeOf, keyOf, queryOf, slotsOf, beginVerdict, issueVerdict, takeVerdict, recoverVerdict}
-
--- A line of the table: whether its condition holds, and what is refused then
-pub record Fault : Type 0 where
-  pub there : Bool
-  pub refusal : Refusal
-
-abbrev pub fault : Refusal → Bool → Fault
-fault refusal there = record { there = there; refusal = refusal }
-
--- of a refusal and a verdict, the smaller number
-abbrev pub smaller : Refusal → Verdict → Verdict
-smaller refusal Accepted = Refused refusal
-smaller refusal (Refused other) = cond (leb (numberOf refusal) (numberOf other)) (Refused refusal) (Refused other)
-
--- accepted if no fault is there, else refused with the smallest number of those that are
-unfoldable pub smallest : List Fault → Verdict
-smallest [] = Accepted
-smallest (f ∷ faults) = cond (f .there) (smaller (f .refusal) (smallest faults)) (smallest faults)
-
--- N, K or S outside the bounds
-abbrev pub unfit : Catalogue → Fault
-unfit c = fault Bounds (not (fits (c .code) (c .servers) (c .messages) (c .symbol)))
 
 module _ (schemeOf : Catalogue → Scheme) where
   abbrev pub beginFaults : Catalogue → ℕ → List ℕ → List Fault

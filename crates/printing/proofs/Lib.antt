@@ -9,3 +9,4 @@ pub mod Room
 pub mod Issued
 pub mod RoundTrip
 pub mod InForm
+pub mod Faults
