@@ -2,3 +2,4 @@ pub mod Table
 pub mod Common
 pub mod SmallSizes
 pub mod Admitted
+pub mod Faults

@@ -1,9 +1,10 @@
--- The table of the greatest message counts: its rule, by one computed test over all entries, and what an entry decides.
+-- The table of the greatest message counts: its rule, by one computed test over all entries, what an entry decides (`table-decides`), and
+-- the last column of document 01's table (`from-seven`).
 use mathlib.Core.Path.{_≡_, refl, sym, ap, _∙_}
 use mathlib.Core.Bool.{Bool, true, false, _&&_}
 use mathlib.Core.List.{List, [], _∷_}
 use Prim.Native.Nat.{ℕ, _+_, _-_, _^_, _≤_}
-use native.Mathlib.Nat.{pow-le-pow-right}
+use native.Mathlib.Nat.{pow-le-pow-left, pow-le-pow-right}
 use native.Mathlib.Omega.{arith}
 use borrow.Author.Tests.{leb-true, leb-false, ltb-true, le-leb, lt-leb}
 use lib.Dec.{leb, ltb}
@@ -50,3 +51,14 @@ most-decides N K most low m = go (leb K most) refl
         let h : N ^ (most + 1) ≤ N ^ K = pow-le-pow-right {n = N} (omega arith) (omega arith) in
         let b = m .beyond in
         sym (lt-leb (N ^ K) 256 (omega arith))
+
+-- K is within the even code's bound exactly if it is at most N's entry
+pub table-decides : (N K : ℕ) → 2 ≤ N → N ≤ 16 → leb (N ^ K) 256 ≡ leb K (getD table (N - 2) 0)
+table-decides N K low high = sym (most-decides N K (getD table (N - 2) 0) low (table-most N low high))
+
+-- from N = 7 on the greatest K is 2
+pub from-seven : (N : ℕ) → 7 ≤ N → N ≤ 16 → Most N 2
+from-seven N low high =
+    let square : N ^ 2 ≤ 16 ^ 2 = pow-le-pow-left high 2 in
+    let cube : 7 ^ 3 ≤ N ^ 3 = pow-le-pow-left low 3 in
+    record { within = omega arith; beyond = omega arith }

@@ -1,2 +1,3 @@
 pub mod Catalogue
 pub mod Most
+pub mod Faults

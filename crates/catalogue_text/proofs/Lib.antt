@@ -1,3 +1,4 @@
 pub mod TextParts
 pub mod FourLines
 pub mod RoundTrip
+pub mod Faults

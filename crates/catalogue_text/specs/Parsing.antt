@@ -58,7 +58,7 @@ linesBy (Refused refusal) found = refusedLines refusal
 unfoldable pub linesOf : List ℕ → Lines
 linesOf text = let found = fourLines text in linesBy (andThen (found .verdict) (catalogueVerdict (found .catalogue))) found
 
--- the same of a whole text
+-- a refused reading of a whole text holds zeros, too
 abbrev pub unread : Refusal → Reading
 unread refusal = record { verdict = Refused refusal; catalogue = zeroCatalogue }
 

@@ -7,6 +7,10 @@ pub mod Theorem
 pub mod Plain
 pub mod Served
 pub mod Received
+pub mod ByHistory
+pub mod Reached
 pub mod Closed
 pub mod Numbers
+pub mod Faults
+pub mod Unused
 pub mod Runs

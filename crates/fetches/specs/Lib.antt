@@ -5,3 +5,7 @@ pub mod Claim
 pub mod Plain
 pub mod Received
 pub mod Numbers
+pub mod Faults
+pub mod ByHistory
+pub mod Reached
+pub mod Unused

@@ -8,3 +8,5 @@ pub mod Lines
 pub mod Room
 pub mod Issued
 pub mod RoundTrip
+pub mod InForm
+pub mod Faults

@@ -12,20 +12,12 @@ use lib.ListN.{length, take, drop, getD, length-drop, drop-of-length-le}
 use Rattle.lists.proofs.Every.{both-true}
 use Rattle.text_lines.specs.declared.Line.{Line}
 use Rattle.text_lines.specs.declared.Line.the-variants.{Value, Refused}
-use Rattle.text_lines.specs.Decimal.{isDigit, digitCount, valueFrom}
+use Rattle.text_lines.specs.Decimal.{digitCount, valueFrom}
 use Rattle.text_lines.specs.Lines.{isNumeral}
+use Rattle.text_lines.proofs.DigitTexts.{count-within}
 use Rattle.printing.specs.NumberLists.{onLine, numeralFrom, numeralAt, endsAt, before, numbersFrom, numbersAt, listOf}
 
 -- ---- one number
-
-count-within : (text : List ℕ) → digitCount text ≤ length text
-unfolding digitCount
-count-within [] = omega arith
-count-within (x ∷ text) = go (isDigit x) (count-within text)
-  where
-    go : (t : Bool) → digitCount text ≤ length text → cond t (suc (digitCount text)) 0 ≤ suc (length text)
-    go true h = omega arith
-    go false h = omega arith
 
 some-digits : (count : ℕ) (text : List ℕ) → isNumeral count text ≡ true → 1 ≤ count
 unfolding isNumeral

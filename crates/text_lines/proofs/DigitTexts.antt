@@ -1,6 +1,6 @@
 -- Texts of digits: how many a text begins with, and their value, byte by byte.
 use mathlib.Core.Path.{_≡_, refl, sym, ap, _∙_}
-use mathlib.Core.Bool.{Bool, true, false}
+use mathlib.Core.Bool.{Bool, true, false, cond}
 use mathlib.Core.List.{List, [], _∷_, _++_}
 use Prim.Native.Nat.{ℕ, zero, suc, _+_, _-_, _*_, _≤_, _<_}
 use native.Mathlib.Nat.{not-suc-le-zero, le-of-suc-le-suc}
@@ -55,6 +55,15 @@ digits-first (x ∷ text) = go (isDigit x) refl (digits-first text)
     go : (t : Bool) → isDigit x ≡ t → Digits (take (digitCount text) text) → Digits (take (digitCount (x ∷ text)) (x ∷ text))
     go true e rest = rw e (more e rest)
     go false e rest = rw e none
+
+pub count-within : (text : List ℕ) → digitCount text ≤ length text
+unfolding digitCount
+count-within [] = omega arith
+count-within (x ∷ text) = go (isDigit x) (count-within text)
+  where
+    go : (t : Bool) → digitCount text ≤ length text → cond t (suc (digitCount text)) 0 ≤ suc (length text)
+    go true h = omega arith
+    go false h = omega arith
 
 -- a text that has as many as it is long
 pub all-digits : (text : List ℕ) → digitCount text ≡ length text → Digits text

@@ -1,17 +1,20 @@
--- Digits without leading zero are the decimal digits of their value, and those of a number have no leading zero.
+-- Digits without leading zero are the decimal digits of their value, and those of a number have no leading zero. So a text that begins
+-- with a number begins with the digits of its value (`numeral-read`).
 use mathlib.Core.Path.{_≡_, refl, sym, ap, _∙_}
-use mathlib.Core.Bool.{Bool, true, false, and-false}
+use mathlib.Core.Bool.{Bool, true, false, not, _&&_, and-false}
 use mathlib.Core.List.{List, [], _∷_, _++_, append-nil, append-assoc}
-use Prim.Native.Nat.{ℕ, _+_, _-_, _*_, _/_, _%_, _≤_, _<_}
-use native.Mathlib.Nat.{not-suc-le-zero}
+use Prim.Native.Nat.{ℕ, _+_, _-_, _*_, _/_, _%_, _^_, _≤_, _<_}
+use native.Mathlib.Nat.{not-suc-le-zero, pow-le-pow-right}
 use native.Mathlib.Omega.{arith}
-use borrow.Author.Tests.{ltb-true, ltb-false, lt-ltb, le-ltb, ne-eqb, eqb-false}
-use lib.Dec.{ltb, eqb}
-use lib.ListN.{length, getD, List·getD-append}
-use Rattle.text_lines.specs.Decimal.{digit, decimal, valueFrom}
-use Rattle.text_lines.specs.Lines.{leadingZero}
-use Rattle.text_lines.proofs.DigitTexts.{Digits, none, more, digit-range}
-use Rattle.text_lines.proofs.Decimal.{decimal-small, decimal-large, length-small, some-digits, first-digit}
+use borrow.Author.Tests.{leb-true, ltb-true, ltb-false, lt-ltb, le-ltb, ne-eqb, eqb-false, not-true}
+use lib.Dec.{leb, ltb, eqb}
+use lib.ListN.{length, take, drop, getD, take-append-drop, List·getD-append}
+use lib.Seq.{length-take-le, getD-take}
+use Rattle.lists.proofs.Every.{both-true}
+use Rattle.text_lines.specs.Decimal.{digit, decimal, digitCount, valueFrom}
+use Rattle.text_lines.specs.Lines.{leadingZero, isNumeral}
+use Rattle.text_lines.proofs.DigitTexts.{Digits, none, more, digit-range, digits-first, count-within}
+use Rattle.text_lines.proofs.Decimal.{decimal-small, decimal-large, length-small, some-digits, first-digit, below-power}
 
 pub no-leading-zero : (n : ℕ) (rest : List ℕ) → leadingZero (length (decimal n)) (decimal n ++ rest) ≡ false
 no-leading-zero n rest = go (ltb n 10) refl
@@ -54,3 +57,33 @@ decimal-value (more {x = x} d (more {x = y} {xs = xs} f ds)) h e =
     let no48 = eqb-false x 48 other in
     let above : 48 < x = omega arith in
     after-front (0 * 10 + (x - 48)) (omega arith) (more f ds) ∙ ap (λ (l : List ℕ). l ++ (y ∷ xs)) (first-is x (r .0) (r .1))
+
+-- ---- a text that begins with a number
+
+pub record NumeralRead (text : List ℕ) (n : ℕ) : Type 0 where
+  pub below : n < 100000
+  pub many : length (decimal n) ≡ digitCount text
+  pub here : text ≡ decimal n ++ drop (digitCount text) text
+
+pub numeral-read : (text : List ℕ) → isNumeral (digitCount text) text ≡ true → NumeralRead text (valueFrom 0 (take (digitCount text) text))
+unfolding isNumeral
+numeral-read text e =
+    let count = digitCount text in
+    let first = take count text in
+    let n = valueFrom 0 first in
+    let r = both-true (leb 1 count) (leb count 5 && not (leadingZero count text)) e in
+    let s = both-true (leb count 5) (not (leadingZero count text)) (r .1) in
+    let some : 1 ≤ count = leb-true 1 count (r .0) in
+    let few : count ≤ 5 = leb-true count 5 (s .0) in
+    let long : length first ≡ count = length-take-le count text (count-within text) in
+    let same-first : getD first 0 0 ≡ getD text 0 0 = getD-take count text 0 0 (omega arith) in
+    let plain : leadingZero (length first) first ≡ false = rw (long, same-first) (not-true (leadingZero count text) (s .1)) in
+    let written : decimal n ≡ first = decimal-value (digits-first text) (omega arith) plain in
+    let many : length (decimal n) ≡ count = ap length written ∙ long in
+    let power : 10 ^ length (decimal n) ≤ 10 ^ 5 = pow-le-pow-right {n = 10} (omega arith) {i = length (decimal n)} {j = 5} (omega arith) in
+    let small = below-power n in
+    record {
+      below = omega arith;
+      many = many;
+      here = sym (take-append-drop count text) ∙ ap (λ (l : List ℕ). l ++ drop count text) (sym written);
+    }

@@ -1,23 +1,22 @@
 -- A line that is written reads back, and a line that is read is what is written for its value.
-use mathlib.Core.Path.{_≡_, refl, sym, ap, _∙_}
-use mathlib.Core.Bool.{Bool, true, false, cond, not, _&&_}
+use mathlib.Core.Path.{_≡_, refl, ap, _∙_}
+use mathlib.Core.Bool.{Bool, true, false, cond, _&&_}
 use mathlib.Core.List.{List, _∷_, _++_, append-assoc}
-use Prim.Native.Nat.{ℕ, _+_, _^_, _≤_, _<_}
-use native.Mathlib.Nat.{pow-le-pow-right}
+use Prim.Native.Nat.{ℕ, _+_, _<_}
 use native.Mathlib.Numerals.{add-one}
 use native.Mathlib.Omega.{arith}
-use borrow.Author.Tests.{le-leb, leb-true, eqb-true, ltb-true, ltb-false, not-true}
-use lib.Dec.{leb, ltb, eqb}
-use lib.ListN.{length, take, drop, getD, take-append-drop, List·getD-eq-default}
-use lib.Seq.{take-append-seam, getD-append-seam, length-take-le, drop-cons, drop-drop, getD-take}
+use borrow.Author.Tests.{le-leb, eqb-true, ltb-true, ltb-false}
+use lib.Dec.{ltb, eqb}
+use lib.ListN.{length, take, drop, getD, List·getD-eq-default}
+use lib.Seq.{take-append-seam, getD-append-seam, drop-cons, drop-drop}
 use Rattle.lists.proofs.Every.{both-true}
 use Rattle.lists.proofs.Rests.{drop-after}
 use Rattle.text_lines.specs.declared.Line.the-variants.{Value, Refused}
 use Rattle.text_lines.specs.Decimal.{decimal, digitCount, valueFrom}
-use Rattle.text_lines.specs.Lines.{numberText, begins, leadingZero, isNumeral, numberAt, numberLine}
-use Rattle.text_lines.proofs.DigitTexts.{below-digits, digits-first, count-digits}
-use Rattle.text_lines.proofs.Decimal.{length-most, some-digits, below-power, decimal-digits, value-decimal}
-use Rattle.text_lines.proofs.Numerals.{no-leading-zero, decimal-value}
+use Rattle.text_lines.specs.Lines.{numberText, begins, isNumeral, numberAt, numberLine}
+use Rattle.text_lines.proofs.DigitTexts.{below-digits, count-digits}
+use Rattle.text_lines.proofs.Decimal.{length-most, some-digits, decimal-digits, value-decimal}
+use Rattle.text_lines.proofs.Numerals.{no-leading-zero, NumeralRead, numeral-read}
 use Rattle.text_lines.proofs.Begins.{begins-split, begins-joined}
 use Rattle.text_lines.proofs.NumberLines.{number-text-length}
 
@@ -77,31 +76,19 @@ within text i e = go (ltb i (length text)) refl
         let d = List·getD-eq-default text 0 (ltb-false i (length text) h) in absurd (let w : ⊥ = omega arith in w)
 
 number-read : (text : List ℕ) (at n next : ℕ) → numberAt at text ≡ Value n next → NumberRead text at n next
-unfolding numberAt isNumeral
+unfolding numberAt
 number-read text at n next e =
     let count = digitCount text in
-    let first = take count text in
-    let p = passed (isNumeral count text && eqb (getD text count 0) 10) (valueFrom 0 first) (at + count + 1) n next e in
+    let p = passed (isNumeral count text && eqb (getD text count 0) 10) (valueFrom 0 (take count text)) (at + count + 1) n next e in
     let q = both-true (isNumeral count text) (eqb (getD text count 0) 10) (p .0) in
-    let r = both-true (leb 1 count) (leb count 5 && not (leadingZero count text)) (q .0) in
-    let s = both-true (leb count 5) (not (leadingZero count text)) (r .1) in
-    let some : 1 ≤ count = leb-true 1 count (r .0) in
-    let few : count ≤ 5 = leb-true count 5 (s .0) in
+    let r : NumeralRead text n = rw (p .1) at (numeral-read text (q .0)) in
     let ended : getD text count 0 ≡ 10 = eqb-true (getD text count 0) 10 (q .1) in
-    let inside : count < length text = within text count ended in
-    let long : length first ≡ count = length-take-le count text (omega arith) in
-    let same-first : getD first 0 0 ≡ getD text 0 0 = getD-take count text 0 0 (omega arith) in
-    let plain : leadingZero (length first) first ≡ false = rw (long, same-first) (not-true (leadingZero count text) (s .1)) in
-    let written : decimal n ≡ first = ap decimal (sym (p .1)) ∙ decimal-value (digits-first text) (omega arith) plain in
-    let many : length (decimal n) ≡ count = ap length written ∙ long in
-    let power : 10 ^ length (decimal n) ≤ 10 ^ 5 = pow-le-pow-right {n = 10} (omega arith) {i = length (decimal n)} {j = 5} (omega arith) in
-    let small = below-power n in
-    let rest : drop count text ≡ 10 ∷ drop (length (decimal n) + 1) text =
-    drop-cons text count 0 inside ∙ rw (ended, many, add-one) in
+    let many = r .many in
+    let rest : drop count text ≡ 10 ∷ drop (length (decimal n) + 1) text = drop-cons text count 0 (within text count ended) ∙ rw (ended, many, add-one) in
     record {
-      below = omega arith;
+      below = r .below;
       next-is = let f = p .2 in omega arith;
-      here = sym (take-append-drop count text) ∙ ap (λ (l : List ℕ). l ++ drop count text) (sym written) ∙ ap (λ (l : List ℕ). decimal n ++ l) rest;
+      here = r .here ∙ ap (λ (l : List ℕ). decimal n ++ l) rest;
     }
 
 pub line-read : (name text : List ℕ) (at n next : ℕ) → numberLine name text at ≡ Value n next → LineRead name text at n next

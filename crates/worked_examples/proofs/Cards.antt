@@ -15,7 +15,8 @@ use Rattle.text_lines.specs.Decimal.{decimalIn, decimal, digitCount, valueFrom}
 use Rattle.text_lines.specs.Lines.{begins, isNumeral, numberAt, numberLine}
 use Rattle.catalogue_text.specs.Parsing.{codeLine, fourLines}
 use Rattle.short_code.specs.Short.{digitSum, shortQuery, shortAdmits, shortAnswerLength, named, shortAnswer, orZeros, recovered, shortRecover}
-use Rattle.even_places.specs.Rule.{queryCells}
+use Rattle.even_places.specs.Sets.{sets}
+use Rattle.even_places.specs.Rule.{queryCells, layout}
 use Rattle.even_scheme.specs.Even.{permutation, numberAt as entryAt, evenKeyGood, evenQuery}
 use Rattle.codes.specs.Codes.{schemeOf}
 use Rattle.server.specs.Answering.{answerVerdict, answering}
@@ -26,6 +27,6 @@ use Rattle.printing.specs.Output.{queryLine, refusalLine, askedVerdict, queryLi
 use Rattle.worked_examples.specs.Cards.{Holds, cards}
 
 pub cards-hold : All Holds cards
-unfolding Holds cards flatMap allBelow distinct isPermutation stands range every shortFits evenFits shortSizes evenRows evenSizes totalFrom total xorBytes honestAnswers catalogueVerdict decimalIn decimal digitCount valueFrom begins isNumeral numberAt numberLine codeLine fourLines digitSum shortQuery shortAdmits shortAnswerLength named shortAnswer orZeros recovered shortRecover queryCells permutation entryAt evenKeyGood evenQuery schemeOf answerVerdict answering beginVerdict afterSpaces spaced numeralFrom numbersFrom numbersAt keyLine linesAsk inputAsks queryLine refusalLine askedVerdict queryLines answerTo printed
+unfolding Holds cards flatMap allBelow distinct isPermutation stands range every shortFits evenFits shortSizes evenRows evenSizes totalFrom total xorBytes honestAnswers catalogueVerdict decimalIn decimal digitCount valueFrom begins isNumeral numberAt numberLine codeLine fourLines digitSum shortQuery shortAdmits shortAnswerLength named shortAnswer orZeros recovered shortRecover queryCells sets layout permutation entryAt evenKeyGood evenQuery schemeOf answerVerdict answering beginVerdict afterSpaces spaced numeralFrom numbersFrom numbersAt keyLine linesAsk inputAsks queryLine refusalLine askedVerdict queryLines answerTo printed
 cards-hold =
     allCons refl (allCons refl (allCons refl (allCons refl (allCons refl (allCons refl (allCons refl (allCons refl (allCons refl (allCons refl (allCons refl (allCons refl (allCons refl (allCons refl (allCons refl (allCons refl (allCons refl allNil))))))))))))))))

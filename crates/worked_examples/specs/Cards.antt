@@ -2,6 +2,7 @@
 use mathlib.Core.Path.{_≡_}
 use mathlib.Core.List.{List, [], _∷_, _++_, map}
 use Prim.Native.Nat.{ℕ}
+use lib.ListN.{length}
 use Rattle.lists.specs.Ascii.{ascii}
 use Rattle.lists.specs.Ranges.{range}
 use Rattle.refusal.specs.declared.Refusal.the-variants.{Bounds, KeyEntry, Query}
@@ -16,6 +17,7 @@ use Rattle.catalogue.specs.declared.Catalogue.{Catalogue}
 use Rattle.catalogue.specs.declared.Code.{Code}
 use Rattle.catalogue.specs.declared.Code.the-variants.{Short, Even}
 use Rattle.catalogue.specs.Catalogue.{catalogueVerdict}
+use Rattle.even_places.specs.Rule.{layout}
 use Rattle.codes.specs.Codes.{schemeOf}
 use Rattle.server.specs.Answering.{answering}
 use Rattle.session.specs.Calls.{beginVerdict}
@@ -28,9 +30,9 @@ pub data Card : Type 0 where
   asks : Catalogue → ℕ → List ℕ → List (List ℕ) → Card
   -- the honest answers from a store, and the message that they give
   recovers : Catalogue → List ℕ → ℕ → List ℕ → List (List ℕ) → List ℕ → Card
-  -- what a server answers to a query: the outcome
+  -- what a server answers to a query, into four bytes that stay as they were: the outcome
   answers : Catalogue → ℕ → List ℕ → List ℕ → Outcome → Card
-  -- the rows of an even query for N and K
+  -- the rows of an even query for N and K, by the formula and by the layout
   rows : ℕ → ℕ → ℕ → Card
   -- the verdict on a catalogue
   judges : Catalogue → Verdict → Card
@@ -42,8 +44,8 @@ Holds (prints input output) = printed schemeOf input ≡ output
 Holds (asks c wanted key queries) = map (λ server. schemeOf c .query wanted server key) (range 0 (c .servers)) ≡ queries
 Holds (recovers c store wanted key got message) =
     let honest = honestAnswers (schemeOf c) (c .servers) store wanted key in honest ++ (schemeOf c .recover wanted key honest ∷ []) ≡ got ++ (message ∷ [])
-Holds (answers c server store query outcome) = answering schemeOf c server store query (zeros 4) .outcome ≡ outcome
-Holds (rows N K many) = evenRows N K ≡ many
+Holds (answers c server store query outcome) = answering schemeOf c server store query (zeros 4) ≡ record { outcome = outcome; buffer = zeros 4 }
+Holds (rows N K many) = evenRows N K ∷ length (layout N K) ∷ [] ≡ many ∷ many ∷ []
 Holds (judges c verdict) = catalogueVerdict c ≡ verdict
 Holds (begins c wanted key verdict) = beginVerdict schemeOf c wanted key ≡ verdict
 
