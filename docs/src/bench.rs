@@ -17,7 +17,7 @@ extern "C" {
 const ROUNDS: usize = 301;
 const REQUESTS: usize = 16;
 /// A batch of calls takes about this long, so that reading the clock costs nothing beside it.
-const BATCH_NANOSECONDS: u128 = 200_000;
+const BATCH_NANOSECONDS: f64 = 200_000.0;
 
 #[derive(Clone, Copy)]
 struct Shape {
@@ -162,6 +162,60 @@ fn copies(s: usize, store: &[u8], starts: &[Vec<usize>], answer: &mut [u8]) {
     }
 }
 
+/// A shape with a store and requests, and all that the sides are handed.
+struct Case {
+    shape: Shape,
+    text: String,
+    rows: Vec<Vec<usize>>,
+    store: Vec<u8>,
+    requests: Vec<Vec<u8>>,
+    starts: Vec<Vec<Vec<usize>>>,
+    answer: Vec<u8>,
+}
+
+impl Case {
+    fn new(shape: Shape) -> Case {
+        let mut random = Random(0x9E37_79B9_7F4A_7C15);
+        let rows = shape.rows();
+        let store = (0..shape.k * shape.pieces() * shape.s).map(|_| random.below(256) as u8).collect();
+        let requests: Vec<Vec<u8>> = (0..REQUESTS).map(|_| shape.request(&rows, &mut random)).collect();
+        let starts = requests.iter().map(|request| shape.starts(&rows, request)).collect();
+        let answer = vec![0xA5; rows.len() * shape.s];
+        Case { shape, text: shape.text(), rows, store, requests, starts, answer }
+    }
+
+    /// Both sides answer every request with the same bytes.
+    fn check(&mut self) {
+        let mut expected = self.answer.clone();
+        for request in &self.requests {
+            assert_eq!(library(&self.text, &self.store, request, &mut self.answer), expected.len() as i64);
+            plain(self.shape, &self.rows, &self.store, request, &mut expected);
+            assert!(self.answer == expected, "the two sides write different answers");
+        }
+    }
+
+    /// Nanoseconds for each of `calls` calls of one side: library, plain loop, words, copies.
+    fn time(&mut self, side: usize, calls: usize) -> f64 {
+        let begin = Instant::now();
+        for call in 0..calls {
+            let (request, starts) = (black_box(&self.requests[call % REQUESTS]), black_box(&self.starts[call % REQUESTS]));
+            match side {
+                0 => drop(black_box(library(&self.text, &self.store, request, black_box(&mut self.answer)))),
+                1 => plain(self.shape, &self.rows, &self.store, request, black_box(&mut self.answer)),
+                2 => drop(black_box(words(self.shape.s, &self.store, starts))),
+                _ => copies(self.shape.s, &self.store, starts, black_box(&mut self.answer)),
+            }
+        }
+        begin.elapsed().as_nanos() as f64 / calls as f64
+    }
+
+    /// The bytes of the pieces that a request names, on average.
+    fn bytes_read(&self) -> f64 {
+        let named: usize = self.starts.iter().flatten().map(Vec::len).sum();
+        (named * self.shape.s) as f64 / REQUESTS as f64
+    }
+}
+
 /// Nanoseconds for each call, and ratios of the library's to the plain loop's, each from one round; sorted.
 struct Measured {
     times: [Vec<f64>; 4],
@@ -181,47 +235,21 @@ fn centile(values: &[f64], percent: usize) -> f64 {
 }
 
 fn measure(shape: Shape) -> Measured {
-    let mut random = Random(0x9E37_79B9_7F4A_7C15);
-    let (text, rows) = (shape.text(), shape.rows());
-    let store: Vec<u8> = (0..shape.k * shape.pieces() * shape.s).map(|_| random.below(256) as u8).collect();
-    let requests: Vec<Vec<u8>> = (0..REQUESTS).map(|_| shape.request(&rows, &mut random)).collect();
-    let starts: Vec<Vec<Vec<usize>>> = requests.iter().map(|request| shape.starts(&rows, request)).collect();
-    let mut answer = vec![0xA5u8; rows.len() * shape.s];
-    let mut expected = answer.clone();
-    for request in &requests {
-        assert_eq!(library(&text, &store, request, &mut answer), answer.len() as i64);
-        plain(shape, &rows, &store, request, &mut expected);
-        assert!(answer == expected, "the two sides write different answers");
-    }
-
-    let mut side = |which: usize, calls: usize| -> f64 {
-        let begin = Instant::now();
-        for call in 0..calls {
-            let (request, starts) = (black_box(&requests[call % REQUESTS]), black_box(&starts[call % REQUESTS]));
-            match which {
-                0 => { black_box(library(&text, &store, request, black_box(&mut answer))); }
-                1 => plain(shape, &rows, &store, request, black_box(&mut answer)),
-                2 => { black_box(words(shape.s, &store, starts)); }
-                _ => copies(shape.s, &store, starts, black_box(&mut answer)),
-            }
-        }
-        begin.elapsed().as_nanos() as f64 / calls as f64
-    };
+    let mut case = Case::new(shape);
+    case.check();
     let mut calls = REQUESTS;
-    while side(0, calls) * (calls as f64) < BATCH_NANOSECONDS as f64 {
+    while case.time(0, calls) * (calls as f64) < BATCH_NANOSECONDS {
         calls += REQUESTS;
     }
     let mut times: [Vec<f64>; 4] = Default::default();
     for round in 0..ROUNDS {
         for turn in 0..4 {
-            let which = (round + turn) % 4;
-            times[which].push(side(which, calls));
+            let side = (round + turn) % 4;
+            times[side].push(case.time(side, calls));
         }
     }
     let ratios = sorted(times[0].iter().zip(&times[1]).map(|(a, b)| a / b).collect());
-    let named: usize = starts.iter().flatten().map(Vec::len).sum();
-    let bytes_read = (named * shape.s) as f64 / REQUESTS as f64;
-    Measured { times: times.map(sorted), ratios, bytes_read, store: store.len() }
+    Measured { times: times.map(sorted), ratios, bytes_read: case.bytes_read(), store: case.store.len() }
 }
 
 fn ratio_text(ratios: &[f64]) -> String {
