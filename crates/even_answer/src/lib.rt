@@ -2,7 +2,7 @@
 ghost use mathlib.Core.Path.{_≡_};
 ghost use mathlib.Core.Bool.{_&&_};
 ghost use mathlib.Core.List.{zipWith};
-ghost use Prim.Native.Nat.{_+_, _*_, _≤_};
+ghost use Prim.Native.Nat.{_+_, _*_, _^_, _≤_};
 ghost use lib.ListN.{length, replicate};
 ghost use Rattle.lists.specs.Parts.{cut, put};
 ghost use Rattle.lists.specs.Below.{allBelow, Below};
@@ -59,12 +59,20 @@ fn add_symbol(first: bool, store: &[u8], start: usize, out: &mut [u8])
     }
 }
 
-// The answer to one row of the set, whose numbers are the first of `numbers`, into `out`.
-fn answer_row(n: usize, k: usize, s: usize, store: &[u8], set: u8, numbers: &[u8], out: &mut [u8])
-    requires { ⌜ SetAnswerable n k s (now store) set 1 (now numbers) × (length (now out) ≡ s) ⌝ }
+// The answer to one row of the set, whose numbers are the first of `numbers`, into `out`; a message has `symbols` symbols.
+fn answer_row(
+    n: usize,
+    k: usize,
+    s: usize,
+    symbols: usize,
+    store: &[u8],
+    set: u8,
+    numbers: &[u8],
+    out: &mut [u8],
+)
+    requires { ⌜ SetAnswerable n k s (now store) set 1 (now numbers) × (length (now out) ≡ s) × (symbols ≡ n ^ k) ⌝ }
     ensures { λ _. ⌜ now (out .exit) ≡ rowAnswer xor n k s (now (store .entry)) (setIn k set) (now (numbers .entry)) ⌝ }
 {
-    let symbols = parameters::power(n, k);
     let mut rest = set;
     let mut taken = 0;
     let mut p = 0;
@@ -84,13 +92,14 @@ fn answer_set(
     n: usize,
     k: usize,
     s: usize,
+    symbols: usize,
     store: &[u8],
     set: u8,
     rows: usize,
     numbers: &[u8],
     out: &mut [u8],
 )
-    requires { ⌜ SetAnswerable n k s (now store) set rows (now numbers) × (rows * s ≤ length (now out)) ⌝ }
+    requires { ⌜ SetAnswerable n k s (now store) set rows (now numbers) × (rows * s ≤ length (now out)) × (symbols ≡ n ^ k) ⌝ }
     ensures { λ _. ⌜ now (out .exit) ≡ put 0 (rowAnswers xor n k s (now (store .entry)) (replicate rows (setIn k set)) (now (numbers .entry))) (now (out .entry)) ⌝ }
 {
     let size = u8::count_ones(set) as usize;
@@ -99,7 +108,16 @@ fn answer_set(
         let at = row * size;
         let from = row * s;
         let to = from + s;
-        answer_row(n, k, s, store, set, &numbers[at..], &mut out[from..to]);
+        answer_row(
+            n,
+            k,
+            s,
+            symbols,
+            store,
+            set,
+            &numbers[at..],
+            &mut out[from..to],
+        );
         row += 1;
     }
 }
@@ -109,6 +127,7 @@ pub fn answer(n: usize, k: usize, s: usize, store: &[u8], query: &[u8], out: &mu
     requires { ⌜ Answerable n k s (now store) (now query) (now out) ⌝ }
     ensures { λ _. ⌜ now (out .exit) ≡ put 0 (evenAnswer xor n k s (now (store .entry)) (now (query .entry))) (now (out .entry)) ⌝ }
 {
+    let symbols = parameters::power(n, k);
     let sets = even_layout::ordered_sets(k);
     let count = parameters::power(2, k) - 1;
     let mut at = 0;
@@ -117,7 +136,17 @@ pub fn answer(n: usize, k: usize, s: usize, store: &[u8], query: &[u8], out: &mu
     while i < count {
         let set = sets[i];
         let rows = even_layout::rows_of(n, set);
-        answer_set(n, k, s, store, set, rows, &query[at..], &mut out[end..]);
+        answer_set(
+            n,
+            k,
+            s,
+            symbols,
+            store,
+            set,
+            rows,
+            &query[at..],
+            &mut out[end..],
+        );
         at += rows * u8::count_ones(set) as usize;
         end += rows * s;
         i += 1;

@@ -1,12 +1,11 @@
 -- The layout of an even query as tables (document 01, 'Even code'; source 003, section IV-B): what the steps of this crate write, and the table of first rows.
 use Prim.Native.Nat.{ℕ, zero, suc, _+_, _-_, _*_, _/_, _%_, _^_, _≤_}
-use mathlib.Core.Bool.{Bool, true, false, cond, _&&_}
-use mathlib.Core.List.{List, [], _∷_, _++_, map}
-use lib.Count.{ones as count}
+use mathlib.Core.Bool.{Bool, cond, _&&_}
+use mathlib.Core.List.{List, [], _∷_, _++_, map, flatMap}
 use lib.Dec.{eqb, ltb}
+use Rattle.lists.specs.Parts.{cut}
 use Rattle.lists.specs.Ranges.{range}
-use Rattle.lists.specs.Sums.{keep}
-use Rattle.even_places.specs.Sets.{ones}
+use Rattle.even_places.specs.Sets.{ones, byteOf, allSets}
 use Rattle.even_places.specs.Rule.{layout, firstRow}
 
 -- what the layout needs of the bounds on N and K
@@ -21,18 +20,13 @@ unfoldable pub setIn : ℕ → ℕ → List Bool
 setIn zero byte = []
 setIn (suc K) byte = eqb (byte % 2) 1 ∷ setIn K (byte / 2)
 
--- all subsets of K messages: those with the first message, then those without it
-unfoldable pub subsets : ℕ → List (List Bool)
-subsets zero = [] ∷ []
-subsets (suc K) = map (λ A. true ∷ A) (subsets K) ++ map (λ A. false ∷ A) (subsets K)
+-- the sets of 0, 1, .., 8 messages in the order of a query, each time with the empty one after them: those of K messages stand from 2^K on
+unfoldable pub listedSets : List ℕ
+listedSets = 0 ∷ flatMap (λ K. map byteOf (allSets K) ++ 0 ∷ []) (range 0 9)
 
--- the bytes of sets with one message more in front, which is in all of them or in none
-unfoldable pub doubled : ℕ → List ℕ → List ℕ
-doubled low bytes = map (λ byte. byte * 2 + low) bytes
-
--- the bytes with `block` ones
-unfoldable pub ofBlock : ℕ → List ℕ → List ℕ
-ofBlock block bytes = keep (λ byte. eqb (count byte) block) bytes
+-- the same in rows of eight
+unfoldable pub listedRows : List (List ℕ)
+listedRows = map (λ row. cut (row * 8) 8 listedSets) (range 0 64)
 
 -- how many rows of a query have set A
 unfoldable pub rowsOf : ℕ → List Bool → ℕ

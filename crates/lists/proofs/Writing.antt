@@ -3,10 +3,10 @@
 use mathlib.Core.Path.{_≡_, refl, sym, ap, _∙_}
 use mathlib.Core.List.{List, [], _∷_, _++_, append-nil}
 use Prim.Native.Nat.{ℕ, zero, suc, _+_, _-_, _≤_, _<_}
-use native.Mathlib.Nat.{zero-add, add-zero, add-suc, suc-add, sub-zero, zero-sub, suc-sub-suc, not-suc-le-zero, le-of-suc-le-suc, le-of-eq}
+use native.Mathlib.Nat.{add-zero, add-suc, suc-add, sub-zero, zero-sub, suc-sub-suc, not-suc-le-zero, le-of-suc-le-suc, le-of-eq}
 use native.Mathlib.Omega.{arith}
 use native.Mathlib.Numerals.{add-one}
-use lib.ListN.{length, take, drop, length-drop, drop-of-length-le, set, replicate, take-append-drop, length-set, length-append, length-replicate}
+use lib.ListN.{length, take, drop, length-drop, drop-of-length-le, set, replicate, take-append-drop, length-set, length-append}
 use lib.Seq.{take-all}
 use Rattle.lists.specs.Parts.{put}
 use Rattle.lists.specs.Padded.{padded}
@@ -38,13 +38,6 @@ drop-replicate (suc j) (suc n) x = drop-replicate j n x ∙ rw (suc-sub-suc n j)
 -- written over zeros
 pub put-padded : (bytes : List ℕ) (size : ℕ) → put 0 bytes (replicate size 0) ≡ padded size bytes
 put-padded bytes size = ap (λ (l : List ℕ). bytes ++ l) (drop-replicate (length bytes) size 0)
-
-pub put-two : (front back : List ℕ) (at size : ℕ) → length front ≡ at → at ≤ size
-    → put at back (put 0 front (replicate size 0)) ≡ padded size (front ++ back)
-put-two front back at size e h =
-    let room : 0 + length front ≤ length (replicate {A = ℕ} size 0) = omega (arith, length-replicate {A = ℕ} size 0) in
-    ap (λ (n : ℕ). put n back (put 0 front (replicate size 0))) (sym e ∙ sym (zero-add (length front)))
-    ∙ sym (put-append 0 front back (replicate size 0) room) ∙ put-padded (front ++ back) size
 
 -- the rest of a buffer from a place on, lent as a part
 pub rest-part : (at : ℕ) (buffer : List ℕ) → take (length buffer - at) (drop at buffer) ≡ drop at buffer

@@ -27,30 +27,37 @@ use Rattle.even_answer.proofs.answer.Statement.{statement}
 use Rattle.even_answer.proofs.answer.Tie as tie
 
 abbrev Inv-loop : tie.InvT-loop
-Inv-loop n k s store query out₀ sets count at₀ end₀ i₀ out at end i =
+Inv-loop n k s store query out₀ symbols sets count at₀ end₀ i₀ out at end i =
     (i ≤ count)
     × (at + length (positionsFrom n k i) ≡ length query)
     × Pending 0 (evenAnswer xor n k s store query) out₀ end (rowAnswers xor n k s store (rowsFrom n k i) (drop at query)) out
 
 abbrev μ-loop : tie.MeasureT-loop
-μ-loop n k s store query out₀ sets count at₀ end₀ i₀ out at end i = count - i
-
-ordered-sets-requires : tie.Need-ordered-sets-requires Inv-loop μ-loop
-ordered-sets-requires c κs = even-bounds (c .before .before .before .args .n) (c .before .before .before .args .k) (c .before .before .before .args .s) (c .before .before .before .pre .fits) .messages-high
+μ-loop n k s store query out₀ symbols sets count at₀ end₀ i₀ out at end i = count - i
 
 power-requires : tie.Need-power-requires Inv-loop μ-loop
 power-requires c κs =
+    let start = c .before .before .before in
+    omega (arith, even-bounds (start .args .n) (start .args .k) (start .args .s) (start .pre .fits) .symbols-high)
+
+ordered-sets-requires : tie.Need-ordered-sets-requires Inv-loop μ-loop
+ordered-sets-requires c κs =
     let start = c .before .before .before .before in
+    even-bounds (start .args .n) (start .args .k) (start .args .s) (start .pre .fits) .messages-high
+
+power-requires-2 : tie.Need-power-requires-2 Inv-loop μ-loop
+power-requires-2 c κs =
+    let start = c .before .before .before .before .before in
     let k = start .args .k in
     omega (arith, subsets-few k (even-bounds (start .args .n) k (start .args .s) (start .pre .fits) .messages-high))
 
 sub-count : tie.Need-sub-count Inv-loop μ-loop
-sub-count c = omega (arith, c .power .ensures, all-length (c .before .before .before .before .before .args .k))
+sub-count c = omega (arith, c .power2 .ensures, all-length (c .before .before .before .before .before .before .args .k))
 
 loop-holds : tie.Need-loop-holds Inv-loop μ-loop
 unfolding evenAnswer evenSizes
 loop-holds c =
-    let start = c .before .before .before .before .before in
+    let start = c .before .before .before .before .before .before in
     let n = start .args .n in
     let k = start .args .k in
     let s = start .args .s in
@@ -58,7 +65,7 @@ loop-holds c =
     let query = start .args .query .now in
     let given = start .pre in
     let bounds = layout-fits n k s (given .fits) in
-    let bytes : Below 256 store = λ j l. c .before .before .before .before .shared-slice-known .given j .fits in
+    let bytes : Below 256 store = λ j l. c .before .before .before .before .before .shared-slice-known .given j .fits in
     let long = answers-length n k s store (given .whole) bytes query (layout-long n k) (given .named) in
     let room : 0 + length (rowAnswers xor n k s store (layout n k) query) ≤ length (start .args .out .now) =
     omega (arith, ap (λ (m : ℕ). m * s) (layout-length n k bounds), given .room) in (
@@ -70,128 +77,129 @@ loop-holds c =
 array-read-set : tie.Need-array-read-set Inv-loop μ-loop
 array-read-set c =
     let at = c .before in
-    let start = at .before .before .before .before .before .before in
+    let start = at .before .before .before .before .before .before .before in
     let bounds = layout-fits (start .args .n) (start .args .k) (start .args .s) (start .pre .fits) in
-    omega (arith, at .before .power .ensures, subsets-few (start .args .k) (bounds .messages-high))
+    omega (arith, at .before .power2 .ensures, subsets-few (start .args .k) (bounds .messages-high))
 
 rows-of-requires : tie.Need-rows-of-requires Inv-loop μ-loop
 rows-of-requires c κs =
     let at = c .before in
-    let start = at .before .before .before .before .before .before in
+    let start = at .before .before .before .before .before .before .before in
     let n = start .args .n in
     let k = start .args .k in
     let bounds = layout-fits n k (start .args .s) (start .pre .fits) in
-    let inside : at .loop .i < length (allSets k) = omega (arith, at .before .power .ensures, all-length k) in
+    let inside : at .loop .i < length (allSets k) = omega (arith, at .before .power2 .ensures, all-length k) in
     let b = byte-at n k (at .loop .i) (at .before .before .ordered-sets .result) (replicate (256 - length (allSets k)) 0) bounds (at .before .before .ordered-sets .ensures) inside in
     (omega (arith, bounds .servers-low), b .some, omega (arith, b .rows, b .high))
 
 sub-answer-set : tie.Need-sub-answer-set Inv-loop μ-loop
 sub-answer-set c =
     let at = c .before .before in
-    let start = at .before .before .before .before .before .before in
-    let inside : at .loop .i < length (allSets (start .args .k)) = omega (arith, at .before .power .ensures, all-length (start .args .k)) in
-    let turn = set-turn (at .loop .i) (at .loop .at) (start .pre) (λ j l. at .before .before .before .before .before .shared-slice-known .given j .fits)
+    let start = at .before .before .before .before .before .before .before in
+    let inside : at .loop .i < length (allSets (start .args .k)) = omega (arith, at .before .power2 .ensures, all-length (start .args .k)) in
+    let turn = set-turn (at .loop .i) (at .loop .at) (start .pre) (λ j l. at .before .before .before .before .before .before .shared-slice-known .given j .fits)
     (at .before .before .ordered-sets .ensures) inside (c .rows-of .ensures) (at .loop .inv .1) (at .loop .inv .2) in
     omega (arith, turn .read, turn .written)
 
 part-answer-set-start : tie.Need-part-answer-set-start Inv-loop μ-loop
 part-answer-set-start c =
     let at = c .before .before in
-    let start = at .before .before .before .before .before .before in
-    let inside : at .loop .i < length (allSets (start .args .k)) = omega (arith, at .before .power .ensures, all-length (start .args .k)) in
-    let turn = set-turn (at .loop .i) (at .loop .at) (start .pre) (λ j l. at .before .before .before .before .before .shared-slice-known .given j .fits)
+    let start = at .before .before .before .before .before .before .before in
+    let inside : at .loop .i < length (allSets (start .args .k)) = omega (arith, at .before .power2 .ensures, all-length (start .args .k)) in
+    let turn = set-turn (at .loop .i) (at .loop .at) (start .pre) (λ j l. at .before .before .before .before .before .before .shared-slice-known .given j .fits)
     (at .before .before .ordered-sets .ensures) inside (c .rows-of .ensures) (at .loop .inv .1) (at .loop .inv .2) in
     omega (arith, turn .read, turn .written)
 
 part-answer-set-end : tie.Need-part-answer-set-end Inv-loop μ-loop
 part-answer-set-end c =
     let at = c .before .before in
-    let start = at .before .before .before .before .before .before in
-    let inside : at .loop .i < length (allSets (start .args .k)) = omega (arith, at .before .power .ensures, all-length (start .args .k)) in
-    let turn = set-turn (at .loop .i) (at .loop .at) (start .pre) (λ j l. at .before .before .before .before .before .shared-slice-known .given j .fits)
+    let start = at .before .before .before .before .before .before .before in
+    let inside : at .loop .i < length (allSets (start .args .k)) = omega (arith, at .before .power2 .ensures, all-length (start .args .k)) in
+    let turn = set-turn (at .loop .i) (at .loop .at) (start .pre) (λ j l. at .before .before .before .before .before .before .shared-slice-known .given j .fits)
     (at .before .before .ordered-sets .ensures) inside (c .rows-of .ensures) (at .loop .inv .1) (at .loop .inv .2) in
     omega (arith, turn .read, turn .written)
 
 sub-answer-set-2 : tie.Need-sub-answer-set-2 Inv-loop μ-loop
 sub-answer-set-2 c =
     let at = c .before .before .before in
-    let start = at .before .before .before .before .before .before in
-    let inside : at .loop .i < length (allSets (start .args .k)) = omega (arith, at .before .power .ensures, all-length (start .args .k)) in
-    let turn = set-turn (at .loop .i) (at .loop .at) (start .pre) (λ j l. at .before .before .before .before .before .shared-slice-known .given j .fits)
+    let start = at .before .before .before .before .before .before .before in
+    let inside : at .loop .i < length (allSets (start .args .k)) = omega (arith, at .before .power2 .ensures, all-length (start .args .k)) in
+    let turn = set-turn (at .loop .i) (at .loop .at) (start .pre) (λ j l. at .before .before .before .before .before .before .shared-slice-known .given j .fits)
     (at .before .before .ordered-sets .ensures) inside (c .before .rows-of .ensures) (at .loop .inv .1) (at .loop .inv .2) in
     omega (arith, turn .read, turn .written)
 
 part-answer-set-start-2 : tie.Need-part-answer-set-start-2 Inv-loop μ-loop
 part-answer-set-start-2 c =
     let at = c .before .before .before in
-    let start = at .before .before .before .before .before .before in
-    let inside : at .loop .i < length (allSets (start .args .k)) = omega (arith, at .before .power .ensures, all-length (start .args .k)) in
-    let turn = set-turn (at .loop .i) (at .loop .at) (start .pre) (λ j l. at .before .before .before .before .before .shared-slice-known .given j .fits)
+    let start = at .before .before .before .before .before .before .before in
+    let inside : at .loop .i < length (allSets (start .args .k)) = omega (arith, at .before .power2 .ensures, all-length (start .args .k)) in
+    let turn = set-turn (at .loop .i) (at .loop .at) (start .pre) (λ j l. at .before .before .before .before .before .before .shared-slice-known .given j .fits)
     (at .before .before .ordered-sets .ensures) inside (c .before .rows-of .ensures) (at .loop .inv .1) (at .loop .inv .2) in
     omega (arith, turn .read, turn .written)
 
 part-answer-set-end-2 : tie.Need-part-answer-set-end-2 Inv-loop μ-loop
 part-answer-set-end-2 c =
     let at = c .before .before .before in
-    let start = at .before .before .before .before .before .before in
-    let inside : at .loop .i < length (allSets (start .args .k)) = omega (arith, at .before .power .ensures, all-length (start .args .k)) in
-    let turn = set-turn (at .loop .i) (at .loop .at) (start .pre) (λ j l. at .before .before .before .before .before .shared-slice-known .given j .fits)
+    let start = at .before .before .before .before .before .before .before in
+    let inside : at .loop .i < length (allSets (start .args .k)) = omega (arith, at .before .power2 .ensures, all-length (start .args .k)) in
+    let turn = set-turn (at .loop .i) (at .loop .at) (start .pre) (λ j l. at .before .before .before .before .before .before .shared-slice-known .given j .fits)
     (at .before .before .ordered-sets .ensures) inside (c .before .rows-of .ensures) (at .loop .inv .1) (at .loop .inv .2) in
     omega (arith, turn .read, turn .written)
 
 answer-set-requires : tie.Need-answer-set-requires Inv-loop μ-loop
 answer-set-requires c κs =
     let at = c .before .before .before .before in
-    let start = at .before .before .before .before .before .before in
-    let inside : at .loop .i < length (allSets (start .args .k)) = omega (arith, at .before .power .ensures, all-length (start .args .k)) in
-    let turn = set-turn (at .loop .i) (at .loop .at) (start .pre) (λ j l. at .before .before .before .before .before .shared-slice-known .given j .fits)
+    let start = at .before .before .before .before .before .before .before in
+    let inside : at .loop .i < length (allSets (start .args .k)) = omega (arith, at .before .power2 .ensures, all-length (start .args .k)) in
+    let turn = set-turn (at .loop .i) (at .loop .at) (start .pre) (λ j l. at .before .before .before .before .before .before .shared-slice-known .given j .fits)
     (at .before .before .ordered-sets .ensures) inside (c .before .before .rows-of .ensures) (at .loop .inv .1) (at .loop .inv .2) in (
       rw (rest-part (at .loop .at) (start .args .query .now)) (turn .given),
       rw (rest-part (at .loop .end) (at .loop .out)) (omega (arith, length-drop (at .loop .end) (at .loop .out), turn .written)),
+      at .before .before .before .power .ensures,
     )
 
 cast-at : tie.Need-cast-at Inv-loop μ-loop
 cast-at c =
     let at = c .before .before .before .before .before .before .before in
-    let start = at .before .before .before .before .before .before in
-    let inside : at .loop .i < length (allSets (start .args .k)) = omega (arith, at .before .power .ensures, all-length (start .args .k)) in
-    let turn = set-turn (at .loop .i) (at .loop .at) (start .pre) (λ j l. at .before .before .before .before .before .shared-slice-known .given j .fits)
+    let start = at .before .before .before .before .before .before .before in
+    let inside : at .loop .i < length (allSets (start .args .k)) = omega (arith, at .before .power2 .ensures, all-length (start .args .k)) in
+    let turn = set-turn (at .loop .i) (at .loop .at) (start .pre) (λ j l. at .before .before .before .before .before .before .shared-slice-known .given j .fits)
     (at .before .before .ordered-sets .ensures) inside (c .before .before .before .before .before .rows-of .ensures) (at .loop .inv .1) (at .loop .inv .2) in
     omega (arith, ones-le 8 (getD (at .before .before .ordered-sets .result) (at .loop .i) 0) (turn .small))
 
 mul-at : tie.Need-mul-at Inv-loop μ-loop
 mul-at c =
     let at = c .before .before .before .before .before .before .before in
-    let start = at .before .before .before .before .before .before in
-    let inside : at .loop .i < length (allSets (start .args .k)) = omega (arith, at .before .power .ensures, all-length (start .args .k)) in
-    let turn = set-turn (at .loop .i) (at .loop .at) (start .pre) (λ j l. at .before .before .before .before .before .shared-slice-known .given j .fits)
+    let start = at .before .before .before .before .before .before .before in
+    let inside : at .loop .i < length (allSets (start .args .k)) = omega (arith, at .before .power2 .ensures, all-length (start .args .k)) in
+    let turn = set-turn (at .loop .i) (at .loop .at) (start .pre) (λ j l. at .before .before .before .before .before .before .shared-slice-known .given j .fits)
     (at .before .before .ordered-sets .ensures) inside (c .before .before .before .before .before .rows-of .ensures) (at .loop .inv .1) (at .loop .inv .2) in
     omega (arith, turn .read, turn .written)
 
 add-at : tie.Need-add-at Inv-loop μ-loop
 add-at c =
     let at = c .before .before .before .before .before .before .before in
-    let start = at .before .before .before .before .before .before in
-    let inside : at .loop .i < length (allSets (start .args .k)) = omega (arith, at .before .power .ensures, all-length (start .args .k)) in
-    let turn = set-turn (at .loop .i) (at .loop .at) (start .pre) (λ j l. at .before .before .before .before .before .shared-slice-known .given j .fits)
+    let start = at .before .before .before .before .before .before .before in
+    let inside : at .loop .i < length (allSets (start .args .k)) = omega (arith, at .before .power2 .ensures, all-length (start .args .k)) in
+    let turn = set-turn (at .loop .i) (at .loop .at) (start .pre) (λ j l. at .before .before .before .before .before .before .shared-slice-known .given j .fits)
     (at .before .before .ordered-sets .ensures) inside (c .before .before .before .before .before .rows-of .ensures) (at .loop .inv .1) (at .loop .inv .2) in
     omega (arith, turn .read, turn .written)
 
 mul-end : tie.Need-mul-end Inv-loop μ-loop
 mul-end c =
     let at = c .before .before .before .before .before .before .before in
-    let start = at .before .before .before .before .before .before in
-    let inside : at .loop .i < length (allSets (start .args .k)) = omega (arith, at .before .power .ensures, all-length (start .args .k)) in
-    let turn = set-turn (at .loop .i) (at .loop .at) (start .pre) (λ j l. at .before .before .before .before .before .shared-slice-known .given j .fits)
+    let start = at .before .before .before .before .before .before .before in
+    let inside : at .loop .i < length (allSets (start .args .k)) = omega (arith, at .before .power2 .ensures, all-length (start .args .k)) in
+    let turn = set-turn (at .loop .i) (at .loop .at) (start .pre) (λ j l. at .before .before .before .before .before .before .shared-slice-known .given j .fits)
     (at .before .before .ordered-sets .ensures) inside (c .before .before .before .before .before .rows-of .ensures) (at .loop .inv .1) (at .loop .inv .2) in
     omega (arith, turn .read, turn .written)
 
 add-end : tie.Need-add-end Inv-loop μ-loop
 add-end c =
     let at = c .before .before .before .before .before .before .before in
-    let start = at .before .before .before .before .before .before in
-    let inside : at .loop .i < length (allSets (start .args .k)) = omega (arith, at .before .power .ensures, all-length (start .args .k)) in
-    let turn = set-turn (at .loop .i) (at .loop .at) (start .pre) (λ j l. at .before .before .before .before .before .shared-slice-known .given j .fits)
+    let start = at .before .before .before .before .before .before .before in
+    let inside : at .loop .i < length (allSets (start .args .k)) = omega (arith, at .before .power2 .ensures, all-length (start .args .k)) in
+    let turn = set-turn (at .loop .i) (at .loop .at) (start .pre) (λ j l. at .before .before .before .before .before .before .shared-slice-known .given j .fits)
     (at .before .before .ordered-sets .ensures) inside (c .before .before .before .before .before .rows-of .ensures) (at .loop .inv .1) (at .loop .inv .2) in
     omega (arith, turn .read, turn .written)
 
@@ -204,9 +212,9 @@ loop-less c = omega arith
 loop-again : tie.Need-loop-again Inv-loop μ-loop
 loop-again c =
     let at = c .before .before .before .before .before .before .before in
-    let start = at .before .before .before .before .before .before in
-    let inside : at .loop .i < length (allSets (start .args .k)) = omega (arith, at .before .power .ensures, all-length (start .args .k)) in
-    let turn = set-turn (at .loop .i) (at .loop .at) (start .pre) (λ j l. at .before .before .before .before .before .shared-slice-known .given j .fits)
+    let start = at .before .before .before .before .before .before .before in
+    let inside : at .loop .i < length (allSets (start .args .k)) = omega (arith, at .before .power2 .ensures, all-length (start .args .k)) in
+    let turn = set-turn (at .loop .i) (at .loop .at) (start .pre) (λ j l. at .before .before .before .before .before .before .shared-slice-known .given j .fits)
     (at .before .before .ordered-sets .ensures) inside (c .before .before .before .before .before .rows-of .ensures) (at .loop .inv .1) (at .loop .inv .2) in
     let end = at .loop .end in
     let out = at .loop .out in
@@ -228,9 +236,9 @@ returns : tie.Need-returns Inv-loop μ-loop
 unfolding rowAnswers
 returns c =
     let at = c .before in
-    let start = at .before .before .before .before .before .before in
+    let start = at .before .before .before .before .before .before .before in
     let k = start .args .k in
-    let over : length (allSets k) ≤ at .loop .i = omega (arith, at .before .power .ensures, all-length k) in
+    let over : length (allSets k) ≤ at .loop .i = omega (arith, at .before .power2 .ensures, all-length k) in
     pending-done (rw (rows-none (start .args .n) k (at .loop .i) over) at (at .loop .inv .2))
 
 pub answer-spec : {M : Type 1} → statement M
@@ -239,8 +247,9 @@ answer-spec =
     (tie.spec
     Inv-loop
     μ-loop
-    ordered-sets-requires
     power-requires
+    ordered-sets-requires
+    power-requires-2
     sub-count
     loop-holds
     array-read-set

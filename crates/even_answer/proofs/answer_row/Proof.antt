@@ -24,22 +24,19 @@ use Rattle.even_answer.proofs.answer_row.Statement.{statement}
 use Rattle.even_answer.proofs.answer_row.Tie as tie
 
 abbrev Inv-loop : tie.InvT-loop
-Inv-loop n k s store set numbers out₀ symbols rest₀ taken₀ p₀ out rest taken p =
+Inv-loop n k s symbols store set numbers out₀ rest₀ taken₀ p₀ out rest taken p =
     (p ≤ k)
     × (length out ≡ s)
     × (taken + length (membersFrom k p rest) ≡ count set)
     × (resumed (eqb taken 0) s out (zipWith (symbolAt xor n k s store) (membersFrom k p rest) (drop taken numbers)) ≡ rowAnswer xor n k s store (setIn k set) numbers)
 
 abbrev μ-loop : tie.MeasureT-loop
-μ-loop n k s store set numbers out₀ symbols rest₀ taken₀ p₀ out rest taken p = k - p
-
-power-requires : tie.Need-power-requires Inv-loop μ-loop
-power-requires c κs = omega (arith, even-bounds (c .before .before .before .args .n) (c .before .before .before .args .k) (c .before .before .before .args .s) (c .before .before .before .pre .0 .fits) .symbols-high)
+μ-loop n k s symbols store set numbers out₀ rest₀ taken₀ p₀ out rest taken p = k - p
 
 loop-holds : tie.Need-loop-holds Inv-loop μ-loop
 unfolding rowAnswer
 loop-holds c =
-    let start = c .before .before .before .before in
+    let start = c .before .before .before in
     let k = start .args .k in
     let set = start .args .set in (
       omega arith,
@@ -51,8 +48,8 @@ loop-holds c =
 shared-slice-read-number : tie.Need-shared-slice-read-number Inv-loop μ-loop
 shared-slice-read-number c =
     let at = c .before .before .before in
-    let start = at .before .before .before .before .before in
-    let turn = symbol-turn (at .loop .p) (at .loop .taken) (at .loop .rest) (start .pre .0) (at .before .power .ensures) (omega arith) (c .before .if1 .taken) (at .loop .inv .2) in
+    let start = at .before .before .before .before in
+    let turn = symbol-turn (at .loop .p) (at .loop .taken) (at .loop .rest) (start .pre .0) (start .pre .2) (omega arith) (c .before .if1 .taken) (at .loop .inv .2) in
     turn .inside
 
 cast-number : tie.Need-cast-number Inv-loop μ-loop
@@ -61,39 +58,39 @@ cast-number c = omega (arith, c .shared-slice-known3 .given (c .before .before .
 mul-add-symbol : tie.Need-mul-add-symbol Inv-loop μ-loop
 mul-add-symbol c =
     let at = c .before .before .before in
-    let start = at .before .before .before .before .before in
+    let start = at .before .before .before .before in
     let bounds = even-bounds (start .args .n) (start .args .k) (start .args .s) (start .pre .0 .fits) in
-    let most = mul-le-mul (let w : at .loop .p ≤ 8 = omega (arith, bounds .messages-high) in w) (let w : at .before .power .result ≤ 256 = omega (arith, at .before .power .ensures, bounds .symbols-high) in w) in
+    let most = mul-le-mul (let w : at .loop .p ≤ 8 = omega (arith, bounds .messages-high) in w) (let w : start .args .symbols ≤ 256 = omega (arith, start .pre .2, bounds .symbols-high) in w) in
     omega arith
 
 add-add-symbol : tie.Need-add-add-symbol Inv-loop μ-loop
 add-add-symbol c =
     let at = c .before .before .before in
-    let start = at .before .before .before .before .before in
-    let turn = symbol-turn (at .loop .p) (at .loop .taken) (at .loop .rest) (start .pre .0) (at .before .power .ensures) (omega arith) (c .before .if1 .taken) (at .loop .inv .2) in
+    let start = at .before .before .before .before in
+    let turn = symbol-turn (at .loop .p) (at .loop .taken) (at .loop .rest) (start .pre .0) (start .pre .2) (omega arith) (c .before .if1 .taken) (at .loop .inv .2) in
     let bounds = even-bounds (start .args .n) (start .args .k) (start .args .s) (start .pre .0 .fits) in
-    let most = mul-le-mul (let w : at .loop .p ≤ 8 = omega (arith, bounds .messages-high) in w) (let w : at .before .power .result ≤ 256 = omega (arith, at .before .power .ensures, bounds .symbols-high) in w) in
+    let most = mul-le-mul (let w : at .loop .p ≤ 8 = omega (arith, bounds .messages-high) in w) (let w : start .args .symbols ≤ 256 = omega (arith, start .pre .2, bounds .symbols-high) in w) in
     omega (arith, turn .number)
 
 mul-add-symbol-2 : tie.Need-mul-add-symbol-2 Inv-loop μ-loop
 mul-add-symbol-2 c =
     let at = c .before .before .before in
-    let start = at .before .before .before .before .before in
-    let turn = symbol-turn (at .loop .p) (at .loop .taken) (at .loop .rest) (start .pre .0) (at .before .power .ensures) (omega arith) (c .before .if1 .taken) (at .loop .inv .2) in
+    let start = at .before .before .before .before in
+    let turn = symbol-turn (at .loop .p) (at .loop .taken) (at .loop .rest) (start .pre .0) (start .pre .2) (omega arith) (c .before .if1 .taken) (at .loop .inv .2) in
     omega (arith, turn .room)
 
 add-symbol-requires : tie.Need-add-symbol-requires Inv-loop μ-loop
 add-symbol-requires c κs =
     let at = c .before .before .before .before in
-    let start = at .before .before .before .before .before in
-    let turn = symbol-turn (at .loop .p) (at .loop .taken) (at .loop .rest) (start .pre .0) (at .before .power .ensures) (omega arith) (c .before .before .if1 .taken) (at .loop .inv .2) in
+    let start = at .before .before .before .before in
+    let turn = symbol-turn (at .loop .p) (at .loop .taken) (at .loop .rest) (start .pre .0) (start .pre .2) (omega arith) (c .before .before .if1 .taken) (at .loop .inv .2) in
     omega (arith, turn .room, at .loop .inv .1)
 
 add-taken : tie.Need-add-taken Inv-loop μ-loop
 add-taken c =
     let at = c .before .before .before .before .before .before .before in
-    let start = at .before .before .before .before .before in
-    let turn = symbol-turn (at .loop .p) (at .loop .taken) (at .loop .rest) (start .pre .0) (at .before .power .ensures) (omega arith) (c .before .before .before .before .before .if1 .taken) (at .loop .inv .2) in
+    let start = at .before .before .before .before in
+    let turn = symbol-turn (at .loop .p) (at .loop .taken) (at .loop .rest) (start .pre .0) (start .pre .2) (omega arith) (c .before .before .before .before .before .if1 .taken) (at .loop .inv .2) in
     omega (arith, turn .inside)
 
 add-p : tie.Need-add-p Inv-loop μ-loop
@@ -105,25 +102,25 @@ loop-less c = omega arith
 loop-again : tie.Need-loop-again Inv-loop μ-loop
 loop-again c =
     let at = c .before .before in
-    let start = at .before .before .before .before .before in
+    let start = at .before .before .before .before in
     let n = start .args .n in
     let k = start .args .k in
     let s = start .args .s in
     let store = start .args .store .now in
     let numbers = start .args .numbers .now in
     let given = start .pre .0 in
-    let symbols = at .before .power in
+    let symbols = start .args .symbols in
     let p = at .loop .p in
     let taken = at .loop .taken in
     let rest = at .loop .rest in
     let out = at .loop .out in
-    let bytes : Below 256 store = λ i l. at .before .before .before .before .shared-slice-known .given i .fits in
+    let bytes : Below 256 store = λ i l. at .before .before .before .shared-slice-known .given i .fits in
     ⊎-elim
     (λ t.
-    let turn = symbol-turn p taken rest given (symbols .ensures) (omega arith) (t .0 .taken) (at .loop .inv .2) in
+    let turn = symbol-turn p taken rest given (start .pre .2) (omega arith) (t .0 .taken) (at .loop .inv .2) in
     let number = getD numbers taken 0 in
     let x = symbolAt xor n k s store p number in
-    let place = symbol-place n k s store (given .whole) (symbols .result) p number (length out) (symbols .ensures) (at .loop .inv .1) in
+    let place = symbol-place n k s store (given .whole) symbols p number (length out) (start .pre .2) (at .loop .inv .1) in
     let made : c .if1 .out ≡ added (eqb taken 0) out x = t .6 ∙ t .3 .ensures ∙ ap (added (eqb taken 0) out) place in
     rw (made, t .7) (
       omega arith,
@@ -138,13 +135,13 @@ loop-again c =
     (c .if1 .came)
 
 same-length : tie.Need-same-length Inv-loop μ-loop
-same-length c = c .before .loop .inv .1 ∙ sym (c .before .before .before .before .before .before .pre .1)
+same-length c = c .before .loop .inv .1 ∙ sym (c .before .before .before .before .before .pre .1)
 
 returns : tie.Need-returns Inv-loop μ-loop
 unfolding members setIn zipWith totalFrom
 returns c =
     let at = c .before in
-    let start = at .before .before .before .before .before in
+    let start = at .before .before .before .before in
     let none : start .args .k - at .loop .p ≡ 0 = omega arith in
     let all : at .loop .taken + 0 ≡ count (start .args .set) = rw none at (at .loop .inv .2) in
     let later = ne-eqb (at .loop .taken) 0 (λ e. let w : ⊥ = omega (arith, start .pre .0 .some) in w) in
@@ -156,7 +153,6 @@ answer-row-spec =
     (tie.spec
     Inv-loop
     μ-loop
-    power-requires
     loop-holds
     shared-slice-read-number
     cast-number

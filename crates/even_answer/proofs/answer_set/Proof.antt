@@ -21,13 +21,13 @@ use Rattle.even_answer.proofs.answer_set.Statement.{statement}
 use Rattle.even_answer.proofs.answer_set.Tie as tie
 
 abbrev Inv-loop : tie.InvT-loop
-Inv-loop n k s store set rows numbers out₀ size row₀ out row =
+Inv-loop n k s symbols store set rows numbers out₀ size row₀ out row =
     (row ≤ rows)
     × Pending 0 (rowAnswers xor n k s store (replicate rows (setIn k set)) numbers) out₀ (row * s)
     (rowAnswers xor n k s store (replicate (rows - row) (setIn k set)) (drop (row * size) numbers)) out
 
 abbrev μ-loop : tie.MeasureT-loop
-μ-loop n k s store set rows numbers out₀ size row₀ out row = rows - row
+μ-loop n k s symbols store set rows numbers out₀ size row₀ out row = rows - row
 
 cast-size : tie.Need-cast-size Inv-loop μ-loop
 cast-size c = omega (arith, ones-le 8 (c .before .before .before .args .set) (search needs))
@@ -116,6 +116,7 @@ answer-row-requires c κs =
     let from = at .loop .row * start .args .s in (
       rw (rest-part (at .loop .row * count (start .args .set)) (start .args .numbers .now)) (row-given (start .pre .0) turn),
       rw (add-sub-cancel-left from (start .args .s)) (cut-length from (start .args .s) (at .loop .out) (omega (arith, turn .written, at .loop .inv .1 .long))),
+      start .pre .2,
     )
 
 add-row : tie.Need-add-row Inv-loop μ-loop

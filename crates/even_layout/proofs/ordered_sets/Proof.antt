@@ -1,89 +1,90 @@
--- `even_layout::ordered_sets` meets its contract: after b turns the sets of the blocks from b on are still to be written.
-use mathlib.Core.Path.{refl, sym, ap, _∙_}
-use mathlib.Core.List.{_++_, map}
-use Prim.Native.Nat.{ℕ, _+_, _-_, _≤_}
+-- `even_layout::ordered_sets` meets its contract: after i turns the sets from i on are still to be written.
+use mathlib.Core.Path.{_≡_, refl, ap, ap₂, _∙_}
+use mathlib.Core.List.{List, [], _∷_, _++_, map}
+use Prim.Native.Nat.{ℕ, _+_, _-_, _/_, _%_, _≤_, _<_}
+use native.Mathlib.Numerals.{add-one}
 use native.Mathlib.Omega.{arith}
-use lib.ListN.{length, replicate, length-map, length-append}
-use Rattle.lists.proofs.Writing.{Pending, pending-start, pending-part, pending-as, pending-done, put-padded}
-use Rattle.even_places.specs.Sets.{sets, byteOf, allSets}
-use Rattle.even_layout.specs.Layout.{subsets}
-use Rattle.even_layout.proofs.Blocks.{subsets-few, table-length, table-front, front-length, block-front, all-length, blocksFrom, blocks-all, blocks-none, blocks-more}
+use lib.ListN.{length, getD, drop, set, replicate, length-map, drop-of-length-le}
+use lib.Seq.{drop-cons}
+use Rattle.lists.proofs.Writing.{Pending, pending-start, pending-byte, pending-as, pending-done, put-padded}
+use Rattle.even_places.specs.Sets.{byteOf, allSets}
+use Rattle.even_layout.proofs.Blocks.{subsets-few, all-length, listed-entry}
 use Rattle.even_layout.proofs.ordered_sets.Statement.{statement}
 use Rattle.even_layout.proofs.ordered_sets.Tie as tie
 
 abbrev Inv-loop : tie.InvT-loop
-Inv-loop k all count sets₀ at₀ block₀ sets at block = (block ≤ k) × Pending 0 (map byteOf (allSets k)) sets₀ at (map byteOf (blocksFrom k block)) sets
+Inv-loop k table first count sets₀ i₀ sets i = (i ≤ count) × Pending 0 (map byteOf (allSets k)) sets₀ i (drop i (map byteOf (allSets k))) sets
 
 abbrev μ-loop : tie.MeasureT-loop
-μ-loop k all count sets₀ at₀ block₀ sets at block = k - block
+μ-loop k table first count sets₀ i₀ sets i = count - i
 
-subsets-requires : tie.Need-subsets-requires Inv-loop μ-loop
-subsets-requires c κs = c .pre
+listed-sets-requires : tie.Need-listed-sets-requires Inv-loop μ-loop
+listed-sets-requires c κs = tt
 
 power-requires : tie.Need-power-requires Inv-loop μ-loop
 power-requires c κs = omega (arith, subsets-few (c .before .args .k) (c .before .pre))
+
+sub-count : tie.Need-sub-count Inv-loop μ-loop
+sub-count c = omega (arith, c .power .ensures, all-length (c .before .before .args .k))
 
 loop-holds : tie.Need-loop-holds Inv-loop μ-loop
 loop-holds c =
     let k = c .before .before .args .k in
     let room : 0 + length (map byteOf (allSets k)) ≤ length (replicate {A = ℕ} 256 0) =
     omega (arith, length-map (allSets k) byteOf, all-length k, subsets-few k (c .before .before .pre)) in
-    (omega arith, rw (blocks-all k) (pending-start room))
+    (omega arith, pending-start room)
 
-add-block : tie.Need-add-block Inv-loop μ-loop
-add-block c = omega arith
-
-array-share-prefix-all : tie.Need-array-share-prefix-all Inv-loop μ-loop
-array-share-prefix-all c =
+add-place : tie.Need-add-place Inv-loop μ-loop
+add-place c =
     let start = c .before .before .before .before in
-    let k = start .args .k in
-    omega (arith, c .before .before .power .ensures, subsets-few k (start .pre), ap length (c .before .before .before .subsets .ensures), table-length k (start .pre))
+    omega (arith, c .before .before .power .ensures, subsets-few (start .args .k) (start .pre))
 
-slice-aggregate-write-block : tie.Need-slice-aggregate-write-block Inv-loop μ-loop
-slice-aggregate-write-block c =
+mul-sets : tie.Need-mul-sets Inv-loop μ-loop
+mul-sets c =
+    let start = c .before .before .before .before in
+    omega (arith, c .before .before .power .ensures, subsets-few (start .args .k) (start .pre))
+
+index-1-sets : tie.Need-index-1-sets Inv-loop μ-loop
+index-1-sets c =
+    let start = c .before .before .before .before in
+    omega (arith, c .before .before .power .ensures, subsets-few (start .args .k) (start .pre))
+
+index-2-sets : tie.Need-index-2-sets Inv-loop μ-loop
+index-2-sets c = omega arith
+
+array-write-sets : tie.Need-array-write-sets Inv-loop μ-loop
+array-write-sets c =
     let start = c .before .before .before .before .before in
-    let k = start .args .k in
-    let made = c .before .before .before .before .subsets in
-    let size = c .before .before .before .power in
-    omega (arith, size .ensures, ap length (table-front k (start .pre) (size .result) (made .result) (size .ensures) (made .ensures)), front-length k (start .pre))
+    omega (arith, c .before .before .before .power .ensures, subsets-few (start .args .k) (start .pre))
 
-slice-aggregate-write-block-2 : tie.Need-slice-aggregate-write-block-2 Inv-loop μ-loop
-slice-aggregate-write-block-2 c = sym (c .before .before .before .loop .inv .1 .long)
-
-write-block-requires : tie.Need-write-block-requires Inv-loop μ-loop
-write-block-requires c κs =
-    let at = c .before .before .before in
-    let start = at .before .before .before in
-    let k = start .args .k in
-    let made = at .before .before .subsets in
-    let size = at .before .power in
-    let block = block-front k (start .pre) (at .loop .block + 1) (size .result) (made .result) (size .ensures) (made .ensures) in
-    let p = rw (blocks-more k (at .loop .block) (omega arith)) at (at .loop .inv .1) in
-    let many = length-append (map byteOf (sets k (at .loop .block + 1))) (map byteOf (blocksFrom k (at .loop .block + 1))) in
-    omega (arith, p .room, ap length block)
+add-i : tie.Need-add-i Inv-loop μ-loop
+add-i c = omega arith
 
 loop-less : tie.Need-loop-less Inv-loop μ-loop
 loop-less c = omega arith
 
 loop-again : tie.Need-loop-again Inv-loop μ-loop
 loop-again c =
-    let at = c .before .before .before .before .before in
+    let at = c .before .before in
+    let first = at .before .power in
+    let table = at .before .before .listed-sets in
     let start = at .before .before .before in
     let k = start .args .k in
-    let b = at .loop .block + 1 in
-    let made = at .before .before .subsets in
-    let size = at .before .power in
-    let written = c .before .write-block in
-    let block = block-front k (start .pre) b (size .result) (made .result) (size .ensures) (made .ensures) in
-    let p = rw (blocks-more k (at .loop .block) (omega arith)) at (at .loop .inv .1) in
-    (omega arith, pending-as (rw block at (written .ensures .0)) refl (rw block at (written .ensures .1)) (pending-part (map byteOf (sets k b)) (map byteOf (blocksFrom k b)) p))
+    let i = at .loop .i in
+    let bytes = map byteOf (allSets k) in
+    let inside : i < length (allSets k) = omega (arith, first .ensures, all-length k) in
+    let next : drop i bytes ≡ getD bytes i 0 ∷ drop (i + 1) bytes = rw (add-one i) (drop-cons bytes i 0 (omega (arith, length-map (allSets k) byteOf))) in
+    let read =
+    ap₂ (λ (rows : List (List ℕ)) (n : ℕ). getD (getD rows ((n + i) / 8) []) ((n + i) % 8) 0) (table .ensures) (first .ensures) ∙ listed-entry k i [] (start .pre) inside in
+    (omega arith, pending-as refl refl (ap (set (at .loop .sets) i) read) (pending-byte (rw next at (at .loop .inv .1))))
 
 returns : tie.Need-returns Inv-loop μ-loop
 returns c =
     let at = c .before in
     let k = at .before .before .before .args .k in
-    let p = rw (blocks-none k (at .loop .block) (omega arith)) at (at .loop .inv .1) in
-    pending-done p ∙ put-padded (map byteOf (allSets k)) 256 ∙ ap (λ (n : ℕ). map byteOf (allSets k) ++ replicate (256 - n) 0) (length-map (allSets k) byteOf)
+    let bytes = map byteOf (allSets k) in
+    let none = drop-of-length-le bytes {i = at .loop .i} (omega (arith, at .before .power .ensures, all-length k, length-map (allSets k) byteOf)) in
+    pending-done (rw none at (at .loop .inv .1)) ∙ put-padded bytes 256 ∙ ap (λ (n : ℕ). bytes ++ replicate (256 - n) 0) (length-map (allSets k) byteOf)
 
 pub ordered-sets-spec : {M : Type 1} → statement M
 ordered-sets-spec =
@@ -91,14 +92,16 @@ ordered-sets-spec =
     (tie.spec
     Inv-loop
     μ-loop
-    subsets-requires
+    listed-sets-requires
     power-requires
+    sub-count
     loop-holds
-    add-block
-    array-share-prefix-all
-    slice-aggregate-write-block
-    slice-aggregate-write-block-2
-    write-block-requires
+    add-place
+    mul-sets
+    index-1-sets
+    index-2-sets
+    array-write-sets
+    add-i
     loop-less
     loop-again
     returns)
