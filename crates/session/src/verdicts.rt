@@ -10,7 +10,7 @@ ghost use Rattle.refusal.specs.declared.Verdict.the-variants.{Accepted};
 ghost use Rattle.refusal.specs.Chain.{refuseIf, andThen};
 ghost use Rattle.catalogue.specs.Catalogue.{Admitted, catalogueVerdict};
 ghost use Rattle.codes.specs.Codes.{schemeOf};
-ghost use Rattle.session.specs.Marks.{marked, allTaken};
+ghost use Rattle.session_parts.specs.Marks.{marked, allTaken};
 ghost use Rattle.session.specs.Calls.{codeOf, keyOf, queryOf, refuseFields, refuseMarks, beginVerdict, issueVerdict, takeVerdict, recoverVerdict};
 use crate::Session;
 use catalogue::Catalogue;
@@ -109,7 +109,7 @@ fn session_verdict(s: Session) -> Verdict
 fn marks_verdict(s: Session) -> Verdict
     ensures { λ r. ⌜ r ≡ refuseMarks s Accepted ⌝ }
 {
-    if crate::marks_good(s.catalogue.servers, &s.issued, &s.taken) {
+    if session_parts::marks_good(s.catalogue.servers, &s.issued, &s.taken) {
         Verdict::Accepted
     } else {
         Verdict::Refused(Refusal::History)
@@ -200,7 +200,7 @@ fn missing_verdict(s: Session) -> Verdict
     if let Verdict::Refused(refusal) = marks_verdict(s) {
         return Verdict::Refused(refusal);
     }
-    if !crate::all_taken(s.catalogue.servers, &s.taken) {
+    if !session_parts::all_taken(s.catalogue.servers, &s.taken) {
         return Verdict::Refused(Refusal::Missing);
     }
     Verdict::Accepted
