@@ -63,9 +63,9 @@ fn own_key_good(s: Session) -> bool
     ensures { λ r. ⌜ r ≡ codeOf schemeOf s .keyGood (keyOf schemeOf s) ⌝ }
 {
     let sizes = sizes_of(s.catalogue);
-    let size = sizes.key;
+    let used = sizes.key;
     let key = s.key;
-    codes::key_good(s.catalogue, &key[..size])
+    codes::key_good(s.catalogue, &key[..used])
 }
 
 // Whether wanted and key of the session are still good: refused 4, 6.
