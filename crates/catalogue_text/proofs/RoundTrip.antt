@@ -17,9 +17,10 @@ use Rattle.refusal.proofs.Chain.{not-refused}
 use Rattle.catalogue.specs.declared.Catalogue.{Catalogue}
 use Rattle.catalogue.specs.Catalogue.{catalogueVerdict, Admitted}
 use Rattle.catalogue.proofs.Admitted.{verdict-cases}
+use Rattle.catalogue_text.specs.declared.Lines.{Lines}
 use Rattle.catalogue_text.specs.declared.Reading.{Reading}
 use Rattle.catalogue_text.specs.Text.{textOf, FiveDigits}
-use Rattle.catalogue_text.specs.Parsing.{fourLines, linesOf, refusedLines, unread, readingBy, readOf}
+use Rattle.catalogue_text.specs.Parsing.{fourLines, linesBy, linesOf, refusedLines, unread, readingBy, readOf}
 use Rattle.catalogue_text.proofs.TextParts.{admitted-digits}
 use Rattle.catalogue_text.proofs.FourLines.{LinesRead, four-lines-written, four-lines-cases}
 
@@ -135,3 +136,51 @@ lines-are-written text e = ⊎-elim refused found (four-lines-cases text)
 
         out-of-bounds : catalogueVerdict (fourLines text .catalogue) ≡ Refused Bounds → Admitted (linesOf text .catalogue) × LinesRead text (linesOf text)
         out-of-bounds b = not-refused Bounds (simp (r .accepted, b) at e)
+
+-- the text of a value is judged as the value is, whatever follows it
+lines-verdict : (c : Catalogue) (rest text : List ℕ) → FiveDigits c → textOf c ++ rest ≡ text → linesOf text .verdict ≡ catalogueVerdict c
+unfolding linesOf
+lines-verdict c rest text small e =
+    ap (λ (t : List ℕ). linesOf t .verdict) (sym e) ∙ simp (four-lines-written c rest small) (by-verdict (catalogueVerdict c))
+  where
+    by-verdict : (v : Verdict) → linesBy v (record { verdict = Accepted; catalogue = c; next = length (textOf c) }) .verdict ≡ v
+    by-verdict Accepted = refl
+    by-verdict (Refused refusal) = refl
+
+-- the text of a value stands at the start, or the lines are refused 1
+starts-or-refused : (text : List ℕ)
+    → ((c : Catalogue) × (rest : List ℕ) × FiveDigits c × (textOf c ++ rest ≡ text)) ⊎ (linesOf text ≡ refusedLines Text)
+unfolding linesOf
+starts-or-refused text =
+    ⊎-elim (λ (e : fourLines text ≡ refusedLines Text). inr (simp e))
+    (λ (r : LinesRead text (fourLines text)). inl (fourLines text .catalogue, drop (fourLines text .next) text, r .digits, sym (r .here))) (four-lines-cases text)
+
+-- refused 1 exactly if no value's text stands at the start
+pub lines-refused-text : (text : List ℕ)
+    → (linesOf text .verdict ≡ Refused Text) ↔ ((c : Catalogue) (rest : List ℕ) → FiveDigits c → textOf c ++ rest ≡ text → ⊥)
+lines-refused-text text = (no-value, no-text)
+  where
+    no-value : linesOf text .verdict ≡ Refused Text → (c : Catalogue) (rest : List ℕ) → FiveDigits c → textOf c ++ rest ≡ text → ⊥
+    no-value e c rest small is = not-text c (sym (lines-verdict c rest text small is) ∙ e)
+
+    no-text : ((c : Catalogue) (rest : List ℕ) → FiveDigits c → textOf c ++ rest ≡ text → ⊥) → linesOf text .verdict ≡ Refused Text
+    no-text none =
+        ⊎-elim (λ v. absurd (none (v .0) (v .1) (v .2) (v .3))) (λ e. ap (λ (l : Lines). l .verdict) e) (starts-or-refused text)
+
+-- refused 2 exactly if that of a value stands there which is not admitted
+pub lines-refused-bounds : (text : List ℕ)
+    → (linesOf text .verdict ≡ Refused Bounds)
+    ↔ ((c : Catalogue) × (rest : List ℕ) × FiveDigits c × (textOf c ++ rest ≡ text) × (Admitted c → ⊥))
+lines-refused-bounds text = (of-value, out-of-bounds)
+  where
+    of-value : linesOf text .verdict ≡ Refused Bounds
+        → (c : Catalogue) × (rest : List ℕ) × FiveDigits c × (textOf c ++ rest ≡ text) × (Admitted c → ⊥)
+    of-value e =
+        ⊎-elim
+        (λ v. (v .0, v .1, v .2, v .3, λ a. not-refused Bounds (sym e ∙ lines-verdict (v .0) (v .1) text (v .2) (v .3) ∙ a)))
+        (λ r. bounds-not-text (sym e ∙ ap (λ (l : Lines). l .verdict) r))
+        (starts-or-refused text)
+
+    out-of-bounds : (c : Catalogue) × (rest : List ℕ) × FiveDigits c × (textOf c ++ rest ≡ text) × (Admitted c → ⊥)
+        → linesOf text .verdict ≡ Refused Bounds
+    out-of-bounds v = lines-verdict (v .0) (v .1) text (v .2) (v .3) ∙ ⊎-elim (λ a. absurd (v .4 a)) (λ b. b) (verdict-cases (v .0))

@@ -16,9 +16,9 @@ use Rattle.scheme.specs.Laws.{Laws}
 use Rattle.catalogue.specs.declared.Catalogue.{Catalogue}
 use Rattle.catalogue.specs.Catalogue.{Admitted}
 use Rattle.session.specs.declared.Session.{Session}
-use Rattle.session.specs.Marks.{noMarks, marked}
+use Rattle.session_parts.specs.Marks.{noMarks, marked}
 use Rattle.session.specs.Calls.{issueVerdict, issue, takeVerdict, takeAnswer}
-use Rattle.session.proofs.Marks.{none-marked, mark-set, mark-other}
+use Rattle.session_parts.proofs.Marks.{none-marked, mark-set, mark-other}
 use Rattle.session.proofs.Issue.{issue-by, issue-says, issue-passed}
 use Rattle.session.proofs.Take.{take-by, take-says}
 use Rattle.session.proofs.Recover.{recover-same}

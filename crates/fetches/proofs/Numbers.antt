@@ -19,7 +19,7 @@ use Rattle.catalogue.specs.Catalogue.{fits, catalogueVerdict}
 use Rattle.server.specs.Answering.{answerVerdict, answering}
 use Rattle.server.proofs.Laws.{answer-by}
 use Rattle.session.specs.declared.Session.{Session}
-use Rattle.session.specs.Marks.{marked, marksGood, allTaken}
+use Rattle.session_parts.specs.Marks.{marked, marksGood, allTaken}
 use Rattle.session.specs.Calls.{codeOf, keyOf, queryOf, slotsOf, beginVerdict, issueVerdict, takeVerdict, recoverVerdict, bound}
 use Rattle.session.proofs.Begin.{begin-says}
 use Rattle.session.proofs.Issue.{issue-says}

@@ -17,9 +17,9 @@ use Rattle.scheme.specs.Laws.{Laws}
 use Rattle.catalogue.specs.declared.Catalogue.{Catalogue}
 use Rattle.catalogue.specs.Catalogue.{Admitted}
 use Rattle.session.specs.declared.Session.{Session}
-use Rattle.session.specs.Marks.{noMarks, marked}
+use Rattle.session_parts.specs.Marks.{noMarks, marked}
 use Rattle.session.specs.Calls.{slotsOf, issueVerdict}
-use Rattle.session.proofs.Marks.{mark-set, mark-other, marks-issue}
+use Rattle.session_parts.proofs.Marks.{mark-set, mark-other, marks-issue}
 use Rattle.session.proofs.Issue.{issue-accepted, issue-by}
 use Rattle.session.proofs.Take.{Takes, take-accepted, take-by}
 use Rattle.fetches.specs.Fetches.{Call, issuing, taking, recovering, Made, run, history}

@@ -19,9 +19,9 @@ use Rattle.catalogue.specs.declared.Catalogue.{Catalogue}
 use Rattle.catalogue.specs.Catalogue.{Admitted}
 use Rattle.refusal.specs.declared.Verdict.the-variants.{Accepted}
 use Rattle.session.specs.declared.Session.{Session}
-use Rattle.session.specs.Marks.{noMarks, marked, markGood, marksGood}
+use Rattle.session_parts.specs.Marks.{noMarks, marked, markGood, marksGood}
 use Rattle.session.specs.Calls.{slotsOf}
-use Rattle.session.proofs.Marks.{none-marked, mark-set, mark-other, marks-issue}
+use Rattle.session_parts.proofs.Marks.{none-marked, mark-set, mark-other, marks-issue}
 use Rattle.session.proofs.Issue.{issue-by, issue-accepted}
 use Rattle.session.proofs.Take.{Takes, take-by, take-accepted}
 use Rattle.fetches.specs.Fetches.{Call, issuing, taking, State, make}

@@ -16,7 +16,7 @@ use Rattle.scheme.specs.Laws.{Laws}
 use Rattle.catalogue.specs.declared.Catalogue.{Catalogue}
 use Rattle.catalogue.specs.Catalogue.{Admitted}
 use Rattle.session.specs.declared.Session.{Session}
-use Rattle.session.specs.Marks.{noMarks}
+use Rattle.session_parts.specs.Marks.{noMarks}
 use Rattle.session.specs.Calls.{slotsOf, takeVerdict}
 use Rattle.session.proofs.ByteBound.{bound-done}
 use Rattle.session.proofs.Take.{take-passed, take-by}

@@ -20,7 +20,7 @@ use Rattle.scheme.specs.Laws.{Laws}
 use Rattle.catalogue.specs.declared.Catalogue.{Catalogue}
 use Rattle.catalogue.specs.Catalogue.{Admitted}
 use Rattle.session.specs.declared.Session.{Session}
-use Rattle.session.specs.Marks.{marked, allTaken}
+use Rattle.session_parts.specs.Marks.{marked, allTaken}
 use Rattle.session.specs.Calls.{slotsOf, recovered, recoverVerdict, recover}
 use Rattle.session.proofs.Begin.{key-kept}
 use Rattle.session.proofs.Recover.{recover-verdict, recover-by, recover-says}

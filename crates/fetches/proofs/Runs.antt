@@ -18,8 +18,8 @@ use Rattle.short_code.specs.Short.{digitSum, shortQuery, shortAdmits, shortAnsw
 use Rattle.codes.specs.Codes.{schemeOf}
 use Rattle.server.specs.Answering.{answerVerdict, answering}
 use Rattle.session.specs.Calls.{beginVerdict, begin, issueVerdict, issue, takeVerdict, takeAnswer, recoverVerdict, recover}
-use Rattle.session.specs.Fields.{paddedKey}
-use Rattle.session.specs.Marks.{noMarks, marksGood, allTaken}
+use Rattle.session_parts.specs.Places.{paddedKey}
+use Rattle.session_parts.specs.Marks.{noMarks, marksGood, allTaken}
 use Rattle.fetches.specs.Fetches.{issuing, taking, recovering, Fetch, Made, history}
 use Rattle.fetches.specs.Shown.{Shown, asked, shownTo}
 

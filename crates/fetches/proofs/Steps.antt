@@ -16,10 +16,10 @@ use Rattle.scheme.specs.Laws.{Laws}
 use Rattle.catalogue.specs.declared.Catalogue.{Catalogue}
 use Rattle.catalogue.specs.Catalogue.{Admitted}
 use Rattle.session.specs.declared.Session.{Session}
-use Rattle.session.specs.Marks.{marked}
-use Rattle.session.specs.Fields.{paddedKey}
+use Rattle.session_parts.specs.Marks.{marked}
+use Rattle.session_parts.specs.Places.{paddedKey}
 use Rattle.session.specs.Calls.{queryOf, slotsOf, issueVerdict, takeVerdict}
-use Rattle.session.proofs.Marks.{Marks, mark-set, mark-other, marks-issue, marks-take}
+use Rattle.session_parts.proofs.Marks.{Marks, mark-set, mark-other, marks-issue, marks-take}
 use Rattle.session.proofs.Sound.{Sound}
 use Rattle.session.proofs.Begin.{key-kept}
 use Rattle.session.proofs.Issue.{issue-passed, issue-by}

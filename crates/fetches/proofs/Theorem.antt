@@ -12,10 +12,10 @@ use Rattle.scheme.specs.Scheme.{Scheme, Valid}
 use Rattle.scheme.specs.Laws.{Laws}
 use Rattle.catalogue.specs.declared.Catalogue.{Catalogue}
 use Rattle.catalogue.specs.Catalogue.{Admitted}
-use Rattle.session.specs.Marks.{noMarks}
+use Rattle.session_parts.specs.Marks.{noMarks}
 use Rattle.session.specs.Fields.{newSession}
 use Rattle.session.specs.Calls.{begin}
-use Rattle.session.proofs.Marks.{none-marked, marks-none}
+use Rattle.session_parts.proofs.Marks.{none-marked, marks-none}
 use Rattle.session.proofs.Begin.{begin-accepted, begin-by}
 use Rattle.fetches.specs.Fetches.{Fetch, history}
 use Rattle.fetches.specs.Shown.{issues, issuesOf, shownTo, shown}

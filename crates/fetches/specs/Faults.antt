@@ -14,7 +14,7 @@ use Rattle.catalogue.specs.Catalogue.{catalogueVerdict}
 use Rattle.catalogue.specs.Faults.{unfit}
 use Rattle.server.specs.Answering.{answerVerdict}
 use Rattle.session.specs.declared.Session.{Session}
-use Rattle.session.specs.Marks.{marked, marksGood, allTaken}
+use Rattle.session_parts.specs.Marks.{marked, marksGood, allTaken}
 use Rattle.session.specs.Calls.{codeOf, keyOf, queryOf, slotsOf, beginVerdict, issueVerdict, takeVerdict, recoverVerdict}
 
 module _ (schemeOf : Catalogue → Scheme) where

@@ -9,7 +9,7 @@ use Rattle.parameters.specs.Measures.{mostServers}
 use Rattle.scheme.specs.Scheme.{Scheme, Valid}
 use Rattle.catalogue.specs.declared.Catalogue.{Catalogue}
 use Rattle.catalogue.specs.Catalogue.{Admitted}
-use Rattle.session.specs.Marks.{marksGood}
+use Rattle.session_parts.specs.Marks.{marksGood}
 use Rattle.session.specs.Fields.{paddedKey}
 use Rattle.fetches.specs.Fetches.{Call, Fetch, State, make, start}
 

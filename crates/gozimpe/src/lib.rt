@@ -41,8 +41,8 @@ pub extern "C" fn gozimpe_answer(
     let reading = catalogue_text::read(catalogue);
     let verdict = reading.verdict;
     let c = reading.catalogue;
-    if let Verdict::Refused(refusal) = verdict {
-        return minus(refusal);
+    if let Verdict::Refused(fault) = verdict {
+        return minus(fault);
     }
     let outcome = server::answer(c, mirror as usize, store, request, answer);
     match outcome {

@@ -25,7 +25,7 @@ use Rattle.text_lines.proofs.RoundTrip.{LineRead, line-read}
 use Rattle.catalogue_text.specs.Text.{textOf, FiveDigits}
 use Rattle.catalogue_text.specs.Parsing.{fourLines}
 use Rattle.catalogue_text.proofs.FourLines.{LinesRead, four-lines-cases}
-use Rattle.printing.specs.NumberLists.{afterSpaces, spaced, onLine, numeralFrom, numeralAt, endsAt, before, numbersFrom, numbersAt}
+use Rattle.number_lists.specs.NumberLists.{afterSpaces, spaced, onLine, numeralFrom, numeralAt, endsAt, before, numbersFrom, numbersAt}
 use Rattle.printing.specs.Input.{Asked, asked, wantedName, keyName, mostInput, keyLine, onKey, linesAsk, inputAsks, inputOf}
 use Rattle.printing.proofs.RoundTrip.{input-reads-back}
 

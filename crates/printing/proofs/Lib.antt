@@ -1,7 +1,5 @@
-pub mod Joined
-pub mod Reading
-pub mod Scanning
-pub mod Filling
+pub mod Parts
+pub mod KeyLine
 pub mod Writing
 pub mod Answers
 pub mod Lines

@@ -7,7 +7,7 @@ use Rattle.scheme.specs.Scheme.{Scheme}
 use Rattle.catalogue.specs.declared.Catalogue.{Catalogue}
 use Rattle.printing.specs.Input.{Asked}
 use Rattle.printing.specs.Output.{queryLine, askedQuery, queryLines}
-use Rattle.printing.proofs.Joined.{joined-range}
+use Rattle.number_lists.proofs.Joined.{joined-range}
 
 module _ (schemeOf : Catalogue → Scheme) (a : Asked) where
   -- those of the first servers

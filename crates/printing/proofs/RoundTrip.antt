@@ -23,9 +23,9 @@ use Rattle.text_lines.proofs.Numerals.{no-leading-zero}
 use Rattle.text_lines.proofs.RoundTrip.{line-written}
 use Rattle.catalogue_text.specs.Text.{textOf, FiveDigits}
 use Rattle.catalogue_text.proofs.FourLines.{four-lines-written}
-use Rattle.printing.specs.NumberLists.{afterSpaces, spaced, numeralFrom, numeralAt, endsAt, numbersFrom, numbersAt}
+use Rattle.number_lists.specs.NumberLists.{afterSpaces, spaced, numeralFrom, numeralAt, endsAt, numbersFrom, numbersAt}
 use Rattle.printing.specs.Input.{Asked, wantedName, keyName, mostInput, keyLine, linesAsk, inputAsks, inputOf}
-use Rattle.printing.proofs.Reading.{at-last, at-more}
+use Rattle.number_lists.proofs.Reading.{at-last, at-more}
 
 -- ---- bytes of a text
 

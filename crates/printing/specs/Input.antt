@@ -13,7 +13,7 @@ use Rattle.catalogue.specs.declared.Catalogue.{Catalogue}
 use Rattle.text_lines.specs.Lines.{begins, numberText, numberLine}
 use Rattle.catalogue_text.specs.Text.{textOf}
 use Rattle.catalogue_text.specs.Parsing.{fourLines}
-use Rattle.printing.specs.NumberLists.{onLine, numbersAt, spaced}
+use Rattle.number_lists.specs.NumberLists.{onLine, numbersAt, spaced}
 
 -- What an input asks for. The numbers of the key are as they stand, above 255 too
 pub record Asked : Type 0 where
@@ -44,8 +44,8 @@ onCatalogue Accepted rest = rest
 onCatalogue (Refused refusal) rest = none
 
 abbrev pub onKey : Option (List ℕ) → (List ℕ → Asked) → Option Asked
-onKey none asked = none
-onKey (some key) asked = some (asked key)
+onKey none found = none
+onKey (some key) found = some (found key)
 
 -- the six lines
 unfoldable pub linesAsk : List ℕ → Option Asked

@@ -1,4 +1,3 @@
-pub mod NumberLists
 pub mod Input
 pub mod Output
 pub mod Steps

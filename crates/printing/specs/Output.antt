@@ -21,7 +21,7 @@ use Rattle.session.specs.Calls.{beginVerdict}
 use Rattle.text_lines.specs.Decimal.{decimal}
 use Rattle.text_lines.specs.Lines.{numberText}
 use Rattle.printing.specs.declared.Page.{Page}
-use Rattle.printing.specs.NumberLists.{spaced}
+use Rattle.number_lists.specs.NumberLists.{spaced}
 use Rattle.printing.specs.Input.{Asked, inputAsks}
 
 -- what stands before a server's query

@@ -1,6 +1,6 @@
 // The request printer: from the text of an input to the text of its output.
 use catalogue::Catalogue;
-use catalogue::Measured;
+use number_lists::Scanned;
 use refusal::Outcome;
 use refusal::Refusal;
 use refusal::Verdict;
@@ -15,73 +15,19 @@ ghost use Rattle.refusal.specs.declared.Verdict.the-variants.{Accepted};
 ghost use Rattle.catalogue.specs.Catalogue.{Admitted};
 ghost use Rattle.codes.specs.Codes.{schemeOf};
 ghost use Rattle.session.specs.Calls.{beginVerdict};
-ghost use Rattle.printing.specs.declared.Scanned.the-variants.{Of};
-ghost use Rattle.printing.specs.NumberLists.{numbersAt, scanOf, listOf};
-ghost use Rattle.printing.specs.Input.{asked, keyLine};
+ghost use Rattle.number_lists.specs.declared.Scanned.the-variants.{Of};
+ghost use Rattle.number_lists.specs.NumberLists.{numbersAt, scanOf, listOf};
+ghost use Rattle.printing.specs.Input.{asked};
 ghost use Rattle.printing.specs.Output.{queryHead, queryLine, refusalLine, queryLines, answerTo, printed, pageBytes, blank, pageOf};
-ghost use Rattle.printing.specs.Steps.{keyVerdict, checkVerdict, valueBy};
+ghost use Rattle.printing.specs.Steps.{checkVerdict};
 
-mod numbers;
-
-// What a scan of a list of numbers says.
-pub enum Scanned {
-    // How many numbers there are, and whether each is below 256.
-    Of { count: usize, bytes: bool },
-    Refused,
-}
+// What can be said of an input before its key's entries are read.
+mod checks;
 
 // An output at the start, then zeros.
 pub struct Page {
     pub bytes: [u8; 8496],
     pub length: usize,
-}
-
-// What the key's line at place `at` says, which is the last.
-fn scan_key(text: &[u8], at: usize) -> Scanned
-    ensures { λ r. ⌜ r ≡ scanOf (keyLine (now (text .entry)) at) ⌝ }
-{
-    if text.len() < at {
-        return Scanned::Refused;
-    }
-    if !text_lines::starts(b"key=", &text[at..]) {
-        return Scanned::Refused;
-    }
-    numbers::scan(text, at + 4)
-}
-
-// Whether the wanted message is there, and the key is due that has so many numbers, all bytes or not: refused 4, 5 or 6.
-// If so, the query's length.
-fn check_key(
-    messages: usize,
-    wanted: usize,
-    due: usize,
-    count: usize,
-    bytes: bool,
-    query: usize,
-) -> Outcome
-    ensures { λ r. ⌜ r ≡ valueBy (keyVerdict messages wanted due count bytes) query ⌝ }
-{
-    if messages <= wanted {
-        return Outcome::Refused(Refusal::Wanted);
-    }
-    if count != due {
-        return Outcome::Refused(Refusal::KeyLength);
-    }
-    if !bytes {
-        return Outcome::Refused(Refusal::KeyEntry);
-    }
-    Outcome::Value(query)
-}
-
-// What can be said of an input without the key's entries: refused 2, 4, 5 or 6, or the length of a query.
-fn check(c: Catalogue, wanted: usize, count: usize, bytes: bool) -> Outcome
-    ensures { λ r. ⌜ r ≡ valueBy (checkVerdict schemeOf c wanted count bytes) (schemeOf c .sizes .query) ⌝ }
-{
-    let measured = catalogue::sizes(c);
-    match measured {
-        Measured::Of(sizes) => check_key(c.messages, wanted, sizes.key, count, bytes, sizes.query),
-        Measured::Refused(refusal) => Outcome::Refused(refusal),
-    }
 }
 
 // Writes the line of a refusal at the start, and gives the place after it.
@@ -113,7 +59,7 @@ fn put_line(out: &mut [u8], at: usize, server: usize, query: &[u8]) -> usize
     ensures { λ _. ⌜ now (out .exit) ≡ put at (queryLine server (now (query .entry))) (now (out .entry)) ⌝ }
 {
     let first = put_head(out, at, server);
-    let end = numbers::put_spaced(out, first, query);
+    let end = number_lists::put_spaced(out, first, query);
     text_lines::put_bytes(out, end, b"\n")
 }
 
@@ -193,7 +139,7 @@ fn put_checked(
     ensures { λ _. ⌜ now (out .exit) ≡ put 0 (answerTo schemeOf (asked c wanted (listOf (numbersAt (now (text .entry)) at)))) (now (out .entry)) ⌝ }
 {
     let mut places = zeros();
-    numbers::put_numbers(text, at, &mut places[..count]);
+    number_lists::put_numbers(text, at, &mut places[..count]);
     put_keyed(c, wanted, &places[..count], size, out)
 }
 
@@ -212,7 +158,7 @@ fn put_asked(
     ensures { λ r. ⌜ r ≡ length (answerTo schemeOf (asked c wanted (listOf (numbersAt (now (text .entry)) at)))) ⌝ }
     ensures { λ _. ⌜ now (out .exit) ≡ put 0 (answerTo schemeOf (asked c wanted (listOf (numbersAt (now (text .entry)) at)))) (now (out .entry)) ⌝ }
 {
-    let outcome = check(c, wanted, count, bytes);
+    let outcome = checks::check(c, wanted, count, bytes);
     match outcome {
         Outcome::Value(size) => put_checked(c, wanted, text, at, count, size, out),
         Outcome::Refused(refusal) => put_refusal(out, refusal),
@@ -241,7 +187,7 @@ fn put_page(input: &[u8], out: &mut [u8]) -> usize
     else {
         return put_refusal(out, Refusal::Text);
     };
-    let Scanned::Of { count, bytes } = scan_key(input, at) else {
+    let Scanned::Of { count, bytes } = checks::scan_key(input, at) else {
         return put_refusal(out, Refusal::Text);
     };
     put_asked(catalogue, wanted, input, at + 4, count, bytes, out)

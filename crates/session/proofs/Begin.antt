@@ -16,9 +16,10 @@ use Rattle.scheme.specs.Scheme.{Scheme, Valid}
 use Rattle.catalogue.specs.declared.Catalogue.{Catalogue}
 use Rattle.catalogue.specs.Catalogue.{Admitted, catalogueVerdict}
 use Rattle.session.specs.declared.Handed.{Handed}
-use Rattle.session.specs.Fields.{paddedKey, newSession, zeroSession}
+use Rattle.session_parts.specs.Places.{paddedKey}
+use Rattle.session.specs.Fields.{newSession, zeroSession}
 use Rattle.session.specs.Calls.{keyOf, beginVerdict, beginBy, begin}
-use Rattle.session.proofs.Marks.{marks-none}
+use Rattle.session_parts.proofs.Marks.{marks-none}
 use Rattle.session.proofs.Sound.{Sound}
 
 module _ (schemeOf : Catalogue → Scheme) (c : Catalogue) (wanted : ℕ) (key : List ℕ) where

@@ -18,7 +18,7 @@ use Rattle.scheme.specs.Scheme.{Scheme}
 use Rattle.catalogue.specs.declared.Catalogue.{Catalogue}
 use Rattle.catalogue.specs.Catalogue.{catalogueVerdict}
 use Rattle.session.specs.declared.Session.{Session}
-use Rattle.session.specs.Marks.{marksGood}
+use Rattle.session_parts.specs.Marks.{marksGood}
 use Rattle.session.specs.Fields.{markIssued}
 use Rattle.session.specs.Calls.{Out, Did, out, codeOf, keyOf, queryOf, issueVerdict, issueBy, issue}
 use Rattle.session.proofs.Sound.{Sound}

@@ -1,6 +1,4 @@
-pub mod Padding
 pub mod Places
-pub mod Marks
 pub mod Links
 pub mod Sound
 pub mod Begin

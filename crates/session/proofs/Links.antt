@@ -15,7 +15,7 @@ use Rattle.scheme.specs.Scheme.{Scheme}
 use Rattle.catalogue.specs.declared.Catalogue.{Catalogue}
 use Rattle.catalogue.specs.Catalogue.{Admitted, catalogueVerdict}
 use Rattle.session.specs.declared.Session.{Session}
-use Rattle.session.specs.Marks.{marksGood}
+use Rattle.session_parts.specs.Marks.{marksGood}
 use Rattle.session.specs.Calls.{codeOf, keyOf, refuseFields, refuseMarks}
 
 -- a verdict and three links

@@ -18,7 +18,7 @@ use Rattle.scheme.specs.Scheme.{Scheme}
 use Rattle.catalogue.specs.declared.Catalogue.{Catalogue}
 use Rattle.catalogue.specs.Catalogue.{catalogueVerdict}
 use Rattle.session.specs.declared.Session.{Session}
-use Rattle.session.specs.Marks.{marksGood, allTaken}
+use Rattle.session_parts.specs.Marks.{marksGood, allTaken}
 use Rattle.session.specs.Calls.{Out, Did, out, codeOf, keyOf, slotsOf, recovered, recoverVerdict, recoverBy, recover}
 use Rattle.session.proofs.Sound.{Sound}
 

@@ -6,7 +6,7 @@ use Rattle.scheme.specs.Scheme.{Scheme}
 use Rattle.catalogue.specs.declared.Catalogue.{Catalogue}
 use Rattle.catalogue.specs.Catalogue.{Admitted}
 use Rattle.session.specs.declared.Session.{Session}
-use Rattle.session.specs.Marks.{marksGood}
+use Rattle.session_parts.specs.Marks.{marksGood}
 use Rattle.session.specs.Calls.{codeOf, keyOf}
 
 pub record Sound (schemeOf : Catalogue → Scheme) (s : Session) : Type 0 where

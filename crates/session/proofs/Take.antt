@@ -16,7 +16,7 @@ use Rattle.scheme.specs.Scheme.{Scheme}
 use Rattle.catalogue.specs.declared.Catalogue.{Catalogue}
 use Rattle.catalogue.specs.Catalogue.{catalogueVerdict}
 use Rattle.session.specs.declared.Session.{Session}
-use Rattle.session.specs.Marks.{marked, marksGood}
+use Rattle.session_parts.specs.Marks.{marked, marksGood}
 use Rattle.session.specs.Fields.{markTaken}
 use Rattle.session.specs.Calls.{Out, Did, out, codeOf, keyOf, queryOf, slotsOf, takeVerdict, takeBy, takeAnswer}
 use Rattle.session.proofs.Sound.{Sound}

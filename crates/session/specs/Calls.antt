@@ -18,7 +18,7 @@ use Rattle.catalogue.specs.declared.Catalogue.{Catalogue}
 use Rattle.catalogue.specs.Catalogue.{catalogueVerdict}
 use Rattle.session.specs.declared.Session.{Session}
 use Rattle.session.specs.declared.Handed.{Handed}
-use Rattle.session.specs.Marks.{marked, marksGood, allTaken}
+use Rattle.session_parts.specs.Marks.{marked, marksGood, allTaken}
 use Rattle.session.specs.Fields.{newSession, zeroSession, markIssued, markTaken}
 
 -- What issue, take and recover do: what they hand back, and how they leave the buffer that they may write (the query's, the answers', the message's)

@@ -1,17 +1,14 @@
 -- Sessions as values (document 01, 'Session'): the one that begin hands back, done or refused, and the ones with a mark more.
-use Prim.Native.Nat.{ℕ, _-_}
+use Prim.Native.Nat.{ℕ}
 use mathlib.Core.Bool.{true}
-use mathlib.Core.List.{List, _++_}
-use lib.ListN.{length, set, replicate}
+use mathlib.Core.List.{List}
+use lib.ListN.{set, replicate}
 use Rattle.parameters.specs.Measures.{keyPlaces}
+use Rattle.session_parts.specs.Marks.{noMarks}
+use Rattle.session_parts.specs.Places.{paddedKey}
 use Rattle.catalogue.specs.declared.Catalogue.{Catalogue}
 use Rattle.catalogue.specs.Catalogue.{zeroCatalogue}
 use Rattle.session.specs.declared.Session.{Session}
-use Rattle.session.specs.Marks.{noMarks}
-
--- the key, and 0 in the places that it leaves
-unfoldable pub paddedKey : List ℕ → List ℕ
-paddedKey key = key ++ replicate (keyPlaces - length key) 0
 
 -- a session at the start of a fetch: newSession catalogue wanted key
 abbrev pub newSession : Catalogue → ℕ → List ℕ → Session

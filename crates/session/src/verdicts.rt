@@ -10,7 +10,7 @@ ghost use Rattle.refusal.specs.declared.Verdict.the-variants.{Accepted};
 ghost use Rattle.refusal.specs.Chain.{refuseIf, andThen};
 ghost use Rattle.catalogue.specs.Catalogue.{Admitted, catalogueVerdict};
 ghost use Rattle.codes.specs.Codes.{schemeOf};
-ghost use Rattle.session.specs.Marks.{marked, allTaken};
+ghost use Rattle.session_parts.specs.Marks.{marked, allTaken};
 ghost use Rattle.session.specs.Calls.{codeOf, keyOf, queryOf, refuseFields, refuseMarks, beginVerdict, issueVerdict, takeVerdict, recoverVerdict};
 use crate::Session;
 use catalogue::Catalogue;
@@ -63,9 +63,9 @@ fn own_key_good(s: Session) -> bool
     ensures { λ r. ⌜ r ≡ codeOf schemeOf s .keyGood (keyOf schemeOf s) ⌝ }
 {
     let sizes = sizes_of(s.catalogue);
-    let size = sizes.key;
+    let used = sizes.key;
     let key = s.key;
-    codes::key_good(s.catalogue, &key[..size])
+    codes::key_good(s.catalogue, &key[..used])
 }
 
 // Whether wanted and key of the session are still good: refused 4, 6.
@@ -109,7 +109,7 @@ fn session_verdict(s: Session) -> Verdict
 fn marks_verdict(s: Session) -> Verdict
     ensures { λ r. ⌜ r ≡ refuseMarks s Accepted ⌝ }
 {
-    if crate::marks_good(s.catalogue.servers, &s.issued, &s.taken) {
+    if session_parts::marks_good(s.catalogue.servers, &s.issued, &s.taken) {
         Verdict::Accepted
     } else {
         Verdict::Refused(Refusal::History)
@@ -200,7 +200,7 @@ fn missing_verdict(s: Session) -> Verdict
     if let Verdict::Refused(refusal) = marks_verdict(s) {
         return Verdict::Refused(refusal);
     }
-    if !crate::all_taken(s.catalogue.servers, &s.taken) {
+    if !session_parts::all_taken(s.catalogue.servers, &s.taken) {
         return Verdict::Refused(Refusal::Missing);
     }
     Verdict::Accepted

@@ -37,18 +37,26 @@ or-zeros-some S (x ∷ answer) h = refl
 pub slot-length : (N S i : ℕ) (answers : List ℕ) → i < N → N * S ≤ length answers → length (cut (i * S) S answers) ≡ S
 slot-length N S i answers h room = cut-length (i * S) S answers (omega (arith, slot-end i N S h))
 
+-- the slot of the server that answers for digit d ends inside the slots
+pub turn-end : (N S T d i : ℕ) → T < N → i ≡ (d + T) % N → i * S + S ≤ N * S
+turn-end N S T d i h e = let m : (d + T) % N < N = mod-lt (d + T) (omega arith) in slot-end i N S (omega arith)
+
 -- a slot that was copied from its part of the buffer
 pub slot-copied : (i j S : ℕ) (answers : List ℕ) {last : List ℕ} → i ≡ j → last ≡ take (i * S + S - i * S) (drop (i * S) answers)
     → last ≡ cut (j * S) S answers
 slot-copied i j S answers e made =
     made ∙ ap (λ (n : ℕ). take n (drop (i * S) answers)) (add-sub-cancel-left (i * S) S) ∙ ap (λ (n : ℕ). cut (n * S) S answers) e
 
+-- the part of the message that is digit d's own
+pub part-fits : (S d : ℕ) (message : List ℕ) → 0 < d → d * S ≤ length message → (d - 1) * S + S ≤ length message
+part-fits S d message low fits = omega (arith, slot-end (d - 1) d S (omega arith))
+
 module _ (N S T d : ℕ) (answers : List ℕ) (known : T < N) (some : 0 < S) (room : N * S ≤ length answers) (bytes : Below 256 answers) where
   slot-symbol : (i : ℕ) → i < N → Symbol S (cut (i * S) S answers)
   slot-symbol i h =
       record { long = slot-length N S i answers h room; bytes = below-take 256 S (drop (i * S) answers) (below-drop 256 (i * S) answers bytes) }
 
-  first-symbol : Symbol S (cut ((d + T) % N * S) S answers)
+  pub first-symbol : Symbol S (cut ((d + T) % N * S) S answers)
   first-symbol = slot-symbol ((d + T) % N) (mod-lt (d + T) (omega arith))
 
   pub from-one : cut ((d + T) % N * S) S answers ≡ fromSlots N S T true answers d

@@ -21,7 +21,7 @@ use Rattle.even_scheme.specs.Even.{permutation, numberAt as entryAt, evenKeyGoo
 use Rattle.codes.specs.Codes.{schemeOf}
 use Rattle.server.specs.Answering.{answerVerdict, answering}
 use Rattle.session.specs.Calls.{beginVerdict}
-use Rattle.printing.specs.NumberLists.{afterSpaces, spaced, numeralFrom, numbersFrom, numbersAt}
+use Rattle.number_lists.specs.NumberLists.{afterSpaces, spaced, numeralFrom, numbersFrom, numbersAt}
 use Rattle.printing.specs.Input.{keyLine, linesAsk, inputAsks}
 use Rattle.printing.specs.Output.{queryLine, refusalLine, askedVerdict, queryLines, answerTo, printed}
 use Rattle.worked_examples.specs.Cards.{Holds, cards}

@@ -2,10 +2,10 @@
 use mathlib.Core.Path.{sym, _∙_}
 use borrow.Author.Needs.{needs}
 use Rattle.codes.specs.Codes.{schemeOf}
-use Rattle.printing.specs.NumberLists.{numbersAt, listOf}
+use Rattle.number_lists.specs.NumberLists.{numbersAt, listOf}
 use Rattle.printing.proofs.Answers.{value-given, value-refused, check-passed, answer-refused}
-use Rattle.printing.proofs.Joined.{written-as}
-use Rattle.printing.proofs.Scanning.{scanned-list}
+use Rattle.printing.proofs.Parts.{written-as}
+use Rattle.number_lists.proofs.Scanning.{scanned-list}
 use Rattle.printing.proofs.put_asked.Statement.{statement}
 use Rattle.printing.proofs.put_asked.Tie as tie
 

@@ -12,14 +12,14 @@ use Rattle.lists.specs.Parts.{put}
 use Rattle.refusal.specs.declared.Verdict.the-variants.{Accepted}
 use Rattle.catalogue.specs.declared.Catalogue.{Catalogue}
 use Rattle.codes.specs.Codes.{schemeOf}
-use Rattle.printing.specs.declared.Scanned.the-variants.{Of}
-use Rattle.printing.specs.NumberLists.{numbersAt, listOf}
+use Rattle.number_lists.specs.declared.Scanned.the-variants.{Of}
+use Rattle.number_lists.specs.NumberLists.{numbersAt, listOf}
 use Rattle.printing.specs.Input.{asked}
 use Rattle.printing.specs.Output.{answerTo}
 use Rattle.printing.specs.Steps.{checkVerdict}
 use Rattle.printing.proofs.Answers.{check-passed}
 use Rattle.printing.proofs.Room.{key-fits}
-use Rattle.printing.proofs.Scanning.{scanned-list}
+use Rattle.number_lists.proofs.Scanning.{scanned-list}
 use Rattle.printing.proofs.put_checked.Statement.{statement}
 use Rattle.printing.proofs.put_checked.Tie as tie
 

@@ -6,7 +6,7 @@ use lib.ListN.{length}
 use Rattle.codes.specs.Codes.{schemeOf}
 use Rattle.session.proofs.Begin.{Begins, begin-accepted}
 use Rattle.printing.proofs.Answers.{Checked, answer-bad-key, answer-queries}
-use Rattle.printing.proofs.Joined.{written-as}
+use Rattle.printing.proofs.Parts.{written-as}
 use Rattle.printing.proofs.put_keyed.Statement.{statement}
 use Rattle.printing.proofs.put_keyed.Tie as tie
 

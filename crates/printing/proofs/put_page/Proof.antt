@@ -7,11 +7,12 @@ use borrow.Author.Needs.{needs}
 use borrow.Author.Tests.{lt-ltb, le-ltb}
 use Rattle.refusal.specs.declared.Refusal.the-variants.{Text}
 use Rattle.codes.specs.Codes.{schemeOf}
-use Rattle.printing.specs.NumberLists.{numbersAt, scanOf, listOf}
+use Rattle.number_lists.specs.NumberLists.{numbersAt, scanOf, listOf}
 use Rattle.printing.specs.Input.{asked, keyLine, linesAsk, inputAsks}
 use Rattle.printing.specs.Output.{refusalLine, answerTo, printed}
-use Rattle.printing.proofs.Joined.{written-as}
-use Rattle.printing.proofs.Scanning.{scan-refused, scanned-some, key-line-read}
+use Rattle.printing.proofs.Parts.{written-as}
+use Rattle.number_lists.proofs.Scanning.{scan-refused, scanned-some}
+use Rattle.printing.proofs.KeyLine.{key-line-read}
 use Rattle.printing.proofs.put_page.Statement.{statement}
 use Rattle.printing.proofs.put_page.Tie as tie
 

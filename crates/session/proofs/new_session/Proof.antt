@@ -1,6 +1,6 @@
 -- `session::new_session` meets its contract: its key is what `padded_key` gives, and its marks are not set.
 use borrow.Author.Needs.{needs}
-use Rattle.session.specs.Marks.{noMarks}
+use Rattle.session_parts.specs.Marks.{noMarks}
 use Rattle.session.proofs.new_session.Statement.{statement}
 use Rattle.session.proofs.new_session.Tie as tie
 

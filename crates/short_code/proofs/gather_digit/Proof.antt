@@ -21,30 +21,30 @@ sub-at c = search needs
 
 mul-at : tie.Need-mul-at
 mul-at c =
-    let a = c .before .before .before .args in
-    let w = part-within (a .p * (a .n - 1)) (a .d) (a .s) (length (a .store .now)) (omega arith) (omega arith) (omega arith) in
-    omega arith
+    let start = c .before .before .before in
+    let a = start .args in
+    omega (arith, part-within (a .p * (a .n - 1)) (a .d) (a .s) (length (a .store .now)) (omega arith) (start .pre .0 .1) (start .pre .0 .2))
 
 sub-at-2 : tie.Need-sub-at-2
 sub-at-2 c = search needs
 
 add-at : tie.Need-add-at
 add-at c =
-    let a = c .before .before .before .args in
-    let w = part-within (a .p * (a .n - 1)) (a .d) (a .s) (length (a .store .now)) (omega arith) (omega arith) (omega arith) in
-    omega arith
+    let start = c .before .before .before in
+    let a = start .args in
+    omega (arith, part-within (a .p * (a .n - 1)) (a .d) (a .s) (length (a .store .now)) (omega arith) (start .pre .0 .1) (start .pre .0 .2))
 
 mul-at-2 : tie.Need-mul-at-2
 mul-at-2 c =
-    let a = c .before .before .before .args in
-    let w = part-within (a .p * (a .n - 1)) (a .d) (a .s) (length (a .store .now)) (omega arith) (omega arith) (omega arith) in
-    omega arith
+    let start = c .before .before .before in
+    let a = start .args in
+    omega (arith, part-within (a .p * (a .n - 1)) (a .d) (a .s) (length (a .store .now)) (omega arith) (start .pre .0 .1) (start .pre .0 .2))
 
 add-end : tie.Need-add-end
 add-end c =
-    let a = c .before .before .before .args in
-    let w = part-within (a .p * (a .n - 1)) (a .d) (a .s) (length (a .store .now)) (omega arith) (omega arith) (omega arith) in
-    omega arith
+    let start = c .before .before .before in
+    let a = start .args in
+    omega (arith, part-within (a .p * (a .n - 1)) (a .d) (a .s) (length (a .store .now)) (omega arith) (start .pre .0 .1) (start .pre .0 .2))
 
 sub-combine : tie.Need-sub-combine
 sub-combine c = search needs
@@ -54,9 +54,9 @@ part-combine-start c = search needs
 
 part-combine-end : tie.Need-part-combine-end
 part-combine-end c =
-    let a = c .before .before .before .before .before .args in
-    let w = part-within (a .p * (a .n - 1)) (a .d) (a .s) (length (a .store .now)) (omega arith) (omega arith) (omega arith) in
-    omega arith
+    let start = c .before .before .before .before .before in
+    let a = start .args in
+    omega (arith, part-within (a .p * (a .n - 1)) (a .d) (a .s) (length (a .store .now)) (omega arith) (start .pre .0 .1) (start .pre .0 .2))
 
 combine-requires : tie.Need-combine-requires
 combine-requires c κs = search needs
@@ -85,9 +85,9 @@ part-copy-start c = search needs
 
 part-copy-end : tie.Need-part-copy-end
 part-copy-end c =
-    let a = c .before .before .before .before .before .args in
-    let w = part-within (a .p * (a .n - 1)) (a .d) (a .s) (length (a .store .now)) (omega arith) (omega arith) (omega arith) in
-    omega arith
+    let start = c .before .before .before .before .before in
+    let a = start .args in
+    omega (arith, part-within (a .p * (a .n - 1)) (a .d) (a .s) (length (a .store .now)) (omega arith) (start .pre .0 .1) (start .pre .0 .2))
 
 copy-requires : tie.Need-copy-requires
 copy-requires c κs = search needs

@@ -1,7 +1,7 @@
 -- `session::verdicts::due_verdict` meets its contract: the verdict on the marks decides, and else the server's two marks.
 use borrow.Author.Needs.{needs}
 use borrow.Author.Tests.{not-true, not-false}
-use Rattle.session.specs.Marks.{marked}
+use Rattle.session_parts.specs.Marks.{marked}
 use Rattle.session.proofs.Links.{after-marks}
 use Rattle.session.proofs.verdicts.due_verdict.Statement.{statement}
 use Rattle.session.proofs.verdicts.due_verdict.Tie as tie

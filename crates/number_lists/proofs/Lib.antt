@@ -1,0 +1,5 @@
+pub mod Joined
+pub mod Spaced
+pub mod Reading
+pub mod Scanning
+pub mod Filling
