@@ -10,7 +10,7 @@ use Rattle.scheme.specs.Scheme.{Scheme, Valid}
 use Rattle.catalogue.specs.declared.Catalogue.{Catalogue}
 use Rattle.catalogue.specs.Catalogue.{Admitted}
 use Rattle.session_parts.specs.Marks.{marksGood}
-use Rattle.session.specs.Fields.{paddedKey}
+use Rattle.session_parts.specs.Places.{paddedKey}
 use Rattle.fetches.specs.Fetches.{Call, Fetch, State, make, start}
 
 module _ (schemeOf : Catalogue → Scheme) where
