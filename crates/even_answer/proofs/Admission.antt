@@ -15,8 +15,7 @@ use Rattle.lists.specs.Padded.{padded}
 use Rattle.lists.specs.Ranges.{every}
 use Rattle.lists.specs.Sums.{All}
 use Rattle.lists.proofs.Below.{allBelow-below}
-use Rattle.lists.proofs.Elements.{All-at}
-use Rattle.lists.proofs.Sums.{All-flatMap, All-imp, All-replicate}
+use Rattle.lists.proofs.Each.{All-get, All-flatMap, All-imp, All-replicate}
 use Rattle.parameters.specs.Bounds.{evenFits}
 use Rattle.parameters.specs.Measures.{evenSizes}
 use Rattle.even_places.specs.Sets.{members}
@@ -36,7 +35,7 @@ layout-long N K =
 -- at each position stands one of the messages
 pub positions-below : (N K : ℕ) → Below K (positions N K)
 unfolding positions
-positions-below N K i h = All-at (All-flatMap (members 0) (All-imp (λ A e. members-all A e) (layout-long N K))) i 0 h
+positions-below N K i h = All-get 0 (All-flatMap (members 0) (All-imp (λ A e. members-all A e) (layout-long N K))) i h
 
 pub power-less : (N K : ℕ) → Bounds N K → N ^ (K - 1) ≤ 256
 power-less N K bounds =

@@ -14,8 +14,8 @@ use Rattle.lists.specs.Parts.{cut}
 use Rattle.lists.specs.Below.{Below}
 use Rattle.lists.specs.Sums.{bit, sum, All, allNil, allCons}
 use Rattle.lists.proofs.Below.{below-take, below-drop}
-use Rattle.lists.proofs.Parts.{cut-length}
-use Rattle.lists.proofs.Sums.{All-imp}
+use Rattle.lists.proofs.Cuts.{cut-length}
+use Rattle.lists.proofs.Each.{All-imp}
 use Rattle.parameters.specs.Measures.{evenSizes}
 use Rattle.symbol.specs.Sum.{Symbol, totalFrom, total}
 use Rattle.symbol.specs.Group.{Symbols, none, more}

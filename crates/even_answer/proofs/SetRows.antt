@@ -9,7 +9,7 @@ use native.Mathlib.Omega.{arith}
 use lib.ListN.{length, getD, drop, replicate, length-append, length-map, length-replicate, drop-of-length-le}
 use lib.Seq.{drop-cons, drop-drop}
 use Rattle.lists.specs.Below.{Below}
-use Rattle.lists.proofs.Sums.{All-replicate}
+use Rattle.lists.proofs.Each.{All-replicate}
 use Rattle.parameters.specs.Measures.{evenRows, evenSizes}
 use Rattle.symbol.specs.Xor.{xor}
 use Rattle.even_places.specs.Sets.{ones, members, allSets}

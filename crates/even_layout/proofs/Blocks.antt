@@ -15,11 +15,12 @@ use Rattle.lists.specs.Padded.{padded}
 use Rattle.lists.specs.Ranges.{range}
 use Rattle.lists.specs.Sums.{bit, keep, keepIf, sum, All, allNil, allCons}
 use Rattle.lists.proofs.Below.{below-cons}
-use Rattle.lists.proofs.Flat.{keep-map}
-use Rattle.lists.proofs.Sums.{sum-one, sum-ext, sum-flatMap, All-append, All-every, All-map, All-imp}
+use Rattle.lists.proofs.Keep.{keep-map, keep-append, keep-nothing}
+use Rattle.lists.proofs.Sums.{sum-one, sum-ext, sum-flatMap}
+use Rattle.lists.proofs.Each.{All-append, All-every, All-map, All-imp}
+use Rattle.lists.proofs.Mapped.{map-append}
 use Rattle.even_places.specs.Sets.{ones, sets, byteOf, allSets}
 use Rattle.even_places.specs.Rule.{rowCount}
-use Rattle.even_places.proofs.SetLaws.{map-append, keep-append, keep-nothing}
 use Rattle.even_places.proofs.Counts.{row-count-product}
 use Rattle.even_places.proofs.Bytes.{byte-ones, byte-below}
 use Rattle.even_layout.specs.Layout.{subsets, doubled, ofBlock}

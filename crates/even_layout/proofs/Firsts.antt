@@ -10,16 +10,17 @@ use native.Mathlib.Omega.{arith}
 use borrow.Author.Tests.{ltb-true, ltb-false, lt-ltb, eqb-true, eqb-false}
 use lib.Count.{ones as count, onesIn}
 use lib.Dec.{eqb, ltb}
-use lib.ListN.{length, getD, set, replicate, drop, length-set, length-map, length-replicate, getD-replicate}
+use lib.ListN.{length, getD, set, replicate, drop, length-set, length-replicate, getD-replicate}
 use lib.Seq.{drop-cons, ext-getD, getD-set-same, getD-set-other}
 use Rattle.lists.specs.Ranges.{range}
 use Rattle.lists.specs.Sums.{bit, sum, All, allNil, allCons}
-use Rattle.lists.proofs.Elements.{All-both, sum-none, map-range-at}
-use Rattle.lists.proofs.Sums.{sum-flatMap, sum-next, sum-ext, sum-all, sum-zero, All-imp}
+use Rattle.lists.proofs.Each.{All-both, All-imp}
+use Rattle.lists.proofs.Sums.{sum-none, sum-flatMap, sum-next, sum-ext, sum-all, sum-zero}
+use Rattle.lists.proofs.Mapped.{mapped-length, mapped-at}
 use Rattle.even_places.specs.Sets.{ones, byteOf, sets, allSets, alike}
 use Rattle.even_places.specs.Rule.{layout, firstRow}
 use Rattle.even_places.proofs.SetLaws.{alike-eq, alike-one}
-use Rattle.even_places.proofs.Counts.{sets-fit, range-length}
+use Rattle.even_places.proofs.Counts.{sets-fit}
 use Rattle.even_places.proofs.Rows.{below, below-step, below-zero, below-lt}
 use Rattle.even_places.proofs.Bytes.{byte-ones, byte-below}
 use Rattle.even_layout.specs.Layout.{Bounds, setIn, rowsOf, firstRowOf, firstRows}
@@ -199,8 +200,8 @@ filled-firsts N K bounds = whole 256 (pow-le-pow-right {n = 2} (omega arith) {j 
         let table = filled N 0 (allSets K) (replicate size 0) in
         let long : length table ≡ size = filled-length N 0 (allSets K) (replicate size 0) ∙ length-replicate {A = ℕ} size 0 in
         ext-getD 0 table (map (firstRowOf N K) (range 0 size))
-        (long ∙ sym (length-map (range 0 size) (firstRowOf N K) ∙ range-length 0 size))
-        (λ i h. filled-entry N K size i bounds room (omega arith) ∙ sym (map-range-at (firstRowOf N K) 0 size i (omega arith) ∙ ap (firstRowOf N K) (zero-add i)))
+        (long ∙ sym (mapped-length (firstRowOf N K) 0 size))
+        (λ i h. filled-entry N K size i bounds room (omega arith) ∙ sym (mapped-at (firstRowOf N K) 0 size i (omega arith)))
 
 -- at the byte of a set stands the number of its first row
 pub first-rows-at : (N K : ℕ) (A : List Bool) → K ≤ 8 → length A ≡ K → 1 ≤ ones A → getD (firstRows N K) (byteOf A) 0 ≡ firstRow A (layout N K)
@@ -208,5 +209,5 @@ unfolding firstRows firstRowOf
 first-rows-at N K A few e h =
     let below : byteOf A < 2 ^ K = rw e at (byte-below A) in
     let room : 2 ^ K ≤ 256 = pow-le-pow-right {n = 2} (omega arith) {j = 8} few in
-    map-range-at (firstRowOf N K) 0 256 (byteOf A) (omega arith)
-    ∙ rw (zero-add (byteOf A), lt-ltb 0 (byteOf A) (byte-some A h), lt-ltb (byteOf A) (2 ^ K) below, set-in K A e)
+    mapped-at (firstRowOf N K) 0 256 (byteOf A) (omega arith)
+    ∙ rw (lt-ltb 0 (byteOf A) (byte-some A h), lt-ltb (byteOf A) (2 ^ K) below, set-in K A e)

@@ -12,12 +12,10 @@ use lib.ListN.{length, getD, drop, replicate, length-map, drop-of-length-le, Lis
 use lib.Seq.{drop-cons}
 use Rattle.lists.specs.Ranges.{range}
 use Rattle.lists.specs.Sums.{bit, All}
-use Rattle.lists.proofs.Elements.{All-at}
-use Rattle.lists.proofs.Flat.{flatMap-flatMap}
-use Rattle.lists.proofs.Sums.{All-every, All-flatMap, All-imp}
+use Rattle.lists.proofs.Each.{All-get, All-every, All-flatMap, All-imp}
+use Rattle.lists.proofs.Joined.{flatMap-flatMap, flatMap-all}
 use Rattle.even_places.specs.Sets.{ones, members, byteOf, sets, allSets}
 use Rattle.even_places.specs.Rule.{layout, positions, queryCells}
-use Rattle.even_places.proofs.SetLaws.{flatMap-all}
 use Rattle.even_places.proofs.Counts.{sets-fit}
 use Rattle.even_places.proofs.Flat.{query-length}
 use Rattle.even_places.proofs.Positions.{same-members}
@@ -97,7 +95,7 @@ pub byte-at : (N K i : ℕ) (table more : List ℕ) → Bounds N K → table ≡
 unfolding byteOf
 byte-at N K i table more bounds e h =
     let bytes = map byteOf (allSets K) in
-    set-byte N K (getD table i 0) (getD (allSets K) i []) bounds (All-at (all-sets K) i [] h)
+    set-byte N K (getD table i 0) (getD (allSets K) i []) bounds (All-get [] (all-sets K) i h)
     (ap (λ (l : List ℕ). getD l i 0) e ∙ List·getD-append bytes more 0 i (omega (arith, length-map (allSets K) byteOf)) ∙ List·getD-map byteOf (allSets K) i [])
 
 -- the rows of the sets in order are the layout

@@ -10,7 +10,7 @@ use lib.ListN.{length}
 use lib.Arith.{digits-lt, digits-div, digits-mod}
 use lib.Count.{ones-step, ones as count, onesIn}
 use Rattle.lists.specs.Sums.{bit, sum, All}
-use Rattle.lists.proofs.Sums.{All-imp}
+use Rattle.lists.proofs.Each.{All-imp}
 use Rattle.even_places.specs.Sets.{has, ones, byteOf, sets}
 use Rattle.even_places.proofs.Counts.{sets-fit}
 

@@ -11,8 +11,9 @@ use lib.ListN.{length, getD, set, replicate, length-replicate, List·getD-append
 use lib.Seq.{getD-append-add, getD-set-same}
 use Rattle.lists.specs.Sums.{bit, keep, keepIf, sum, All, allNil, allCons}
 use Rattle.lists.specs.Ranges.{range}
-use Rattle.lists.proofs.Kept.{keep-append, keep-nothing}
-use Rattle.lists.proofs.Sums.{All-imp, All-replicate, sum-mul, sum-ext, sum-keep}
+use Rattle.lists.proofs.Keep.{keep-append, keep-nothing}
+use Rattle.lists.proofs.Each.{All-imp, All-replicate}
+use Rattle.lists.proofs.Sums.{sum-mul, sum-ext, sum-keep}
 use Rattle.even_places.specs.Sets.{has, sets, with, ones, alike}
 use Rattle.even_places.specs.Process.{afters}
 use Rattle.even_places.specs.Rule.{Row, same, give, next, after, number, join, ofSet, block, used, sideSets, sideRows, wantedRows, joins, sources}

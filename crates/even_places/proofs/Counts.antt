@@ -10,9 +10,9 @@ use mathlib.Core.Option.{none}
 use lib.ListN.{length, getD, replicate, length-replicate, getD-replicate}
 use Rattle.lists.specs.Sums.{bit, keep, sum, All, allNil, allCons}
 use Rattle.lists.specs.Ranges.{range}
-pub use Rattle.lists.proofs.Ranges.{range-length}
-use Rattle.lists.proofs.Ranges.{map-range-length, map-range-at}
-use Rattle.lists.proofs.Sums.{sum-append, sum-add, sum-mul, sum-ext, sum-one, sum-flatMap, sum-keep, sum-next, sum-replicate, All-append, All-map, All-imp, All-flatMap, All-every, All-replicate, All-keep}
+use Rattle.lists.proofs.Mapped.{mapped-length, mapped-at}
+use Rattle.lists.proofs.Sums.{sum-append, sum-add, sum-mul, sum-ext, sum-one, sum-flatMap, sum-keep, sum-next, sum-replicate}
+use Rattle.lists.proofs.Each.{All-append, All-map, All-imp, All-flatMap, All-every, All-replicate, All-keep}
 use Rattle.even_places.specs.Sets.{has, sets, with, ones}
 use Rattle.even_places.specs.Rule.{Row, isSome, number, bySet, others, block, used, sideSets, sideRows, sources, joins, wantedRows, rows, rowCount}
 use Rattle.even_places.proofs.Choose.{tail, gen-tail, gen-one, none-not, swap-has}
@@ -87,11 +87,11 @@ module _ (N K k : ℕ) (wide : 1 < N) (known : k < K) where
 
   pub starts-length : (b n : ℕ) → length (starts b n) ≡ K
   unfolding starts
-  starts-length b n = map-range-length (λ p. used N (fresh p) b n) K
+  starts-length b n = mapped-length (λ p. used N (fresh p) b n) 0 K
 
   pub starts-at : (p b n : ℕ) → p < K → getD (starts b n) p 0 ≡ used N (fresh p) b n
   unfolding starts
-  starts-at p b n h = map-range-at (λ q. used N (fresh q) b n) K p 0 h
+  starts-at p b n h = mapped-at (λ q. used N (fresh q) b n) 0 K p h
 
   pub side-is : (b n : ℕ) → sideRows N K k b n ≡ number (starts b n) (sideSets N K k b)
   unfolding sideRows starts fresh

@@ -17,13 +17,13 @@ use Rattle.lists.specs.Distinct.{distinct}
 use Rattle.lists.specs.Pairs.{under}
 use Rattle.lists.specs.Ranges.{range}
 use Rattle.lists.specs.Sums.{bit, keep, sum, All, allNil, allCons}
-use Rattle.lists.proofs.Kept.{keep-flatMap, map-flatMap}
+use Rattle.lists.proofs.Keep.{keep-flatMap}
+use Rattle.lists.proofs.Joined.{map-flatMap}
 use Rattle.lists.proofs.Below.{allBelow-below}
 use Rattle.lists.proofs.Distinct.{times, times-distinct, times-below}
-use Rattle.lists.proofs.Each.{All-at, All-get}
-use Rattle.lists.proofs.Elements.{All-both}
+use Rattle.lists.proofs.Each.{All-at, All-get, All-both, All-imp, All-flatMap, All-every, All-keep}
 use Rattle.lists.proofs.Pairs.{under-cons, under-all}
-use Rattle.lists.proofs.Sums.{sum-append, sum-all, sum-one, sum-flatMap, sum-swap, sum-first, sum-range, All-imp, All-flatMap, All-every, All-keep}
+use Rattle.lists.proofs.Sums.{sum-append, sum-all, sum-one, sum-flatMap, sum-swap, sum-first, sum-range}
 use Rattle.even_places.specs.Rule.{Row, isSome, same, ofSet, bySet, block, rows, cells, queryCells}
 use Rattle.even_places.specs.Sets.{sets}
 use Rattle.even_places.proofs.Rows.{below, below-lt, below-ge, is, hit, gives}

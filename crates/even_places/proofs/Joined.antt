@@ -10,8 +10,10 @@ use mathlib.Core.Option.{none, some}
 use lib.ListN.{length, set, replicate, length-set}
 use Rattle.lists.specs.Sums.{bit, keep, sum}
 use Rattle.lists.specs.Ranges.{range}
-use Rattle.lists.proofs.Kept.{keep-append, keep-nothing, keep-flatMap, flatMap-all, map-flatMap}
-use Rattle.lists.proofs.Sums.{sum-append, sum-mul, sum-ext, sum-all, sum-flatMap, All-imp}
+use Rattle.lists.proofs.Keep.{keep-append, keep-nothing, keep-flatMap}
+use Rattle.lists.proofs.Joined.{flatMap-all, map-flatMap}
+use Rattle.lists.proofs.Sums.{sum-append, sum-mul, sum-ext, sum-all, sum-flatMap}
+use Rattle.lists.proofs.Each.{All-imp}
 use Rattle.even_places.specs.Sets.{has, sets, ones, alike}
 use Rattle.even_places.specs.Rule.{isSome, same, bySet, ofSet, others, block, used, sideRows, sources, joins, wantedRows, rows, layout}
 use Rattle.even_places.proofs.Rows.{join-sum, others-sum}

@@ -14,8 +14,9 @@ use lib.ListN.{length, getD}
 use lib.Seq.{getD-set-same}
 use Rattle.lists.specs.Sums.{bit, sum, All, allNil, allCons}
 use Rattle.lists.specs.Ranges.{range}
-pub use Rattle.lists.proofs.Ranges.{range-append}
-use Rattle.lists.proofs.Sums.{sum-next, All-imp}
+use Rattle.lists.proofs.Ranges.{range-append}
+use Rattle.lists.proofs.Sums.{sum-next}
+use Rattle.lists.proofs.Each.{All-imp}
 use Rattle.even_places.specs.Sets.{has, with}
 use Rattle.even_places.specs.Rule.{Row, give, after, number, join, used, sideSets, sideRows, joins, wantedRows}
 use Rattle.even_places.proofs.Rows.{next-at, after-at, after-length}

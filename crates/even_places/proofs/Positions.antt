@@ -14,9 +14,10 @@ use lib.Seq.{getD-append-add}
 use lib.Dec.{eqb}
 use Rattle.lists.specs.Sums.{bit, keep, keepIf, sum, All, allNil, allCons}
 use Rattle.lists.specs.Ranges.{range}
-use Rattle.lists.proofs.Kept.{map-flatMap, keep-append}
-use Rattle.lists.proofs.Ranges.{range-append, range-at, range-below, range-length}
-use Rattle.lists.proofs.Sums.{All-imp, All-keep}
+use Rattle.lists.proofs.Joined.{map-flatMap}
+use Rattle.lists.proofs.Keep.{keep-append}
+use Rattle.lists.proofs.Ranges.{range-append, range-at, All-range, range-length}
+use Rattle.lists.proofs.Each.{All-imp, All-keep}
 use Rattle.even_places.specs.Sets.{has, ones, members}
 use Rattle.even_places.specs.Rule.{Row, isSome, same, ofSet, others, block, rows, cells, queryCells, layout, positions}
 use Rattle.even_places.proofs.SetLaws.{setOf, keep-sets, ones-drop}
@@ -110,7 +111,7 @@ module _ (N K k : ℕ) (wide : 1 < N) (known : k < K) where
 
   pub others-below : (n : ℕ) → n < N → All (λ m. m < N) (others N n)
   unfolding others
-  others-below n l = All-imp (λ m h. h .0) (All-keep (λ m. not (eqb m n)) (range-below N 0 N (omega arith)))
+  others-below n l = All-imp (λ m h. h .0) (All-keep (λ m. not (eqb m n)) (All-range N (λ m h. h)))
 
   -- by number: of server n's rows of a set with k, number j (N-1)^b + r is joined from row r of the set without k at the j-th other server
   pub joined-at : (b n j r : ℕ) (A : List Bool) → n < N → has k A ≡ true → length A ≡ K → ones A ≡ suc (suc b) → j < N - 1 → r < (N - 1) ^ b

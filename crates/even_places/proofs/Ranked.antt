@@ -11,13 +11,14 @@ use lib.ListN.{set}
 use lib.Dec.{eqb}
 use Rattle.lists.specs.Sums.{bit, keep, keepIf, sum, All, allNil, allCons}
 use Rattle.lists.specs.Ranges.{range}
-use Rattle.lists.proofs.Sums.{sum-append, All-imp, All-every}
-use Rattle.lists.proofs.Keep.{keep-all, flatMap-nothing}
-use Rattle.lists.proofs.Flat.{keep-map, flatMap-append}
+use Rattle.lists.proofs.Sums.{sum-append}
+use Rattle.lists.proofs.Each.{All-imp, All-every}
+use Rattle.lists.proofs.Keep.{keep-all, keep-map, keep-append, keep-nothing, keep-flatMap}
+use Rattle.lists.proofs.Joined.{flatMap-nothing, flatMap-append}
+use Rattle.lists.proofs.Mapped.{map-append}
+use Rattle.lists.proofs.Ranges.{range-append}
 use Rattle.even_places.specs.Sets.{has, ones, sets, allSets, alike}
-use Rattle.even_places.proofs.SetLaws.{keep-append, keep-nothing, keep-flatMap, map-append}
 use Rattle.even_places.proofs.Counts.{sets-fit, sets-zero, has-none}
-use Rattle.even_places.proofs.Order.{range-append}
 use borrow.Author.Tests.{eq-eqb, ne-eqb}
 use Rattle.even_places.proofs.Closed.{before, beforeIf}
 

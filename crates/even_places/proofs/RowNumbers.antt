@@ -11,9 +11,8 @@ use Rattle.lists.specs.Any.{Any}
 use Rattle.lists.specs.Ranges.{range}
 use Rattle.lists.specs.Sums.{bit, sum, All}
 use Rattle.lists.proofs.Any.{Any-imp, Any-sum, Any-flatMap, Any-range}
-use Rattle.lists.proofs.Flat.{flatMap-flatMap}
-use Rattle.lists.proofs.Kept.{flatMap-all}
-use Rattle.lists.proofs.Sums.{All-imp, All-flatMap, All-every}
+use Rattle.lists.proofs.Joined.{flatMap-flatMap, flatMap-all}
+use Rattle.lists.proofs.Each.{All-imp, All-flatMap, All-every}
 use Rattle.even_places.specs.Sets.{has, ones, sets, allSets, alike}
 use Rattle.even_places.specs.Rule.{Row, isSome, same, ofSet, bySet, block, rows, layout, firstRow}
 use Rattle.even_places.proofs.SetRuns.{Numbered, numbered}

@@ -16,7 +16,8 @@ use Rattle.lists.specs.Ranges.{range}
 use Rattle.even_places.specs.Sets.{has, sets, with, ones}
 use Rattle.even_places.specs.Process.{afters}
 use Rattle.even_places.specs.Rule.{Row, isSome, same, give, next, after, number, join, bySet, ofSet, others}
-use Rattle.lists.proofs.Sums.{sum-mul, sum-ext, sum-all, sum-zero, sum-flatMap, sum-keep, sum-swap, sum-next, All-imp}
+use Rattle.lists.proofs.Sums.{sum-mul, sum-ext, sum-all, sum-zero, sum-flatMap, sum-keep, sum-swap, sum-next}
+use Rattle.lists.proofs.Each.{All-imp}
 use Rattle.even_places.proofs.Choose.{sets-none, sets-some}
 
 -- 1 if v < n, else 0

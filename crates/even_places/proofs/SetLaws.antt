@@ -17,7 +17,6 @@ use Rattle.even_places.specs.Sets.{has, sets, ones, alike}
 use Rattle.even_places.specs.Rule.{Row, isSome, same, give, next, after, number, join, ofSet}
 use Rattle.even_places.proofs.Choose.{sets-none, sets-some}
 use Rattle.even_places.proofs.Rows.{after-length, Lacks}
-pub use Rattle.lists.proofs.Kept.{keep-append, keep-nothing, keep-flatMap, map-append, flatMap-all, map-flatMap}
 
 -- a row's set
 unfoldable pub setOf : Row → List Bool

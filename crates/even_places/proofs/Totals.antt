@@ -12,7 +12,8 @@ use lib.ListN.{set, replicate, getD-replicate}
 use lib.Seq.{getD-set-other}
 use Rattle.lists.specs.Sums.{bit, keep, keepIf, sum}
 use Rattle.lists.specs.Ranges.{range}
-use Rattle.lists.proofs.Sums.{sum-mul, sum-ext, sum-all, sum-zero, sum-flatMap, sum-swap, sum-next, All-imp}
+use Rattle.lists.proofs.Sums.{sum-mul, sum-ext, sum-all, sum-zero, sum-flatMap, sum-swap, sum-next}
+use Rattle.lists.proofs.Each.{All-imp}
 use Rattle.even_places.specs.Sets.{has, sets, with}
 use Rattle.even_places.specs.Rule.{Row, isSome, number, others, used, sideSets, sideRows, sources, joins, wantedRows, rows}
 use Rattle.even_places.proofs.Choose.{gen, tail, gen-tail, gen-not, gen-both, full-has}

@@ -9,10 +9,8 @@ use mathlib.Core.Bool.{Bool, true, false, false≢true}
 use mathlib.Core.Option.{none, some}
 use lib.ListN.{length, getD, take}
 use Rattle.lists.specs.Sums.{bit, sum, All}
-use Rattle.lists.proofs.Each.{All-get}
-use Rattle.lists.proofs.Flat.{flatMap-flatMap}
-use Rattle.lists.proofs.FlatAt.{PlacedAt, placed-at, flatMap-size}
-use Rattle.lists.proofs.Sums.{All-imp, All-every, All-keep}
+use Rattle.lists.proofs.Each.{All-get, All-imp, All-every, All-keep}
+use Rattle.lists.proofs.Joined.{flatMap-flatMap, PlacedAt, placed-at, flatMap-size}
 use Rattle.even_places.specs.Sets.{has, ones, allSets}
 use Rattle.even_places.specs.Rule.{Row, isSome, same, ofSet, block, rows, cells, queryCells, layout, firstRow}
 use Rattle.even_places.proofs.SetLaws.{setOf, same-alike, alike-eq}

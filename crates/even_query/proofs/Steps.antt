@@ -1,6 +1,6 @@
 -- What the steps of a query rest on: a place read off the tables, a row's origin by its set's byte, and one row or set more.
 use Prim.Native.Nat.{ℕ, suc, _+_, _-_, _*_, _/_, _%_, _^_, _≤_, _<_}
-use native.Mathlib.Nat.{zero-add, one-mul, mul-le-mul, one-le-pow, pow-succ', div-lt-iff-lt-mul}
+use native.Mathlib.Nat.{one-mul, mul-le-mul, one-le-pow, pow-succ', div-lt-iff-lt-mul}
 use native.Mathlib.Omega.{arith}
 use mathlib.Core.Path.{_≡_, refl, sym, ap, ap₂, _∙_}
 use mathlib.Core.Bool.{Bool, true, false, cond, _&&_}
@@ -9,13 +9,11 @@ use borrow.Author.Tests.{ltb-true}
 use lib.Arith.{digits-div, digits-mod}
 use lib.Count.{ones as count}
 use lib.Dec.{eqb, ltb}
-use lib.ListN.{length, getD, length-map}
-use Rattle.lists.specs.Ranges.{range}
+use lib.ListN.{length, getD}
 use Rattle.lists.specs.Sums.{bit}
-use Rattle.lists.proofs.Elements.{map-range-at}
+use Rattle.lists.proofs.Mapped.{mapped-length, mapped-at}
 use Rattle.even_places.specs.Sets.{has, ones}
 use Rattle.even_places.proofs.Bytes.{byte-has}
-use Rattle.even_places.proofs.Counts.{range-length}
 use Rattle.even_layout.specs.Layout.{setIn}
 use Rattle.even_ranks.specs.Counts.{Stands, takers, taken, takenTable}
 use Rattle.even_ranks.specs.Walk.{placeIn, plain, joined, isJoined, originOf}
@@ -26,12 +24,12 @@ use Rattle.even_query.specs.Query.{Tables, Within}
 table-at : (N k b p : ℕ) (totals : List ℕ) → b < 8 → p < 8 → getD (takenTable N k totals) (b * 8 + p) 0 ≡ taken N k totals b p
 unfolding takenTable
 table-at N k b p totals hb hp =
-    map-range-at (λ j. taken N k totals (j / 8) (j % 8)) 0 64 (b * 8 + p) (omega arith)
-    ∙ rw (zero-add (b * 8 + p), digits-div b {m = 8} hp, digits-mod b {m = 8} hp)
+    mapped-at (λ j. taken N k totals (j / 8) (j % 8)) 0 64 (b * 8 + p) (omega arith)
+    ∙ rw (digits-div b {m = 8} hp, digits-mod b {m = 8} hp)
 
 pub table-length : (N k : ℕ) (totals : List ℕ) → length (takenTable N k totals) ≡ 64
 unfolding takenTable
-table-length N k totals = length-map (range 0 64) (λ j. taken N k totals (j / 8) (j % 8)) ∙ range-length 0 64
+table-length N k totals = mapped-length (λ j. taken N k totals (j / 8) (j % 8)) 0 64
 
 -- the place that the code computes from the tables
 pub place-read : (N k b p rows turn rank number : ℕ) (totals table : List ℕ) → Tables N k totals table → b < 8 → p < 8

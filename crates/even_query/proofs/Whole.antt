@@ -7,7 +7,7 @@ use lib.Arith.{digits-lt}
 use lib.ListN.{length, getD, take, length-map, length-append, List·getD-map}
 use lib.Seq.{take-at}
 use Rattle.lists.specs.Below.{Below}
-use Rattle.lists.proofs.Reading.{cut-at}
+use Rattle.lists.proofs.Cuts.{cut-at}
 use Rattle.even_places.specs.Sets.{byteOf, allSets}
 use Rattle.even_places.specs.Rule.{queryCells, positions}
 use Rattle.even_places.proofs.Flat.{inside, query-length}

@@ -15,9 +15,9 @@ use borrow.Author.Tests.{eq-eqb, ne-eqb, lt-ltb, le-ltb}
 use Rattle.lists.specs.Parts.{cut}
 use Rattle.lists.specs.Ranges.{range}
 use Rattle.lists.specs.Sums.{bit, keep, sum, All}
-use Rattle.lists.proofs.Reading.{cut-at}
+use Rattle.lists.proofs.Cuts.{cut-at}
 use Rattle.lists.proofs.Sums.{sum-range}
-use Rattle.lists.proofs.Keep.{All-front, All-back, All-head}
+use Rattle.lists.proofs.Each.{All-front, All-back, All-head}
 use Rattle.even_places.specs.Sets.{has, ones, with, sets, allSets}
 use Rattle.even_places.specs.Rule.{used, sideSets, joins, ofSet, block, others}
 use Rattle.even_places.proofs.SetLaws.{ones-drop, has-drop}

@@ -11,11 +11,13 @@ use lib.ListN.{length, set, length-set, length-map}
 use lib.Seq.{getD-set-other}
 use borrow.Author.Tests.{eq-eqb}
 use Rattle.lists.specs.Sums.{bit, keep, keepIf, sum}
-use Rattle.lists.proofs.Sums.{sum-append, sum-map, sum-ext, sum-all, sum-one, sum-keep, All-imp, All-keep, All-every}
-use Rattle.lists.proofs.Keep.{keep-and, sum-keep-most}
+use Rattle.lists.proofs.Sums.{sum-append, sum-map, sum-ext, sum-all, sum-one, sum-keep, sum-keep-most}
+use Rattle.lists.proofs.Each.{All-imp, All-keep, All-every}
+use Rattle.lists.proofs.Keep.{keep-and, keep-append}
+use Rattle.lists.proofs.Mapped.{map-append}
 use Rattle.even_places.specs.Sets.{has, ones, with, sets, allSets, alike}
 use Rattle.even_places.specs.Rule.{sideSets, joins}
-use Rattle.even_places.proofs.SetLaws.{keep-append, map-append, alike-one, ones-drop}
+use Rattle.even_places.proofs.SetLaws.{alike-one, ones-drop}
 use Rattle.even_places.proofs.Counts.{sets-zero, has-none, sideSets-sum}
 use Rattle.even_places.proofs.Closed.{before}
 use Rattle.even_places.proofs.Ranked.{taken-out, of-block, before-seam}

@@ -15,8 +15,8 @@ use Rattle.lists.specs.Below.{Below}
 use Rattle.lists.specs.Ranges.{range}
 use Rattle.lists.specs.Sums.{bit, sum}
 use Rattle.lists.proofs.Below.{below-cons, below-append, below-take, below-drop, below-zeros}
-use Rattle.lists.proofs.Parts.{cut-length, put-part}
-use Rattle.lists.proofs.Reading.{write-more}
+use Rattle.lists.proofs.Cuts.{cut-length}
+use Rattle.lists.proofs.Puts.{put-part, write-more}
 use Rattle.lists.proofs.Sums.{sum-next}
 use Rattle.even_places.specs.Sets.{has, ones, byteOf, allSets}
 use Rattle.even_places.specs.Rule.{after}

@@ -13,14 +13,14 @@ use lib.ListN.{length, getD, take, length-map}
 use lib.Seq.{take-suc, take-all}
 use Rattle.lists.specs.Ranges.{range}
 use Rattle.lists.specs.Sums.{bit, keep, keepIf, sum}
-use Rattle.lists.proofs.Flat.{flatMap-append}
+use Rattle.lists.proofs.Joined.{flatMap-append}
 use Rattle.lists.proofs.Sums.{sum-append}
+use Rattle.lists.proofs.Keep.{keep-append}
 use Rattle.symbol.specs.Xor.{xor}
 use Rattle.scheme.specs.Scheme.{answersIn}
 use Rattle.even_places.specs.Sets.{has, ones, allSets, byteOf}
 use Rattle.even_places.proofs.Bytes.{byte-ones, byte-has}
 use Rattle.even_places.proofs.ByteParts.{byte-covers}
-use Rattle.even_places.proofs.SetLaws.{keep-append}
 use Rattle.even_places.proofs.WantedCells.{cellsOf}
 use Rattle.even_scheme.specs.Even.{assemble, recoveredPart, serverParts, evenScheme}
 use Rattle.even_layout.specs.Layout.{rowsOf}

@@ -13,7 +13,7 @@ use lib.Dec.{eqb}
 use lib.ListN.{length, getD, take, set}
 use Rattle.lists.specs.Parts.{cut}
 use Rattle.lists.proofs.Mapped.{mapped-at}
-use Rattle.lists.proofs.PartsAt.{cut-cut}
+use Rattle.lists.proofs.Cuts.{cut-cut}
 use Rattle.parameters.specs.Measures.{evenRows, evenSizes}
 use Rattle.parameters.proofs.Bounds.{EvenBounds}
 use Rattle.symbol.specs.Xor.{xor}

@@ -5,9 +5,9 @@ use mathlib.Core.Path.{_≡_, refl, sym, ap, _∙_}
 use mathlib.Core.List.{List, [], _∷_, _++_, append-nil, map, flatMap}
 use Rattle.lists.specs.Parts.{put}
 use Rattle.lists.specs.Ranges.{range}
-use Rattle.lists.proofs.Flat.{flatMap-append}
-use Rattle.even_places.proofs.Order.{range-append}
-use Rattle.even_places.proofs.SetLaws.{map-append}
+use Rattle.lists.proofs.Joined.{flatMap-append}
+use Rattle.lists.proofs.Ranges.{range-append}
+use Rattle.lists.proofs.Mapped.{map-append}
 use Rattle.even_scheme.specs.Even.{assemble}
 
 abbrev Part : Type 0

@@ -9,7 +9,7 @@ use lib.ListN.{length, drop, length-append, length-map, replicate, length-replic
 use Rattle.lists.specs.Below.{Below}
 use Rattle.lists.specs.Sums.{All, allNil, allCons}
 use Rattle.lists.proofs.Below.{below-drop}
-use Rattle.lists.proofs.Sums.{All-imp, All-flatMap, All-replicate}
+use Rattle.lists.proofs.Each.{All-imp, All-flatMap, All-replicate}
 use Rattle.parameters.specs.Bounds.{evenFits}
 use Rattle.parameters.specs.Measures.{evenSizes, evenRows}
 use Rattle.parameters.proofs.Bounds.{even-bounds}

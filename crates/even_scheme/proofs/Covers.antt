@@ -9,10 +9,10 @@ use lib.ListN.{length, getD, length-map, List·getD-map}
 use Rattle.lists.specs.Arranged.{placeIn}
 use Rattle.lists.specs.Ranges.{range}
 use Rattle.lists.specs.Sums.{All}
-use Rattle.lists.proofs.Any.{Any-at, All-range}
+use Rattle.lists.proofs.Any.{Any-at}
+use Rattle.lists.proofs.Ranges.{All-range}
 use Rattle.lists.proofs.Arranged.{Permutation, covers}
-use Rattle.lists.proofs.Each.{All-get}
-use Rattle.lists.proofs.Sums.{All-imp, All-keep, All-flatMap, All-map}
+use Rattle.lists.proofs.Each.{All-get, All-imp, All-keep, All-flatMap, All-map}
 use Rattle.symbol.specs.Sum.{Sum}
 use Rattle.scheme.specs.Scheme.{Valid}
 use Rattle.even_places.specs.Sets.{has, ones}

@@ -11,9 +11,9 @@ use lib.Seq.{drop-at}
 use Rattle.lists.specs.Below.{Below}
 use Rattle.lists.specs.Parts.{cut}
 use Rattle.lists.specs.Sums.{All, allNil, allCons, bit, sum}
-use Rattle.lists.proofs.PartsAt.{flatMap-cut}
-use Rattle.lists.proofs.Ranges.{map-range-at}
-use Rattle.lists.proofs.Sums.{All-imp}
+use Rattle.lists.proofs.Cuts.{flatMap-cut}
+use Rattle.lists.proofs.Mapped.{mapped-at}
+use Rattle.lists.proofs.Each.{All-imp}
 use Rattle.symbol.specs.Group.{AbelianGroup, Symbols, none, more}
 use Rattle.symbol.specs.Sum.{Sum, total}
 use Rattle.symbol.proofs.Totals.{total-symbol}
@@ -109,7 +109,7 @@ module _ (sum : Sum) (N K S k : ℕ) (store key : List ℕ) (run : Retrieval sum
       ≡ rowTotal sum N K S store key (getD (setRows N K k n A) i [])
   unfolding answeredRow honestAnswers rowTotal
   honest-row n l A i set-good h =
-      ap (cut ((firstRow A (layout N K) + i) * S) S) (map-range-at (λ m. evenAnswer sum N K S store (evenQuery N K k m key)) N n [] l ∙ answer-rows sum N K S store key k n (run .wide) (run .known) l)
+      ap (cut ((firstRow A (layout N K) + i) * S) S) (mapped-at (λ m. evenAnswer sum N K S store (evenQuery N K k m key)) [] N n l ∙ answer-rows sum N K S store key k n (run .wide) (run .known) l)
       ∙ flatMap-cut (rowTotal sum N K S store key) S []
       (All-imp (λ r e. total-symbol sum S (run .group) (row-symbols r e) .long) (rows-long N K k (run .wide) (run .known) n))
       (firstRow A (layout N K) + i) (number .0)

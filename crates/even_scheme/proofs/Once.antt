@@ -15,11 +15,12 @@ use Rattle.lists.specs.Ranges.{range}
 use Rattle.lists.specs.Sums.{bit, keep, sum}
 use Rattle.lists.proofs.Arranged.{Permutation, permutation-facts, picked-permutation}
 use Rattle.lists.proofs.Below.{allBelow-below}
-use Rattle.lists.proofs.Distinct.{bit-small, times, times-below, times-distinct, stands-times, stands-count}
-use Rattle.lists.proofs.Kept.{map-flatMap}
+use Rattle.lists.proofs.Bits.{bit-small}
+use Rattle.lists.proofs.Distinct.{times, times-below, times-distinct, stands-times, stands-count}
+use Rattle.lists.proofs.Joined.{map-flatMap}
 use Rattle.lists.proofs.Ranges.{range-length}
-use Rattle.lists.proofs.Sums.{All-imp, sum-all, sum-flatMap, sum-keep, sum-map, sum-range, sum-zero, sum-one}
-use Rattle.lists.proofs.SumsAt.{sum-at}
+use Rattle.lists.proofs.Each.{All-imp}
+use Rattle.lists.proofs.Sums.{sum-all, sum-flatMap, sum-keep, sum-map, sum-range, sum-zero, sum-one, sum-at}
 use Rattle.symbol.specs.Sum.{Sum}
 use Rattle.scheme.specs.Scheme.{Valid}
 use Rattle.even_places.specs.Sets.{has, ones, allSets}

@@ -11,8 +11,8 @@ use lib.Dec.{eqb}
 use lib.ListN.{length, getD, set, length-replicate}
 use Rattle.lists.specs.Parts.{cut, put}
 use Rattle.lists.specs.Sums.{All}
-use Rattle.lists.proofs.Parts.{cut-length}
-use Rattle.lists.proofs.Ranges.{map-range-at}
+use Rattle.lists.proofs.Cuts.{cut-length}
+use Rattle.lists.proofs.Mapped.{mapped-at}
 use Rattle.parameters.specs.Bounds.{evenFits}
 use Rattle.parameters.specs.Measures.{evenSizes, evenRows}
 use Rattle.parameters.proofs.Bounds.{EvenBounds, even-bounds}
@@ -104,7 +104,7 @@ module _ (sum : Sum) (N K S : ℕ) (keeps : KeepsLength (sum .minus) S) (fits : 
     unfolding answersIn evenSizes
     slots-long n l =
         let slot = evenRows N K * S in
-        ap length (map-range-at (λ server. cut (server * slot) slot slots) N n [] l)
+        ap length (mapped-at (λ server. cut (server * slot) slot slots) [] N n l)
         ∙ cut-length (n * slot) slot slots (omega (arith, suc-mul n slot, mul-le-mul-right slot l))
 
     pub slots-written : (buffer : List ℕ) → evenScheme sum N K S .sizes .message ≤ length buffer

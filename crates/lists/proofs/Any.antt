@@ -1,4 +1,4 @@
--- Laws of `Any`: an element with a property by its place, in joined lists, and in a range; and `All` of a range.
+-- Laws of `Any`: an element with a property by its place, in joined lists, in a range, and in a sum that is not 0.
 use mathlib.Core.Path.{sym, subst, _∙_}
 use mathlib.Core.List.{List, [], _∷_, _++_, flatMap}
 use Prim.Native.Nat.{ℕ, zero, suc, _<_}
@@ -8,9 +8,8 @@ use native.Mathlib.Omega.{arith}
 use lib.ListN.{length, getD}
 use Rattle.lists.specs.Any.{Any, anyHere, anyLater}
 use Rattle.lists.specs.Ranges.{range}
-use Rattle.lists.specs.Sums.{All, sum}
-use Rattle.lists.proofs.Ranges.{range-length, range-at, range-below}
-use Rattle.lists.proofs.Sums.{All-imp}
+use Rattle.lists.specs.Sums.{sum}
+use Rattle.lists.proofs.Ranges.{range-length, range-at}
 
 module _ {A : Type 0} where
   Any-left : {P : A → Type 0} {xs : List A} (ys : List A) → Any P xs → Any P (xs ++ ys)
@@ -49,6 +48,3 @@ module _ {A B : Type 0} where
 module _ {P : ℕ → Type 0} where
   pub Any-range : (count i : ℕ) → i < count → P i → Any P (range 0 count)
   Any-range count i h p = Any-at 0 (range 0 count) i (omega (arith, range-length 0 count)) (subst P (sym (range-at 0 count i 0 h ∙ zero-add i)) p)
-
-  pub All-range : (count : ℕ) → ((i : ℕ) → i < count → P i) → All P (range 0 count)
-  All-range count h = All-imp h (range-below count 0 count (omega arith))

@@ -14,16 +14,14 @@ use Rattle.lists.specs.Below.{allBelow, Below}
 use Rattle.lists.specs.Distinct.{stands, distinct}
 use Rattle.lists.specs.Ranges.{range}
 use Rattle.lists.specs.Sums.{bit, sum}
-use Rattle.lists.proofs.Each.{All-at}
-use Rattle.lists.proofs.Sums.{sum-all, sum-ext, sum-one, sum-next, sum-swap, All-imp}
+use Rattle.lists.proofs.Bits.{bit-zero}
+use Rattle.lists.proofs.Both.{both-true}
+use Rattle.lists.proofs.Each.{All-at, All-imp}
+use Rattle.lists.proofs.Sums.{sum-all, sum-ext, sum-one, sum-next, sum-swap}
 
 -- no two places hold one number
 abbrev pub Apart : List ℕ → Type 0
 Apart l = (i j : ℕ) → i < length l → j < length l → getD l i 0 ≡ getD l j 0 → i ≡ j
-
-pub and-both : (t u : Bool) → t && u ≡ true → (t ≡ true) × (u ≡ true)
-and-both true u e = (refl, e)
-and-both false u e = absurd (false≢true e)
 
 pub stands-at : (l : List ℕ) (i : ℕ) → i < length l → stands (getD l i 0) l ≡ true
 unfolding stands
@@ -51,11 +49,11 @@ unfolding distinct
 distinct-apart [] e i j h k q = absurd (not-suc-le-zero h)
 distinct-apart (x ∷ l) e zero zero h k q = refl
 distinct-apart (x ∷ l) e zero (suc j) h k q =
-    absurd (true≢false (sym (stands-at l j (omega arith)) ∙ ap (λ y. stands y l) (sym q) ∙ not-true (stands x l) (and-both (not (stands x l)) (distinct l) e .0)))
+    absurd (true≢false (sym (stands-at l j (omega arith)) ∙ ap (λ y. stands y l) (sym q) ∙ not-true (stands x l) (both-true (not (stands x l)) (distinct l) e .0)))
 distinct-apart (x ∷ l) e (suc i) zero h k q =
-    absurd (true≢false (sym (stands-at l i (omega arith)) ∙ ap (λ y. stands y l) q ∙ not-true (stands x l) (and-both (not (stands x l)) (distinct l) e .0)))
+    absurd (true≢false (sym (stands-at l i (omega arith)) ∙ ap (λ y. stands y l) q ∙ not-true (stands x l) (both-true (not (stands x l)) (distinct l) e .0)))
 distinct-apart (x ∷ l) e (suc i) (suc j) h k q =
-    ap suc (distinct-apart l (and-both (not (stands x l)) (distinct l) e .1) i j (omega arith) (omega arith) q)
+    ap suc (distinct-apart l (both-true (not (stands x l)) (distinct l) e .1) i j (omega arith) (omega arith) q)
 
 pub apart-distinct : (l : List ℕ) → Apart l → distinct l ≡ true
 unfolding distinct
@@ -83,22 +81,12 @@ eqb-comm m n = go (eqb m n) refl
 unfoldable pub times : ℕ → List ℕ → ℕ
 times v l = sum (λ x. bit (eqb x v)) l
 
-bit-zero : (t : Bool) → bit t ≡ 0 → t ≡ false
-unfolding bit
-bit-zero true e = absurd (let w : ⊥ = omega arith in w)
-bit-zero false e = refl
-
-pub bit-small : (t : Bool) → bit t ≤ 1
-unfolding bit
-bit-small true = omega arith
-bit-small false = omega arith
-
 pub stands-times : (v : ℕ) (l : List ℕ) → distinct l ≡ true → times v l ≡ bit (stands v l)
 unfolding distinct stands times sum bit
 stands-times v [] d = refl
 stands-times v (x ∷ l) d =
-    let new = not-true (stands x l) (and-both (not (stands x l)) (distinct l) d .0) in
-    rw (eqb-comm x v) (go (eqb v x) refl new (stands-times v l (and-both (not (stands x l)) (distinct l) d .1)))
+    let new = not-true (stands x l) (both-true (not (stands x l)) (distinct l) d .0) in
+    rw (eqb-comm x v) (go (eqb v x) refl new (stands-times v l (both-true (not (stands x l)) (distinct l) d .1)))
   where
     go : (t : Bool) → eqb v x ≡ t → stands x l ≡ false → times v l ≡ bit (stands v l) → bit t + times v l ≡ bit (t || stands v l)
     go true e new ih = omega (arith, ih, ap bit (ap (λ y. stands y l) (eqb-true v x e) ∙ new))

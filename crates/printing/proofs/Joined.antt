@@ -9,7 +9,7 @@ use lib.ListN.{length, getD, take, length-append, drop-of-length-le}
 use lib.Seq.{take-suc}
 use Rattle.lists.specs.Parts.{put}
 use Rattle.lists.specs.Ranges.{range}
-use Rattle.lists.proofs.Flat.{flatMap-append}
+use Rattle.lists.proofs.Joined.{flatMap-append}
 use Rattle.lists.proofs.Puts.{put-next}
 
 module _ {B : Type 0} (f : ℕ → List B) where

@@ -10,8 +10,8 @@ use borrow.Author.Tests.{le-leb, leb-true, eqb-true, ltb-true, ltb-false, not-tr
 use lib.Dec.{leb, ltb, eqb}
 use lib.ListN.{length, take, drop, getD, take-append-drop, List·getD-eq-default}
 use lib.Seq.{take-append-seam, getD-append-seam, length-take-le, drop-cons, drop-drop, getD-take}
-use Rattle.lists.proofs.Every.{both-true}
-use Rattle.lists.proofs.Rests.{drop-after}
+use Rattle.lists.proofs.Both.{both-true}
+use Rattle.lists.proofs.Cuts.{drop-after}
 use Rattle.text_lines.specs.declared.Line.the-variants.{Value, Refused}
 use Rattle.text_lines.specs.Decimal.{decimal, digitCount, valueFrom}
 use Rattle.text_lines.specs.Lines.{numberText, begins, leadingZero, isNumeral, numberAt, numberLine}

@@ -8,7 +8,9 @@ use lib.Count.{ones-le}
 use lib.ListN.{length, getD, take, drop, replicate, length-drop}
 use Rattle.lists.specs.Below.{Below}
 use Rattle.lists.specs.Parts.{put}
-use Rattle.lists.proofs.Writing.{Pending, rest-part, rest-written, pending-start, pending-as, pending-done}
+use Rattle.lists.proofs.Writing.{Pending, pending-start, pending-as, pending-done}
+use Rattle.lists.proofs.Cuts.{to-end}
+use Rattle.lists.proofs.Puts.{rest-written}
 use Rattle.parameters.specs.Measures.{evenSizes}
 use Rattle.parameters.proofs.Bounds.{even-bounds}
 use Rattle.symbol.specs.Xor.{xor}
@@ -146,8 +148,8 @@ answer-set-requires c κs =
     let inside : at .loop .i < length (allSets (start .args .k)) = omega (arith, at .before .power .ensures, all-length (start .args .k)) in
     let turn = set-turn (at .loop .i) (at .loop .at) (start .pre) (λ j l. at .before .before .before .before .before .shared-slice-known .given j .fits)
     (at .before .before .ordered-sets .ensures) inside (c .before .before .rows-of .ensures) (at .loop .inv .1) (at .loop .inv .2) in (
-      rw (rest-part (at .loop .at) (start .args .query .now)) (turn .given),
-      rw (rest-part (at .loop .end) (at .loop .out)) (omega (arith, length-drop (at .loop .end) (at .loop .out), turn .written)),
+      rw (to-end (start .args .query .now) (at .loop .at)) (turn .given),
+      rw (to-end (at .loop .out) (at .loop .end)) (omega (arith, length-drop (at .loop .end) (at .loop .out), turn .written)),
     )
 
 cast-at : tie.Need-cast-at Inv-loop μ-loop
@@ -213,7 +215,7 @@ loop-again c =
     let numbers = drop (at .loop .at) (start .args .query .now) in
     let answered = rowAnswers xor (start .args .n) (start .args .k) (start .args .s) (start .args .store .now)
     (replicate (c .before .before .before .before .before .rows-of .result) (setIn (start .args .k) (getD (at .before .before .ordered-sets .result) (at .loop .i) 0))) in
-    let made = c .before .before .answer-set .ensures ∙ ap₂ (λ (l m : List ℕ). put 0 (answered l) m) (rest-part (at .loop .at) (start .args .query .now)) (rest-part end out) in (
+    let made = c .before .before .answer-set .ensures ∙ ap₂ (λ (l m : List ℕ). put 0 (answered l) m) (to-end (start .args .query .now) (at .loop .at)) (to-end out end) in (
       omega arith,
       turn .read,
       pending-as refl refl

@@ -4,7 +4,8 @@ use mathlib.Core.List.{_++_, map}
 use Prim.Native.Nat.{ℕ, _+_, _-_, _≤_}
 use native.Mathlib.Omega.{arith}
 use lib.ListN.{length, replicate, length-map, length-append}
-use Rattle.lists.proofs.Writing.{Pending, pending-start, pending-part, pending-as, pending-done, put-padded}
+use Rattle.lists.proofs.Writing.{Pending, pending-start, pending-part, pending-as, pending-done}
+use Rattle.lists.proofs.Puts.{put-padded}
 use Rattle.even_places.specs.Sets.{sets, byteOf, allSets}
 use Rattle.even_layout.specs.Layout.{subsets}
 use Rattle.even_layout.proofs.Blocks.{subsets-few, table-length, table-front, front-length, block-front, all-length, blocksFrom, blocks-all, blocks-none, blocks-more}

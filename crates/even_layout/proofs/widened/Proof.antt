@@ -5,7 +5,7 @@ use Prim.Native.Nat.{ℕ, _+_, _*_}
 use native.Mathlib.Omega.{arith}
 use lib.ListN.{length, length-map}
 use Rattle.lists.specs.Parts.{put}
-use Rattle.lists.proofs.Writing.{put-two}
+use Rattle.lists.proofs.Puts.{put-two}
 use Rattle.even_layout.specs.Layout.{doubled}
 use borrow.Author.Needs.{needs}
 use Rattle.even_layout.proofs.widened.Statement.{statement}

@@ -6,7 +6,7 @@ use native.Mathlib.Omega.{arith}
 use borrow.Author.Needs.{needs}
 use lib.ListN.{length, take, replicate}
 use Rattle.lists.specs.Parts.{put}
-use Rattle.lists.proofs.Writing.{put-padded}
+use Rattle.lists.proofs.Puts.{put-padded}
 use Rattle.even_places.specs.Sets.{byteOf, allSets}
 use Rattle.even_places.specs.Rule.{queryCells}
 use Rattle.even_layout.proofs.Blocks.{all-length, subsets-few}

@@ -6,7 +6,7 @@ use Prim.Native.Nat.{ℕ, _+_, _*_, _/_, _%_}
 use native.Mathlib.Omega.{arith}
 use lib.ListN.{getD}
 use Rattle.lists.specs.Parts.{cut, put}
-use Rattle.lists.proofs.Parts.{cut-length}
+use Rattle.lists.proofs.Cuts.{cut-length}
 use Rattle.even_places.specs.Rule.{others}
 use Rattle.even_recover.proofs.Held.{own-row, source-row}
 use Rattle.even_recover.proofs.RowSymbol.{symbol-alone, symbol-joined, copied-combined}

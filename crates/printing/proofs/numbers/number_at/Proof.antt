@@ -1,7 +1,7 @@
 -- `printing::numbers::number_at` meets its contract: past the end there is no number, and the part that is lent goes to the end.
 use mathlib.Core.Path.{sym, ap, _∙_}
 use native.Mathlib.Omega.{arith}
-use Rattle.lists.proofs.Rests.{to-end}
+use Rattle.lists.proofs.Cuts.{to-end}
 use Rattle.printing.specs.NumberLists.{numeralFrom}
 use Rattle.printing.proofs.Reading.{numeral-past}
 use borrow.Author.Needs.{needs}
