@@ -29,7 +29,7 @@ abbrev hasBlock : ℕ → List Bool → Bool
 hasBlock block A = eqb (ones A) block
 
 -- the subsets with b messages are the sets of b messages, in the same order
-pub keep-subsets : (K b : ℕ) → keep (hasBlock b) (subsets K) ≡ sets K b
+keep-subsets : (K b : ℕ) → keep (hasBlock b) (subsets K) ≡ sets K b
 unfolding subsets sets keep keepIf ones sum bit
 keep-subsets zero zero = refl
 keep-subsets zero (suc b) = rw (eqb·zero-suc b)
@@ -52,7 +52,7 @@ keep-subsets (suc K) b =
     go zero h = rw (without 0, h 0, keep-nothing (λ A. hasBlock 0 (true ∷ A)) (All-every lacks (subsets K)))
     go (suc b) h = rw (without (suc b), h (suc b), fun-ext (has b), h b)
 
-pub subsets-length : (K : ℕ) → length (subsets K) ≡ 2 ^ K
+subsets-length : (K : ℕ) → length (subsets K) ≡ 2 ^ K
 unfolding subsets
 subsets-length zero = refl
 subsets-length (suc K) =
@@ -60,7 +60,7 @@ subsets-length (suc K) =
     ∙ omega (arith, length-map (subsets K) (λ A. true ∷ A), length-map (subsets K) (λ A. false ∷ A), subsets-length K, pow-suc 2 K)
 
 -- each has K messages to say of
-pub subsets-long : (K : ℕ) → All (λ A. length A ≡ K) (subsets K)
+subsets-long : (K : ℕ) → All (λ A. length A ≡ K) (subsets K)
 unfolding subsets
 subsets-long zero = allCons refl allNil
 subsets-long (suc K) =
@@ -88,7 +88,7 @@ pub subsets-below : (K : ℕ) → Below (2 ^ K) (map byteOf (subsets K))
 subsets-below K = bytes-below K (subsets-long K)
 
 -- the bytes of a block's sets
-pub block-bytes : (K b : ℕ) → ofBlock b (map byteOf (subsets K)) ≡ map byteOf (sets K b)
+block-bytes : (K b : ℕ) → ofBlock b (map byteOf (subsets K)) ≡ map byteOf (sets K b)
 unfolding ofBlock
 block-bytes K b =
     keep-map (λ byte. eqb (count byte) b) byteOf (subsets K)

@@ -2,14 +2,14 @@
 // A set of messages is one byte, bit p for message p; its block is the number of ones in it (document 01, 'Even code').
 ghost use mathlib.Core.Path.{_≡_};
 ghost use mathlib.Core.List.{_++_, map, flatMap};
-ghost use Prim.Native.Nat.{_+_, _-_, _^_, _≤_, _<_};
-ghost use lib.ListN.{length, replicate};
+ghost use Prim.Native.Nat.{ℕ, _+_, _-_, _^_, _≤_, _<_};
+ghost use lib.ListN.{length, getD, replicate};
 ghost use lib.Count.{ones};
 ghost use Rattle.lists.specs.Parts.{put};
 ghost use Rattle.lists.specs.Padded.{padded};
 ghost use Rattle.lists.specs.Below.{Below};
 ghost use Rattle.even_places.specs.Sets.{byteOf, members, allSets};
-ghost use Rattle.even_places.specs.Rule.{«positions»};
+ghost use Rattle.even_places.specs.Rule.{others, «positions»};
 ghost use Rattle.even_layout.specs.Layout.{Bounds, setIn, «subsets» as allSubsets, doubled, ofBlock, firstRows};
 
 // Writes each byte doubled, with `low` as the new lowest bit, from `at` on.
@@ -162,4 +162,12 @@ pub fn first_rows(n: usize, k: usize) -> [usize; 256]
         i += 1;
     }
     firsts
+}
+
+// The server whose turn it is of those that are not `server`, ascending from turn 0.
+pub fn other_server(server: usize, turn: usize) -> usize
+    requires { ⌜ turn < 16 ⌝ }
+    ensures { λ r. ⌜ ((n : ℕ) → server < n → turn < n - 1 → r ≡ getD (others n server) turn 0) ⌝ }
+{
+    if turn < server { turn } else { turn + 1 }
 }

@@ -2,7 +2,7 @@
 use Prim.Native.Nat.{ℕ, suc, _+_, _-_, _*_, _/_, _%_, _^_, _≤_, _<_}
 use native.Mathlib.Nat.{one-mul, mul-le-mul, one-le-pow, pow-succ', div-lt-iff-lt-mul}
 use native.Mathlib.Omega.{arith}
-use mathlib.Core.Path.{_≡_, refl, sym, ap, ap₂, _∙_}
+use mathlib.Core.Path.{_≡_, sym, ap, ap₂, _∙_}
 use mathlib.Core.Bool.{Bool, true, false, cond, _&&_}
 use mathlib.Core.List.{List}
 use borrow.Author.Tests.{ltb-true}
@@ -11,14 +11,17 @@ use lib.Count.{ones as count}
 use lib.Dec.{eqb, ltb}
 use lib.ListN.{length, getD}
 use Rattle.lists.specs.Sums.{bit}
+use Rattle.lists.proofs.Bits.{bit-test}
+use Rattle.lists.proofs.Both.{both-true}
 use Rattle.lists.proofs.Mapped.{mapped-length, mapped-at}
 use Rattle.even_places.specs.Sets.{has, ones}
 use Rattle.even_places.proofs.Bytes.{byte-has}
+use Rattle.even_places.proofs.AllSets.{ones-most}
 use Rattle.even_layout.specs.Layout.{setIn}
 use Rattle.even_ranks.specs.Counts.{Stands, takers, taken, takenTable}
 use Rattle.even_ranks.specs.Walk.{placeIn, plain, joined, isJoined, originOf}
-use Rattle.even_ranks.proofs.Counters.{ones-most}
-use Rattle.even_ranks.proofs.Steps.{stands-count, setIn-length}
+use Rattle.even_layout.proofs.Firsts.{setIn-length}
+use Rattle.even_ranks.proofs.Steps.{stands-count}
 use Rattle.even_query.specs.Query.{Tables, Within}
 
 table-at : (N k b p : ℕ) (totals : List ℕ) → b < 8 → p < 8 → getD (takenTable N k totals) (b * 8 + p) 0 ≡ taken N k totals b p
@@ -70,25 +73,17 @@ rows-before N m i wide many h =
 
 -- ---- Origins by a set's byte
 
-both-right : (t u : Bool) → t && u ≡ true → u ≡ true
-both-right true u e = e
-both-right false u e = let z : _≡_ {A = ℕ} 0 1 = cc in absurd (let w : ⊥ = omega arith in w)
-
 -- joined rows have two messages at least
 pub joined-two : (t : Bool) (m : ℕ) → t && ltb 1 m ≡ true → 2 ≤ m
-joined-two t m e = ltb-true 1 m (both-right t (ltb 1 m) e)
+joined-two t m e = ltb-true 1 m (both-true t (ltb 1 m) e .1)
 
 module _ (K k byte : ℕ) (stands : Stands K byte) where
   joined-byte : eqb (byte / 2 ^ k % 2) 1 && ltb 1 (count byte) ≡ isJoined k (setIn K byte)
   unfolding isJoined bit
   joined-byte =
       ap₂ (λ (t : Bool) (m : ℕ). t && ltb 1 m)
-      (ap (λ (x : ℕ). eqb (x / 2 ^ k % 2) 1) (sym (stands .encoded)) ∙ ap (λ (x : ℕ). eqb x 1) (byte-has (setIn K byte) k) ∙ go (has k (setIn K byte)))
+      (ap (λ (x : ℕ). eqb (x / 2 ^ k % 2) 1) (sym (stands .encoded)) ∙ ap (λ (x : ℕ). eqb x 1) (byte-has (setIn K byte) k) ∙ bit-test (has k (setIn K byte)))
       (stands-count K byte stands)
-    where
-      go : (t : Bool) → eqb (bit t) 1 ≡ t
-      go true = refl
-      go false = refl
 
   pub origin-byte : (N server i : ℕ)
       → cond (eqb (byte / 2 ^ k % 2) 1 && ltb 1 (count byte)) (joined N server (count byte) i) (plain N server (count byte) i) ≡ originOf N k server (setIn K byte) i

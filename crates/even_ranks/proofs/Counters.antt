@@ -4,7 +4,7 @@ use native.Mathlib.Nat.{zero-mul, one-mul}
 use native.Mathlib.Omega.{arith}
 use native.Mathlib.Decide.{decLt}
 use mathlib.Core.Path.{_≡_, refl, sym, ap, _∙_}
-use mathlib.Core.List.{List, [], _∷_}
+use mathlib.Core.List.{List}
 use mathlib.Core.Bool.{Bool, true, false, Bool·beq, _&&_}
 use lib.Arith.{lt-of-le-ne}
 use lib.Dec.{eqb}
@@ -19,14 +19,8 @@ use Rattle.lists.proofs.Sums.{sum-keep}
 use Rattle.even_places.specs.Sets.{has, ones, with}
 use Rattle.even_places.specs.Rule.{after}
 use Rattle.even_places.proofs.Rows.{after-at, after-length}
-use Rattle.even_layout.proofs.Tables.{IsSet}
+use Rattle.even_places.proofs.AllSets.{IsSet, ones-most}
 use Rattle.even_ranks.specs.Counts.{counter, noCounts, countersOf, counted, countedAll}
-
-pub ones-most : (A : List Bool) → ones A ≤ length A
-unfolding ones sum bit
-ones-most [] = omega arith
-ones-most (true ∷ A) = omega (arith, ones-most A)
-ones-most (false ∷ A) = omega (arith, ones-most A)
 
 -- A is of block b, and has k or not as t says
 unfoldable pub ofKind : ℕ → Bool → ℕ → List Bool → Bool
@@ -87,7 +81,7 @@ module _ (K k : ℕ) (few : K ≤ 8) where
         e : i ≡ countersOf k A + length made + (i - (countersOf k A + length made))
         e = omega (arith, made-length)
 
-    pub counted-at : (t : Bool) (b p : ℕ) → b < 8 → p < K
+    counted-at : (t : Bool) (b p : ℕ) → b < 8 → p < K
         → getD (counted k A counts) (counter t b p) 0 ≡ bit (ofKind k t b A) * bit (has p A) + getD counts (counter t b p) 0
     unfolding ofKind counter bit
     counted-at t b p hb hp = go t (has k A) refl (eqb (suc b) (ones A)) refl

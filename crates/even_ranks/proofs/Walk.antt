@@ -22,7 +22,7 @@ use Rattle.even_places.proofs.Counts.{sets-fit}
 use Rattle.even_places.proofs.Flat.{inside}
 use Rattle.even_places.proofs.Joined.{group-size}
 use Rattle.even_places.proofs.Positions.{group-length}
-use Rattle.even_layout.proofs.Tables.{IsSet, all-sets}
+use Rattle.even_places.proofs.AllSets.{IsSet, all-sets}
 use Rattle.even_ranks.specs.Counts.{noCounts, countersOf, counted, countedAll, totalsOf}
 use Rattle.even_ranks.specs.Walk.{placeOf, originOf, rowPlaces, setPlaces, setsPlaces, walked}
 use Rattle.even_ranks.proofs.Cells.{cell-is}

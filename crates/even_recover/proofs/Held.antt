@@ -28,7 +28,7 @@ row-at here answers server row held known within =
     record { inside = omega (arith, suc-mul x (here .symbol), held .held); small = omega arith }
 
 -- an other server's number
-pub other-below : (N n turn : ℕ) → n < N → turn < N - 1 → getD (others N n) turn 0 < N
+other-below : (N n turn : ℕ) → n < N → turn < N - 1 → getD (others N n) turn 0 < N
 other-below N n turn h k = go (decLt turn n)
   where
     go : Dec (turn < n) → getD (others N n) turn 0 < N

@@ -48,7 +48,7 @@ module _ (N K S wanted server : ℕ) (fits : evenFits N K S ≡ true) (wanted-kn
     bounds = bounds;
     wanted-known = wanted-known;
     server-known = server-known;
-    firsts-are = λ A good. ap (λ (l : List ℕ). getD l (byteOf A) 0) e ∙ first-rows-at N K A (bounds .messages-high) (good .long) (good .some-ones);
+    firsts-are = λ A good. ap (λ (l : List ℕ). getD l (byteOf A) 0) e ∙ first-rows-at N K A (bounds .messages-high) (good .long) (good .some);
   }
 
   held : (answers : List ℕ) → N * (evenRows N K * S) ≤ length answers → Held (readingOf N K S wanted server) answers

@@ -25,9 +25,10 @@ use Rattle.symbol.specs.Sum.{Sum}
 use Rattle.scheme.specs.Scheme.{Valid}
 use Rattle.even_places.specs.Sets.{has, ones, allSets}
 use Rattle.even_places.specs.Rule.{rows}
-use Rattle.even_places.proofs.RowNumbers.{Good, allSets-good, setRows, rows-by-set, setRows-length, row-some, row-none}
+use Rattle.even_places.proofs.RowNumbers.{setRows, rows-by-set, setRows-length, row-some, row-none}
 use Rattle.even_places.proofs.Rows.{below, below-lt, hit, is}
 use Rattle.even_places.proofs.Totals.{wanted-once}
+use Rattle.even_places.proofs.AllSets.{IsSet, all-sets}
 use Rattle.even_scheme.specs.Even.{permutation, numberAt, wantedPlace, recoveredPart, serverParts, recoveredParts, evenScheme}
 use Rattle.even_scheme.proofs.Assembled.{Part}
 use Rattle.even_scheme.proofs.Keys.{key-permutation}
@@ -46,7 +47,7 @@ module _ (sums : Sum) (N K S k : ℕ) where
 
   -- each place stands among them as often as in the rows of the queries
   module _ (wide : 1 < N) (known : k < K) (v : ℕ) where
-    set-times : (n : ℕ) → n < N → (A : List Bool) → Good K A → bit (has k A) * times v (setPlaces n A) ≡ sum (hit k v) (setRows N K k n A)
+    set-times : (n : ℕ) → n < N → (A : List Bool) → IsSet K A → bit (has k A) * times v (setPlaces n A) ≡ sum (hit k v) (setRows N K k n A)
     unfolding bit times setPlaces hit is
     set-times n l A good = go (has k A) refl ∙ sym (sum-at (hit k v) [] (setRows N K k n A) ∙ ap (λ (m : ℕ). sum hits (range 0 m)) (setRows-length N K k wide known n l A good))
       where
@@ -74,7 +75,7 @@ module _ (sums : Sum) (N K S k : ℕ) where
     server-times n l =
         sum-flatMap (λ x. bit (eqb x v)) (setPlaces n) (keep (has k) (allSets K))
         ∙ sum-keep (λ A. times v (setPlaces n A)) (has k) (allSets K)
-        ∙ sum-all (λ A. bit (has k A) * times v (setPlaces n A)) (λ A. sum (hit k v) (setRows N K k n A)) (All-imp (set-times n l) (allSets-good K))
+        ∙ sum-all (λ A. bit (has k A) * times v (setPlaces n A)) (λ A. sum (hit k v) (setRows N K k n A)) (All-imp (set-times n l) (all-sets K))
         ∙ sym (sum-flatMap (hit k v) (setRows N K k n) (allSets K))
         ∙ ap (sum (hit k v)) (sym (rows-by-set N K k n))
 

@@ -77,7 +77,7 @@ covers size l p v h = let c = place-of v l (bit-one (stands v l) here) in let lo
         all-one (λ u. bit (stands u l)) (λ u. omega (arith, bit-small (stands u l))) size (stands-count size l (t .0) (t .1) ∙ p .long) v h
 
 module _ (size : ℕ) (A B : List ℕ) (a : Permutation size A) where
-  pub arranged-length : length (arranged A B) ≡ size
+  arranged-length : length (arranged A B) ≡ size
   unfolding arranged
   arranged-length = mapped-length (λ place. getD B (placeIn place A) 0) 0 (length A) ∙ a .long
 
@@ -91,7 +91,7 @@ module _ (size : ℕ) (A B : List ℕ) (a : Permutation size A) where
       entry (getD A i 0) (a .low i h) ∙ ap (λ j. getD B j 0) (a .apart (placeIn (getD A i 0) A) i (c .0) h (c .1))
 
   -- and it is the only list that has these entries there
-  pub arranged-only : (L : List ℕ) → length L ≡ size → ((i : ℕ) → i < size → getD L (getD A i 0) 0 ≡ getD B i 0) → L ≡ arranged A B
+  arranged-only : (L : List ℕ) → length L ≡ size → ((i : ℕ) → i < size → getD L (getD A i 0) 0 ≡ getD B i 0) → L ≡ arranged A B
   arranged-only L long at =
       ext-getD 0 L (arranged A B) (long ∙ sym arranged-length) (λ v h.
       let low : v < size = omega arith in
@@ -126,7 +126,7 @@ picked-picked list middle (x ∷ places) b =
 
 -- different places of a permutation hold different entries
 module _ (size : ℕ) (l places : List ℕ) (p : Permutation size l) (b : Below size places) where
-  pub picked-below : Below size (picked l places)
+  picked-below : Below size (picked l places)
   picked-below i h = let e = picked-length l places in subst (λ (x : ℕ). x < size) (sym (picked-at l places i (omega arith))) (p .low (getD places i 0) (b i (omega arith)))
 
   pub picked-distinct : distinct places ≡ true → distinct (picked l places) ≡ true

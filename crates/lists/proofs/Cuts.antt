@@ -5,7 +5,7 @@ use native.Mathlib.Nat.{mul-le-mul-right, suc-mul, zero-mul, not-suc-le-zero, le
 use native.Mathlib.Omega.{arith}
 use mathlib.Core.Path.{_≡_, refl, sym, ap, _∙_}
 use mathlib.Core.List.{List, [], _∷_, _++_, flatMap}
-use lib.ListN.{length, getD, take, drop, length-drop}
+use lib.ListN.{length, getD, take, drop, length-append, length-drop}
 use lib.Seq.{length-take-le, take-all, take-at, take-add, take-take, drop-drop, drop-append-add, drop-append-seam, getD-take, getD-drop}
 use Rattle.lists.specs.Parts.{cut}
 use Rattle.lists.specs.Ranges.{range}
@@ -35,6 +35,13 @@ to-end list at = take-all (length list - at) (drop at list) (le-of-eq (length-dr
 pub drop-after : (list part rest : List ℕ) (at : ℕ) → drop at list ≡ part ++ rest → drop (at + length part) list ≡ rest
 drop-after list part rest at e =
     sym (drop-drop (length part) at list) ∙ ap (drop (length part)) e ∙ drop-append-seam part rest
+
+-- a table that begins with a list
+pub front-is : (count : ℕ) (table front more : List ℕ) → table ≡ front ++ more → length front ≡ count → take count table ≡ front
+front-is count table front more e long = rw e (take-at front more count long)
+
+pub front-fits : (count : ℕ) (table front more : List ℕ) → table ≡ front ++ more → length front ≡ count → count ≤ length table
+front-fits count table front more e long = omega (arith, ap length e, length-append front more)
 
 -- of parts of one size, one ends where the next begins, or before
 pub slot-end : (i j size : ℕ) → i < j → i * size + size ≤ j * size

@@ -6,7 +6,7 @@ use native.Mathlib.Omega.{arith}
 use mathlib.Core.Path.{_≡_, refl, sym, ap, _∙_}
 use mathlib.Core.Bool.{Bool, true, false, cond, not, _&&_, _||_, true≢false, false≢true}
 use mathlib.Core.List.{List, [], _∷_}
-use borrow.Author.Tests.{eqb-true, eqb-false, eq-eqb, ne-eqb, not-true, ltb-true, ltb-false, lt-ltb, le-ltb}
+use borrow.Author.Tests.{eqb-true, eqb-false, eq-eqb, ne-eqb, not-true, lt-ltb, le-ltb}
 use lib.Dec.{eqb, ltb}
 use lib.ListN.{length, getD}
 use Rattle.lists.specs.Arranged.{placeIn}
@@ -14,7 +14,7 @@ use Rattle.lists.specs.Below.{allBelow, Below}
 use Rattle.lists.specs.Distinct.{stands, distinct}
 use Rattle.lists.specs.Ranges.{range}
 use Rattle.lists.specs.Sums.{bit, sum}
-use Rattle.lists.proofs.Bits.{bit-zero}
+use Rattle.lists.proofs.Bits.{bit-zero, bit-step}
 use Rattle.lists.proofs.Both.{both-true}
 use Rattle.lists.proofs.Each.{All-at, All-imp}
 use Rattle.lists.proofs.Sums.{sum-all, sum-ext, sum-one, sum-next, sum-swap}
@@ -23,7 +23,7 @@ use Rattle.lists.proofs.Sums.{sum-all, sum-ext, sum-one, sum-next, sum-
 abbrev pub Apart : List ℕ → Type 0
 Apart l = (i j : ℕ) → i < length l → j < length l → getD l i 0 ≡ getD l j 0 → i ≡ j
 
-pub stands-at : (l : List ℕ) (i : ℕ) → i < length l → stands (getD l i 0) l ≡ true
+stands-at : (l : List ℕ) (i : ℕ) → i < length l → stands (getD l i 0) l ≡ true
 unfolding stands
 stands-at [] i h = absurd (not-suc-le-zero h)
 stands-at (x ∷ l) zero h = rw (eq-eqb x x refl)
@@ -114,18 +114,7 @@ times-below size (x ∷ l) h = go (ltb x size) refl (times-below size l (λ v. o
 pub range-times : (x size : ℕ) → times x (range 0 size) ≡ bit (ltb x size)
 unfolding times sum range bit
 range-times x zero = rw (le-ltb x 0 (omega arith))
-range-times x (suc size) = sum-next (λ v. bit (eqb v x)) size ∙ go (eqb size x) refl (range-times x size)
-  where
-    go : (t : Bool) → eqb size x ≡ t → times x (range 0 size) ≡ bit (ltb x size) → times x (range 0 size) + bit t ≡ bit (ltb x (suc size))
-    go true e ih = let same : size ≡ x = eqb-true size x e in
-        rw (lt-ltb x (suc size) (omega arith)) (omega (arith, ih, ap bit (le-ltb x size (omega arith))))
-    go false e ih = omega (arith, ih, ap bit (same (ltb x size) refl))
-      where
-        same : (t : Bool) → ltb x size ≡ t → ltb x size ≡ ltb x (suc size)
-        same true l = l ∙ sym (lt-ltb x (suc size) (omega (arith, ltb-true x size l)))
-        same false l =
-            let d : size ≡ x → ⊥ = eqb-false size x e in
-            l ∙ sym (le-ltb x (suc size) (omega (arith, ltb-false x size l)))
+range-times x (suc size) = sum-next (λ v. bit (eqb v x)) size ∙ omega (arith, range-times x size, bit-step x size)
 
 -- different numbers below a size: as many of the numbers below it stand in the list as it is long
 pub stands-count : (size : ℕ) (l : List ℕ) → Below size l → distinct l ≡ true → sum (λ v. bit (stands v l)) (range 0 size) ≡ length l

@@ -1,15 +1,16 @@
--- Lists joined one after another (`flatMap`): over joined lists, when two are equal, how long they are, and what stands at a place of
--- one of them (`placed-at`).
+-- Lists joined one after another (`flatMap`): over joined and mapped lists and ranges, when two are equal, how long they are, and what
+-- stands at a place of one of them (`flatMap-at`, `placed-at`).
 use Prim.Native.Nat.{ℕ, zero, suc, _+_, _*_, _<_}
 use native.Mathlib.Nat.{not-suc-le-zero, zero-add, zero-mul, suc-mul}
 use native.Mathlib.Omega.{arith}
 use mathlib.Core.Path.{_≡_, refl, sym, ap, ap₂, _∙_}
-use mathlib.Core.List.{List, [], _∷_, _++_, map, flatMap, append-assoc}
+use mathlib.Core.List.{List, [], _∷_, _++_, map, flatMap, append-assoc, append-nil}
 use lib.ListN.{length, getD, take, length-append, List·getD-append}
 use lib.Seq.{getD-append-add}
 use Rattle.lists.specs.Ranges.{range}
 use Rattle.lists.specs.Sums.{sum, All, allNil, allCons}
 use Rattle.lists.proofs.Mapped.{map-append}
+use Rattle.lists.proofs.Ranges.{range-last}
 
 module _ {A B : Type 0} where
   pub flatMap-append : (f : A → List B) (xs ys : List A) → flatMap f (xs ++ ys) ≡ flatMap f xs ++ flatMap f ys
@@ -34,6 +35,11 @@ module _ {A B : Type 0} where
   flatMap-size g q (allCons {x = x} {xs = xs} f a) = length-append (g x) (flatMap g xs) ∙ omega (arith, flatMap-size g q a, suc-mul (length xs) q)
 
 module _ {A B C : Type 0} where
+  pub flatMap-map : (g : B → List C) (f : A → B) (xs : List A) → flatMap g (map f xs) ≡ flatMap (λ x. g (f x)) xs
+  unfolding flatMap
+  flatMap-map g f [] = refl
+  flatMap-map g f (x ∷ xs) = ap (λ l. g (f x) ++ l) (flatMap-map g f xs)
+
   pub flatMap-flatMap : (g : B → List C) (f : A → List B) (xs : List A) → flatMap g (flatMap f xs) ≡ flatMap (λ x. flatMap g (f x)) xs
   unfolding flatMap
   flatMap-flatMap g f [] = refl
@@ -43,6 +49,12 @@ module _ {A B C : Type 0} where
   unfolding flatMap
   map-flatMap f g [] = refl
   map-flatMap f g (x ∷ xs) = map-append f (g x) (flatMap g xs) ∙ ap (λ l. map f (g x) ++ l) (map-flatMap f g xs)
+
+-- over a range by one number more
+pub flatMap-next : {A : Type 0} (g : ℕ → List A) (n : ℕ) → flatMap g (range 0 (suc n)) ≡ flatMap g (range 0 n) ++ g n
+unfolding flatMap
+flatMap-next g n =
+    ap (flatMap g) (range-last 0 n) ∙ flatMap-append g (range 0 n) ((0 + n) ∷ []) ∙ ap (λ l. flatMap g (range 0 n) ++ l) (append-nil (g (0 + n)) ∙ ap g (zero-add n))
 
 -- over two ranges of one length they are equal if they are place by place
 pub joined-equal : {A : Type 0} (f g : ℕ → List A) (from other count : ℕ) → ((i : ℕ) → i < count → f (i + from) ≡ g (i + other))
@@ -54,6 +66,15 @@ joined-equal {A} f g from other (suc count) e =
     (ap f (sym (zero-add from)) ∙ e 0 (omega arith) ∙ ap g (zero-add other))
     (joined-equal f g (suc from) (suc other) count
     (λ i h. ap f (let l : i + suc from ≡ suc i + from = omega arith in l) ∙ e (suc i) (omega arith) ∙ ap g (let r : suc i + other ≡ i + suc other = omega arith in r)))
+
+-- lists of one length: what stands at j * q + r
+module _ {A B : Type 0} (g : B → List A) (q : ℕ) (d : A) (e : B) where
+  pub flatMap-at : {xs : List B} → All (λ x. length (g x) ≡ q) xs → (j r : ℕ) → j < length xs → r < q → getD (flatMap g xs) (j * q + r) d ≡ getD (g (getD xs j e)) r d
+  unfolding flatMap
+  flatMap-at allNil j r h l = absurd (not-suc-le-zero h)
+  flatMap-at (allCons {x = x} {xs = xs} f a) zero r h l = ap (λ i. getD (g x ++ flatMap g xs) i d) (omega (arith, zero-mul q)) ∙ List·getD-append (g x) (flatMap g xs) d r (omega arith)
+  flatMap-at (allCons {x = x} {xs = xs} f a) (suc j) r h l =
+      ap (λ i. getD (g x ++ flatMap g xs) i d) (omega (arith, suc-mul j q)) ∙ getD-append-add (g x) (flatMap g xs) (j * q + r) d ∙ flatMap-at a j r (omega arith) l
 
 -- lists of different lengths; w: their lengths
 module _ {A B : Type 0} (g : A → List B) (w : A → ℕ) (e : A) (d : B) where

@@ -3,7 +3,7 @@ use Prim.Native.Nat.{ℕ, zero, suc, _+_, _-_, _≤_, _<_}
 use native.Mathlib.Nat.{zero-add, add-zero, add-suc, suc-add, not-suc-le-zero}
 use native.Mathlib.Omega.{arith}
 use mathlib.Core.Path.{_≡_, refl, sym, ap, _∙_}
-use mathlib.Core.List.{_∷_, _++_}
+use mathlib.Core.List.{[], _∷_, _++_}
 use lib.ListN.{length, getD}
 use Rattle.lists.specs.Ranges.{range}
 use Rattle.lists.specs.Sums.{All, allNil, allCons}
@@ -23,6 +23,10 @@ pub range-append : (a m n : ℕ) → range a m ++ range (a + m) n ≡ range a (m
 unfolding range
 range-append a zero n = rw (add-zero a, zero-add n)
 range-append a (suc m) n = rw (add-suc a m, ← suc-add a m, suc-add m n) (ap (λ l. a ∷ l) (range-append (suc a) m n))
+
+pub range-last : (a n : ℕ) → range a (suc n) ≡ range a n ++ ((a + n) ∷ [])
+unfolding range
+range-last a n = ap (range a) (let more : suc n ≡ n + 1 = omega arith in more) ∙ sym (range-append a n 1)
 
 -- the numbers below n, with one below it in the middle
 pub range-around : (n i : ℕ) → i < n → range 0 n ≡ range 0 i ++ (i ∷ range (suc i) (n - suc i))

@@ -1,6 +1,6 @@
 -- Laws of sums: over joined, mapped, repeated and kept lists, of equal terms, of bits, and over ranges.
 use Prim.Native.Nat.{ℕ, zero, suc, _+_, _*_, _≤_, _<_}
-use native.Mathlib.Nat.{zero-add, add-zero, mul-add, mul-zero, zero-mul, one-mul, add-suc, suc-mul, suc-add}
+use native.Mathlib.Nat.{zero-add, add-zero, mul-add, mul-zero, mul-one, zero-mul, one-mul, add-suc, suc-mul, suc-add}
 use native.Mathlib.Omega.{arith}
 use mathlib.Core.Path.{_≡_, refl, sym, ap, _∙_, fun-ext}
 use mathlib.Core.List.{List, [], _∷_, _++_, map, flatMap}
@@ -9,7 +9,7 @@ use lib.ListN.{length, getD, replicate}
 use Rattle.lists.specs.Sums.{All, allNil, allCons, bit, keep, keepIf, sum}
 use Rattle.lists.specs.Ranges.{range}
 use Rattle.lists.proofs.Bits.{bit-zero}
-use Rattle.lists.proofs.Ranges.{All-range}
+use Rattle.lists.proofs.Ranges.{range-length, All-range}
 
 module _ {A : Type 0} where
   pub sum-append : (f : A → ℕ) (xs ys : List A) → sum f (xs ++ ys) ≡ sum f xs + sum f ys
@@ -35,15 +35,16 @@ module _ {A : Type 0} where
   sum-all f g allNil = refl
   sum-all f g (allCons e a) = omega (arith, e, sum-all f g a)
 
-  pub sum-zero : (xs : List A) → sum (λ x. 0) xs ≡ 0
+  sum-const : (c : ℕ) (xs : List A) → sum (λ x. c) xs ≡ length xs * c
   unfolding sum
-  sum-zero [] = refl
-  sum-zero (x ∷ xs) = omega (arith, sum-zero xs)
+  sum-const c [] = sym (zero-mul c)
+  sum-const c (x ∷ xs) = omega (arith, sum-const c xs, suc-mul (length xs) c)
+
+  pub sum-zero : (xs : List A) → sum (λ x. 0) xs ≡ 0
+  sum-zero xs = sum-const 0 xs ∙ mul-zero (length xs)
 
   pub sum-one : (xs : List A) → sum (λ x. 1) xs ≡ length xs
-  unfolding sum
-  sum-one [] = refl
-  sum-one (x ∷ xs) = omega (arith, sum-one xs)
+  sum-one xs = sum-const 1 xs ∙ mul-one (length xs)
 
   pub sum-keep : (f : A → ℕ) (t : A → Bool) (xs : List A) → sum f (keep t xs) ≡ sum (λ x. bit (t x) * f x) xs
   unfolding sum keep keepIf bit
@@ -91,7 +92,7 @@ module _ {A B : Type 0} where
   sum-swap f (x ∷ xs) ys = ap (λ s. sum (f x) ys + s) (sum-swap f xs ys) ∙ sym (sum-add (f x) (λ y. sum (λ z. f z y) xs) ys)
 
 -- the last number of a range
-pub sum-last : (f : ℕ → ℕ) (a n : ℕ) → sum f (range a (suc n)) ≡ sum f (range a n) + f (a + n)
+sum-last : (f : ℕ → ℕ) (a n : ℕ) → sum f (range a (suc n)) ≡ sum f (range a n) + f (a + n)
 unfolding sum range
 sum-last f a zero = omega (arith, ap f (add-zero a))
 sum-last f a (suc n) = omega (arith, sum-last f (suc a) n, ap f (suc-add a n), ap f (add-suc a n))
@@ -103,6 +104,10 @@ sum-first f a (suc n) = omega (arith, sum-first f (suc a) n)
 
 pub sum-next : (f : ℕ → ℕ) (n : ℕ) → sum f (range 0 (suc n)) ≡ sum f (range 0 n) + f n
 sum-next f n = sum-last f 0 n ∙ ap (λ i. sum f (range 0 n) + f i) (zero-add n)
+
+-- the same term for each number
+pub sum-same : (c n : ℕ) → sum (λ i. c) (range 0 n) ≡ n * c
+sum-same c n = sum-const c (range 0 n) ∙ ap (λ m. m * c) (range-length 0 n)
 
 -- two sums over a range are equal where their terms are
 pub sum-range : (f g : ℕ → ℕ) (n : ℕ) → ((i : ℕ) → i < n → f i ≡ g i) → sum f (range 0 n) ≡ sum g (range 0 n)
