@@ -1,4 +1,5 @@
-// The layout of an even query, which every server knows from N and K: its sets in order, the message at each position, and each set's first row.
+// The layout of an even query, which every server knows from N and K: its sets in order, the message at each position, each set's first row,
+// and the order of the other servers, from whose rows a row is joined.
 // A set of messages is one byte, bit p for message p; its block is the number of ones in it (document 01, 'Even code').
 ghost use mathlib.Core.Path.{_≡_};
 ghost use mathlib.Core.List.{_++_, map, flatMap};

@@ -75,6 +75,10 @@ others-high N n j l h g =
     split : j ≡ length (range 0 n) + (j - n)
     split = omega (arith, range-length 0 n)
 
+pub others-below : (N n : ℕ) → All (λ m. m < N) (others N n)
+unfolding others
+others-below N n = All-imp (λ m h. h .0) (All-keep (λ m. not (eqb m n)) (All-range N (λ m h. h)))
+
 module _ (N K k : ℕ) (wide : 1 < N) (known : k < K) where
   pub group-length : (b n : ℕ) (A : List Bool) → n < N → length A ≡ K → ones A ≡ suc b → length (ofSet A (block N K k b n)) ≡ (N - 1) ^ b
   group-length b n A l long many =
@@ -83,10 +87,6 @@ module _ (N K k : ℕ) (wide : 1 < N) (known : k < K) where
       ∙ length-replicate (sum (λ r. bit (same A r)) (block N K k b n)) A
       ∙ group-size N K k wide known b n A l long many
 
-  pub others-below : (n : ℕ) → n < N → All (λ m. m < N) (others N n)
-  unfolding others
-  others-below n l = All-imp (λ m h. h .0) (All-keep (λ m. not (eqb m n)) (All-range N (λ m h. h)))
-
   -- by number: of server n's rows of a set with k, number j (N-1)^b + r is joined from row r of the set without k at the j-th other server
   pub joined-at : (b n j r : ℕ) (A : List Bool) → n < N → has k A ≡ true → length A ≡ K → ones A ≡ suc (suc b) → j < N - 1 → r < (N - 1) ^ b
       → set (getD (ofSet A (block N K k (suc b) n)) (j * (N - 1) ^ b + r) []) k none ≡ getD (ofSet (set A k false) (block N K k b (getD (others N n) j 0))) r []
@@ -94,5 +94,5 @@ module _ (N K k : ℕ) (wide : 1 < N) (known : k < K) where
       sym (List·getD-map (λ s. set s k none) (ofSet A (block N K k (suc b) n)) (j * (N - 1) ^ b + r) [])
       ∙ ap (λ s. getD s (j * (N - 1) ^ b + r) []) (joined N K k wide known b n A e)
       ∙ flatMap-at (λ m. ofSet (set A k false) (block N K k b m)) ((N - 1) ^ b) [] 0
-      (All-imp (λ m h. group-length b m (set A k false) h (length-set A k false ∙ long) (omega (arith, ones-drop A k e, many))) (others-below n l))
+      (All-imp (λ m h. group-length b m (set A k false) h (length-set A k false ∙ long) (omega (arith, ones-drop A k e, many))) (others-below N n))
       j r (omega (arith, others-length N n l)) hr

@@ -75,7 +75,7 @@ module _ (N K k : ℕ) (wide : 1 < N) (known : k < K) where
   joined-from zero n before e l = refl
   joined-from (suc b) n before e l =
       flatMap-all (λ m. getD before m idle .side) (sideRows N K k b)
-      (All-imp (λ m h. ap (λ made. getD made m idle .side) e ∙ ap (λ made. made .side) (mapped-at (ruled b) idle N m h)) (others-below N K k wide known n l))
+      (All-imp (λ m h. ap (λ made. getD made m idle .side) e ∙ ap (λ made. made .side) (mapped-at (ruled b) idle N m h)) (others-below N n))
     where
       idle : Made
       idle = record { side = []; wanted = [] }

@@ -12,11 +12,11 @@ use lib.Seq.{getD-set-same}
 use lib.Dec.{eqb, ltb}
 use Rattle.lists.specs.Sums.{bit, sum, All, allNil, allCons}
 use Rattle.lists.specs.Ranges.{range}
+use Rattle.lists.proofs.Sums.{sum-keep, sum-next}
+use Rattle.lists.proofs.Bits.{bit-step}
 use Rattle.even_places.specs.Sets.{has, with, ones}
 use Rattle.even_places.specs.Process.{afters}
 use Rattle.even_places.specs.Rule.{Row, isSome, give, next, after, number, join, others}
-use Rattle.lists.proofs.Sums.{sum-keep, sum-next}
-use Rattle.lists.proofs.Bits.{bit-step}
 
 -- 1 if v < n, else 0
 unfoldable pub below : ℕ → ℕ → ℕ

@@ -28,7 +28,7 @@ pub source-row : (N K k : ℕ) → 1 < N → k < K → (n : ℕ) → n < N → (
     → Source N K k n A i (getD (others N n) (i / (N - 1) ^ (ones A - 2)) 0) (i % (N - 1) ^ (ones A - 2))
 unfolding setRows
 source-row N K k wide known n l A i good e many h = record {
-  server-below = All-get 0 (others-below N K k wide known n l) (i / q) (omega (arith, turn, others-length N n l));
+  server-below = All-get 0 (others-below N n) (i / q) (omega (arith, turn, others-length N n l));
   set-good = record { long = length-set A k false ∙ good .long; some = omega (arith, ones-drop A k e) };
   row-below = rw less (mod-lt i some);
   without =

@@ -7,12 +7,11 @@ use lib.Arith.{digits-lt}
 use lib.ListN.{length, getD, length-map, List·getD-map}
 use Rattle.lists.specs.Below.{Below}
 use Rattle.lists.proofs.Cuts.{cut-at}
-use Rattle.even_places.specs.Sets.{byteOf, allSets}
+use Rattle.even_places.specs.Sets.{allSets}
 use Rattle.even_places.specs.Rule.{queryCells, positions}
 use Rattle.even_places.proofs.Flat.{inside, query-length}
 use Rattle.even_places.proofs.Positions.{same-members, positions-length}
 use Rattle.even_scheme.specs.Even.{permutation, numberAt, evenQuery}
-use Rattle.even_layout.proofs.Blocks.{all-length}
 use Rattle.even_layout.proofs.Tables.{positions-room}
 use Rattle.even_ranks.specs.Counts.{noCounts, totalsOf}
 use Rattle.even_ranks.specs.Walk.{setsPlaces, walked}
@@ -68,7 +67,3 @@ module _ (N K k server : ℕ) (asks : Asks N K k server) where
   pub entries-are : (key : List ℕ) → entries (N ^ K) key (positions N K) (map (λ cell. cell .1) (queryCells N K k server)) ≡ evenQuery N K k server key
   unfolding evenQuery
   entries-are key = rw messages-are (entries-cells N K key (queryCells N K k server) (λ i h. inside N K k wide (asks .message) server i (asks .server-low) h .1))
-
--- how many sets there are
-pub sets-length : (K power : ℕ) → power ≡ 2 ^ K → length (map byteOf (allSets K)) ≡ power - 1
-sets-length K power e = length-map (allSets K) byteOf ∙ omega (arith, all-length K)

@@ -10,7 +10,7 @@ use lib.Seq.{getD-append-add}
 use Rattle.lists.specs.Ranges.{range}
 use Rattle.lists.specs.Sums.{sum, All, allNil, allCons}
 use Rattle.lists.proofs.Mapped.{map-append}
-use Rattle.lists.proofs.Ranges.{range-last}
+use Rattle.lists.proofs.Ranges.{range-next}
 
 module _ {A B : Type 0} where
   pub flatMap-append : (f : A → List B) (xs ys : List A) → flatMap f (xs ++ ys) ≡ flatMap f xs ++ flatMap f ys
@@ -53,8 +53,7 @@ module _ {A B C : Type 0} where
 -- over a range by one number more
 pub flatMap-next : {A : Type 0} (g : ℕ → List A) (n : ℕ) → flatMap g (range 0 (suc n)) ≡ flatMap g (range 0 n) ++ g n
 unfolding flatMap
-flatMap-next g n =
-    ap (flatMap g) (range-last 0 n) ∙ flatMap-append g (range 0 n) ((0 + n) ∷ []) ∙ ap (λ l. flatMap g (range 0 n) ++ l) (append-nil (g (0 + n)) ∙ ap g (zero-add n))
+flatMap-next g n = ap (flatMap g) (range-next n) ∙ flatMap-append g (range 0 n) (n ∷ []) ∙ ap (λ l. flatMap g (range 0 n) ++ l) (append-nil (g n))
 
 -- over two ranges of one length they are equal if they are place by place
 pub joined-equal : {A : Type 0} (f g : ℕ → List A) (from other count : ℕ) → ((i : ℕ) → i < count → f (i + from) ≡ g (i + other))

@@ -6,7 +6,7 @@ use Prim.Native.Nat.{ℕ, zero, suc, _+_, _-_, _≤_, _<_}
 use native.Mathlib.Nat.{zero-add, sub-zero, zero-sub, suc-sub-suc, add-sub-cancel-left, not-suc-le-zero, le-of-suc-le-suc, le-of-eq}
 use native.Mathlib.Numerals.{add-one}
 use native.Mathlib.Omega.{arith}
-use lib.ListN.{length, take, drop, set, getD, replicate, length-append, length-drop, length-replicate, drop-of-length-le, take-append-drop}
+use lib.ListN.{length, take, drop, set, getD, replicate, length-append, length-drop, drop-of-length-le, take-append-drop}
 use lib.Seq.{length-take-le, take-at, drop-at, drop-drop, drop-cons, take-suc, take-suc-set, append-snoc, set-at, paste-suc}
 use Rattle.lists.specs.Padded.{padded}
 use Rattle.lists.specs.Parts.{put}
@@ -113,10 +113,8 @@ drop-zeros (suc j) (suc n) = drop-zeros j n ∙ rw (suc-sub-suc n j)
 pub put-padded : (bytes : List ℕ) (size : ℕ) → put 0 bytes (replicate size 0) ≡ padded size bytes
 put-padded bytes size = ap (λ (l : List ℕ). bytes ++ l) (drop-zeros (length bytes) size)
 
-pub put-two : (front back : List ℕ) (at size : ℕ) → length front ≡ at → at ≤ size
-    → put at back (put 0 front (replicate size 0)) ≡ padded size (front ++ back)
-put-two front back at size e h =
-    let room : 0 + length front ≤ length (replicate {A = ℕ} size 0) = omega (arith, length-replicate {A = ℕ} size 0) in
+pub put-two : (front back : List ℕ) (at size : ℕ) → length front ≡ at → put at back (put 0 front (replicate size 0)) ≡ padded size (front ++ back)
+put-two front back at size e =
     ap (λ (n : ℕ). put n back (put 0 front (replicate size 0))) (sym e ∙ sym (zero-add (length front)))
     ∙ put-put 0 front back (replicate size 0) (omega arith) ∙ put-padded (front ++ back) size
 

@@ -24,9 +24,11 @@ unfolding range
 range-append a zero n = rw (add-zero a, zero-add n)
 range-append a (suc m) n = rw (add-suc a m, ← suc-add a m, suc-add m n) (ap (λ l. a ∷ l) (range-append (suc a) m n))
 
-pub range-last : (a n : ℕ) → range a (suc n) ≡ range a n ++ ((a + n) ∷ [])
+-- one number more
+pub range-next : (n : ℕ) → range 0 (suc n) ≡ range 0 n ++ (n ∷ [])
 unfolding range
-range-last a n = ap (range a) (let more : suc n ≡ n + 1 = omega arith in more) ∙ sym (range-append a n 1)
+range-next n =
+    ap (range 0) (let more : suc n ≡ n + 1 = omega arith in more) ∙ sym (range-append 0 n 1) ∙ ap (λ from. range 0 n ++ (from ∷ [])) (zero-add n)
 
 -- the numbers below n, with one below it in the middle
 pub range-around : (n i : ℕ) → i < n → range 0 n ≡ range 0 i ++ (i ∷ range (suc i) (n - suc i))

@@ -1,6 +1,6 @@
 -- Laws of sums: over joined, mapped, repeated and kept lists, of equal terms, of bits, and over ranges.
 use Prim.Native.Nat.{ℕ, zero, suc, _+_, _*_, _≤_, _<_}
-use native.Mathlib.Nat.{zero-add, add-zero, mul-add, mul-zero, mul-one, zero-mul, one-mul, add-suc, suc-mul, suc-add}
+use native.Mathlib.Nat.{mul-add, mul-zero, mul-one, zero-mul, one-mul, suc-mul}
 use native.Mathlib.Omega.{arith}
 use mathlib.Core.Path.{_≡_, refl, sym, ap, _∙_, fun-ext}
 use mathlib.Core.List.{List, [], _∷_, _++_, map, flatMap}
@@ -9,7 +9,7 @@ use lib.ListN.{length, getD, replicate}
 use Rattle.lists.specs.Sums.{All, allNil, allCons, bit, keep, keepIf, sum}
 use Rattle.lists.specs.Ranges.{range}
 use Rattle.lists.proofs.Bits.{bit-zero}
-use Rattle.lists.proofs.Ranges.{range-length, All-range}
+use Rattle.lists.proofs.Ranges.{range-length, range-next, All-range}
 
 module _ {A : Type 0} where
   pub sum-append : (f : A → ℕ) (xs ys : List A) → sum f (xs ++ ys) ≡ sum f xs + sum f ys
@@ -91,19 +91,14 @@ module _ {A B : Type 0} where
   sum-swap f [] ys = sym (sum-zero ys)
   sum-swap f (x ∷ xs) ys = ap (λ s. sum (f x) ys + s) (sum-swap f xs ys) ∙ sym (sum-add (f x) (λ y. sum (λ z. f z y) xs) ys)
 
--- the last number of a range
-sum-last : (f : ℕ → ℕ) (a n : ℕ) → sum f (range a (suc n)) ≡ sum f (range a n) + f (a + n)
-unfolding sum range
-sum-last f a zero = omega (arith, ap f (add-zero a))
-sum-last f a (suc n) = omega (arith, sum-last f (suc a) n, ap f (suc-add a n), ap f (add-suc a n))
-
 pub sum-first : (f : ℕ → ℕ) (a n : ℕ) → sum f (range (suc a) n) ≡ sum (λ i. f (suc i)) (range a n)
 unfolding sum range
 sum-first f a zero = refl
 sum-first f a (suc n) = omega (arith, sum-first f (suc a) n)
 
 pub sum-next : (f : ℕ → ℕ) (n : ℕ) → sum f (range 0 (suc n)) ≡ sum f (range 0 n) + f n
-sum-next f n = sum-last f 0 n ∙ ap (λ i. sum f (range 0 n) + f i) (zero-add n)
+unfolding sum
+sum-next f n = omega (arith, ap (sum f) (range-next n), sum-append f (range 0 n) (n ∷ []))
 
 -- the same term for each number
 pub sum-same : (c n : ℕ) → sum (λ i. c) (range 0 n) ≡ n * c

@@ -2,7 +2,6 @@
 use mathlib.Core.Path.{_≡_, ap, _∙_}
 use mathlib.Core.List.{List}
 use Prim.Native.Nat.{ℕ, _+_, _*_}
-use native.Mathlib.Omega.{arith}
 use lib.ListN.{length, length-map}
 use Rattle.lists.specs.Parts.{put}
 use Rattle.lists.proofs.Puts.{put-two}
@@ -30,7 +29,7 @@ returns c =
     let long : length (doubled 1 bytes) ≡ length bytes = length-map bytes (λ byte. byte * 2 + 1) in
     c .before .write-doubled2 .ensures
     ∙ ap (λ (l : List ℕ). put (length bytes) (doubled 0 bytes) l) (c .before .before .before .before .write-doubled .ensures)
-    ∙ put-two (doubled 1 bytes) (doubled 0 bytes) (length bytes) 256 long (omega arith)
+    ∙ put-two (doubled 1 bytes) (doubled 0 bytes) (length bytes) 256 long
 
 pub widened-spec : {M : Type 1} → statement M
 widened-spec =
