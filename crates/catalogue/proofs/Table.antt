@@ -10,7 +10,8 @@ use borrow.Author.Tests.{leb-true, leb-false, ltb-true, le-leb, lt-leb}
 use lib.Dec.{leb, ltb}
 use lib.ListN.{getD}
 use Rattle.lists.specs.Ranges.{every}
-use Rattle.lists.proofs.Every.{every-at, both-true}
+use Rattle.lists.proofs.Every.{every-at}
+use Rattle.lists.proofs.Both.{both-true}
 use Rattle.catalogue.specs.Most.{Most}
 
 -- for N = 2, 3, .., 16

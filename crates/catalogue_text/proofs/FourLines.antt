@@ -7,7 +7,7 @@ use Prim.Native.Nat.{ℕ, zero, suc, _+_}
 use native.Mathlib.Omega.{arith}
 use lib.ListN.{length, drop, length-append}
 use lib.Seq.{drop-append-seam}
-use Rattle.lists.proofs.Rests.{drop-after}
+use Rattle.lists.proofs.Cuts.{drop-after}
 use Rattle.refusal.specs.declared.Refusal.the-variants.{Text}
 use Rattle.refusal.specs.declared.Verdict.the-variants.{Accepted}
 use Rattle.text_lines.specs.declared.Line.{Line}

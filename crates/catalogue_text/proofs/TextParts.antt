@@ -7,7 +7,6 @@ use lib.ListN.{length, length-append}
 use Rattle.lists.specs.Parts.{put}
 use Rattle.lists.proofs.Puts.{put-next}
 use Rattle.text_lines.specs.Lines.{numberText}
-use Rattle.text_lines.proofs.NumberLines.{number-text-most}
 use Rattle.catalogue.specs.declared.Code.{Code}
 use Rattle.catalogue.specs.declared.Code.the-variants.{Short, Even}
 use Rattle.catalogue.specs.declared.Catalogue.{Catalogue}
@@ -30,27 +29,6 @@ text-length c =
     let a = length-append (codeText (c .code)) (servers ++ (messages ++ symbol)) in
     let b = length-append servers (messages ++ symbol) in
     let d = length-append messages symbol in
-    omega arith
-
--- ---- how long the text can be
-
-pub text-most : (c : Catalogue) → FiveDigits c → length (textOf c) ≤ 49
-text-most c d =
-    let l = text-length c in
-    let a = code-most (c .code) in
-    let n = number-text-most serversName 4 (c .servers) (d .servers) in
-    let k = number-text-most messagesName 4 (c .messages) (d .messages) in
-    let s = number-text-most symbolName 4 (c .symbol) (d .symbol) in
-    omega arith
-
-pub admitted-text-most : (c : Catalogue) → Admitted c → length (textOf c) ≤ 42
-admitted-text-most c a =
-    let b = admitted-numbers c a in
-    let l = text-length c in
-    let f = code-most (c .code) in
-    let n = number-text-most serversName 1 (c .servers) (omega arith) in
-    let k = number-text-most messagesName 1 (c .messages) (omega arith) in
-    let s = number-text-most symbolName 3 (c .symbol) (omega arith) in
     omega arith
 
 pub admitted-digits : (c : Catalogue) → Admitted c → FiveDigits c

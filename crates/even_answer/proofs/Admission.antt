@@ -1,5 +1,5 @@
 -- Admission is the pass over the query, and an admitted query can be answered.
-use mathlib.Core.Path.{_≡_, refl, sym, ap, _∙_}
+use mathlib.Core.Path.{_≡_, refl, sym, _∙_}
 use mathlib.Core.Bool.{Bool, true, false, _&&_}
 use mathlib.Core.List.{List, zipWith}
 use Prim.Native.Nat.{ℕ, _-_, _*_, _^_, _≤_, _<_}
@@ -7,36 +7,31 @@ use native.Mathlib.Nat.{pow-le-pow-right}
 use native.Mathlib.Omega.{arith}
 use borrow.Author.Tests.{eq-eqb, eqb-true}
 use lib.Dec.{eqb}
-use lib.ListN.{length, take, replicate, length-append}
-use lib.Seq.{take-at}
+use lib.ListN.{length, take, replicate}
 use Rattle.lists.specs.Below.{allBelow, Below}
 use Rattle.lists.specs.Distinct.{distinct}
 use Rattle.lists.specs.Padded.{padded}
 use Rattle.lists.specs.Ranges.{every}
-use Rattle.lists.specs.Sums.{All}
 use Rattle.lists.proofs.Below.{allBelow-below}
-use Rattle.lists.proofs.Elements.{All-at}
-use Rattle.lists.proofs.Sums.{All-flatMap, All-imp, All-replicate}
+use Rattle.lists.proofs.Both.{both-true}
+use Rattle.lists.proofs.Cuts.{front-is, front-fits}
+use Rattle.lists.proofs.Each.{All-get, All-flatMap, All-imp}
 use Rattle.parameters.specs.Bounds.{evenFits}
 use Rattle.parameters.specs.Measures.{evenSizes}
 use Rattle.even_places.specs.Sets.{members}
-use Rattle.even_places.specs.Rule.{layout, positions}
+use Rattle.even_places.specs.Rule.{positions}
+use Rattle.even_places.proofs.AllSets.{layout-long}
+use Rattle.even_places.proofs.Positions.{positions-length}
 use Rattle.even_scheme.specs.Even.{numbersOf, evenAdmits}
-use Rattle.even_layout.specs.Layout.{Bounds, rowsOf}
-use Rattle.even_layout.proofs.Tables.{all-sets, layout-sets, positions-length}
+use Rattle.even_layout.specs.Layout.{Bounds}
 use Rattle.even_answer.specs.Answering.{Answerable, cellOf}
 use Rattle.even_answer.proofs.Fresh.{named, distinct-cells}
 use Rattle.even_answer.proofs.RowLaws.{members-all}
 
--- the sets of a query's rows are sets of K messages
-pub layout-long : (N K : ℕ) → All (λ A. length A ≡ K) (layout N K)
-layout-long N K =
-    rw (layout-sets N K) (All-flatMap (λ A. replicate (rowsOf N A) A) (All-imp (λ A s. All-replicate (rowsOf N A) A (s .long)) (all-sets K)))
-
 -- at each position stands one of the messages
 pub positions-below : (N K : ℕ) → Below K (positions N K)
 unfolding positions
-positions-below N K i h = All-at (All-flatMap (members 0) (All-imp (λ A e. members-all A e) (layout-long N K))) i 0 h
+positions-below N K i h = All-get 0 (All-flatMap (members 0) (All-imp (λ A e. members-all A e) (layout-long N K))) i h
 
 pub power-less : (N K : ℕ) → Bounds N K → N ^ (K - 1) ≤ 256
 power-less N K bounds =
@@ -46,13 +41,12 @@ power-less N K bounds =
 pub positions-front : (N K : ℕ) (table query : List ℕ) → Bounds N K → table ≡ padded 1024 (positions N K) → length query ≡ K * N ^ (K - 1)
     → take (length query) table ≡ positions N K
 positions-front N K table query bounds e f =
-    rw e (take-at (positions N K) (replicate (1024 - length (positions N K)) 0) (length query)
-    (positions-length N K (bounds .servers-low) (bounds .messages-low) ∙ sym f))
+    front-is (length query) table (positions N K) (replicate (1024 - length (positions N K)) 0) e (positions-length N K (bounds .servers-low) (bounds .messages-low) ∙ sym f)
 
 pub positions-fit : (N K : ℕ) (table query : List ℕ) → Bounds N K → table ≡ padded 1024 (positions N K) → length query ≡ K * N ^ (K - 1)
     → length query ≤ length table
 positions-fit N K table query bounds e f =
-    omega (arith, ap length e, length-append (positions N K) (replicate (1024 - length (positions N K)) 0), positions-length N K (bounds .servers-low) (bounds .messages-low))
+    front-fits (length query) table (positions N K) (replicate (1024 - length (positions N K)) 0) e (positions-length N K (bounds .servers-low) (bounds .messages-low) ∙ sym f)
 
 -- the pass over a query of the right length decides
 pub admits-pass : (N K server : ℕ) (query : List ℕ) → length query ≡ K * N ^ (K - 1)
@@ -65,17 +59,13 @@ admits-pass N K server query e = rw (eq-eqb (length query) (K * N ^ (K - 1)) e) 
     go true t = distinct-cells (N ^ K) K (positions N K) query (positions-below N K) (allBelow-below (N ^ K) query t)
     go false t = refl
 
-both : (t u : Bool) → t && u ≡ true → (t ≡ true) × (u ≡ true)
-both true u e = (refl, e)
-both false u e = let z : _≡_ {A = ℕ} 0 1 = cc in absurd (let w : ⊥ = omega arith in w)
-
 -- an admitted query can be answered
 pub admitted-answerable : (N K S server : ℕ) (store query out : List ℕ) → evenFits N K S ≡ true → length store ≡ evenSizes N K S .store
     → evenAdmits N K server query ≡ true → evenSizes N K S .slot ≤ length out → Answerable N K S store query out
 unfolding evenAdmits evenSizes
 admitted-answerable N K S server store query out fits whole admitted room =
-    let p = both (eqb (length query) (K * N ^ (K - 1))) (allBelow (N ^ K) query && every K (λ p. distinct (numbersOf N K p query))) admitted in
-    let q = both (allBelow (N ^ K) query) (every K (λ p. distinct (numbersOf N K p query))) (p .1) in
+    let p = both-true (eqb (length query) (K * N ^ (K - 1))) (allBelow (N ^ K) query && every K (λ p. distinct (numbersOf N K p query))) admitted in
+    let q = both-true (allBelow (N ^ K) query) (every K (λ p. distinct (numbersOf N K p query))) (p .1) in
     record {
       fits = fits;
       whole = whole;

@@ -16,8 +16,7 @@ use Rattle.lists.specs.Below.{allBelow, Below}
 use Rattle.lists.specs.Distinct.{stands, distinct}
 use Rattle.lists.specs.Ranges.{every}
 use Rattle.lists.specs.Sums.{keep, keepIf}
-use Rattle.lists.proofs.Every.{every-true}
-use Rattle.lists.proofs.EveryOne.{every-one}
+use Rattle.lists.proofs.Every.{every-true, every-one}
 use Rattle.lists.proofs.Marks.{unmarked, unmarked-blank, unmarked-set}
 use Rattle.even_answer.specs.Answering.{cellOf}
 

@@ -14,8 +14,8 @@ use Rattle.lists.specs.Parts.{cut}
 use Rattle.lists.specs.Below.{Below}
 use Rattle.lists.specs.Sums.{bit, sum, All, allNil, allCons}
 use Rattle.lists.proofs.Below.{below-take, below-drop}
-use Rattle.lists.proofs.Parts.{cut-length}
-use Rattle.lists.proofs.Sums.{All-imp}
+use Rattle.lists.proofs.Cuts.{cut-length}
+use Rattle.lists.proofs.Each.{All-imp}
 use Rattle.parameters.specs.Measures.{evenSizes}
 use Rattle.symbol.specs.Sum.{Symbol, totalFrom, total}
 use Rattle.symbol.specs.Group.{Symbols, none, more}
@@ -49,7 +49,7 @@ members-all A e = All-imp (λ p h. omega (arith, h)) (members-below 0 A)
 abbrev pub resumed : Bool → ℕ → List ℕ → List (List ℕ) → List ℕ
 resumed first S out xs = cond first (total xor S xs) (totalFrom xor out xs)
 
-pub resumed-more : (taken S : ℕ) (out x : List ℕ) (xs : List (List ℕ)) → Symbol S x
+resumed-more : (taken S : ℕ) (out x : List ℕ) (xs : List (List ℕ)) → Symbol S x
     → resumed (eqb taken 0) S out (x ∷ xs) ≡ resumed (eqb (taken + 1) 0) S (added (eqb taken 0) out x) xs
 unfolding total totalFrom
 resumed-more taken S out x xs s = rw (ne-eqb (taken + 1) 0 (λ e. let w : ⊥ = omega arith in w)) (go (eqb taken 0))
@@ -64,7 +64,7 @@ added-length false S old x e f = xor-length old x ∙ e
 
 module _ (N K S : ℕ) (store : List ℕ) (whole : length store ≡ evenSizes N K S .store) where
   -- each symbol lies in the store
-  pub symbol-end : (p i : ℕ) → p < K → i < N ^ K → (p * N ^ K + i) * S + S ≤ length store
+  symbol-end : (p i : ℕ) → p < K → i < N ^ K → (p * N ^ K + i) * S + S ≤ length store
   unfolding evenSizes
   symbol-end p i h l =
       let M = N ^ K in
@@ -90,7 +90,7 @@ module _ (N K S : ℕ) (store : List ℕ) (whole : length store ≡ evenSizes N 
       bytes = below-take 256 S (drop ((p * N ^ K + i) * S) store) (below-drop 256 ((p * N ^ K + i) * S) store bytes);
     }
 
-    pub symbols-are : {messages : List ℕ} (numbers : List ℕ) → All (λ p. p < K) messages → Below (N ^ K) numbers
+    symbols-are : {messages : List ℕ} (numbers : List ℕ) → All (λ p. p < K) messages → Below (N ^ K) numbers
         → Symbols S (zipWith (symbolAt xor N K S store) messages numbers)
     unfolding zipWith
     symbols-are numbers allNil b = none

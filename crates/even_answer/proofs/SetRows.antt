@@ -6,20 +6,19 @@ use Prim.Native.Nat.{ℕ, zero, suc, _+_, _-_, _*_, _^_, _≤_, _<_}
 use native.Mathlib.Nat.{zero-mul, suc-mul}
 use native.Mathlib.Numerals.{add-one}
 use native.Mathlib.Omega.{arith}
-use lib.ListN.{length, getD, drop, replicate, length-append, length-map, length-replicate, drop-of-length-le}
+use lib.ListN.{length, getD, drop, replicate, length-append, length-replicate, drop-of-length-le}
 use lib.Seq.{drop-cons, drop-drop}
 use Rattle.lists.specs.Below.{Below}
-use Rattle.lists.proofs.Sums.{All-replicate}
-use Rattle.parameters.specs.Measures.{evenRows, evenSizes}
+use Rattle.lists.proofs.Each.{All-replicate}
+use Rattle.parameters.specs.Measures.{evenSizes}
 use Rattle.symbol.specs.Xor.{xor}
 use Rattle.even_places.specs.Sets.{ones, members, allSets}
-use Rattle.even_places.specs.Rule.{layout, rows}
-use Rattle.even_places.proofs.SetLaws.{setOf}
-use Rattle.even_places.proofs.Counts.{rows-length, row-count-is}
-use Rattle.even_places.proofs.Joined.{same-layout}
+use Rattle.even_places.specs.Rule.{layout}
+use Rattle.even_places.proofs.Positions.{positions-length}
+use Rattle.even_places.proofs.AllSets.{layout-by-set}
 use Rattle.even_scheme.specs.Even.{rowAnswer, rowAnswers}
 use Rattle.even_layout.specs.Layout.{Bounds, rowsOf}
-use Rattle.even_layout.proofs.Tables.{layout-sets, setPositions, positionsFrom, positions-all, positions-more, positions-length}
+use Rattle.even_layout.proofs.Tables.{setPositions, positionsFrom, positions-all, positions-more}
 use Rattle.even_answer.proofs.RowLaws.{members-length, answers-length}
 
 -- the rows of the sets from i on
@@ -27,8 +26,8 @@ unfoldable pub rowsFrom : ℕ → ℕ → ℕ → List (List Bool)
 rowsFrom N K i = flatMap (λ A. replicate (rowsOf N A) A) (drop i (allSets K))
 
 pub rows-all : (N K : ℕ) → rowsFrom N K 0 ≡ layout N K
-unfolding rowsFrom
-rows-all N K = sym (layout-sets N K)
+unfolding rowsFrom rowsOf
+rows-all N K = sym (layout-by-set N K)
 
 pub rows-none : (N K i : ℕ) → length (allSets K) ≤ i → rowsFrom N K i ≡ []
 unfolding rowsFrom flatMap
@@ -38,15 +37,6 @@ rows-more : (N K i : ℕ) → i < length (allSets K)
     → rowsFrom N K i ≡ replicate (rowsOf N (getD (allSets K) i [])) (getD (allSets K) i []) ++ rowsFrom N K (i + 1)
 unfolding rowsFrom flatMap
 rows-more N K i h = rw (add-one i, drop-cons (allSets K) i [] h)
-
--- a query has as many rows as document 01 says
-pub layout-length : (N K : ℕ) → Bounds N K → length (layout N K) ≡ evenRows N K
-unfolding evenRows
-layout-length N K bounds =
-    ap length (sym (same-layout N K 0 (bounds .servers-low) (bounds .messages-low) 0 (omega (arith, bounds .servers-low))))
-    ∙ length-map (rows N K 0 0) setOf
-    ∙ rows-length N K 0 (bounds .servers-low) (bounds .messages-low) 0 (omega (arith, bounds .servers-low))
-    ∙ row-count-is N K (bounds .servers-low) (bounds .messages-low)
 
 -- the rows of a set take a number for each of its messages
 positions-rows : (A : List Bool) (n : ℕ) → length (flatMap (members 0) (replicate n A)) ≡ n * ones A

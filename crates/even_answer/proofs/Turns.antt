@@ -3,7 +3,7 @@ use mathlib.Core.Path.{_≡_, refl, sym, ap, ap₂, _∙_}
 use mathlib.Core.Bool.{Bool}
 use mathlib.Core.List.{List, [], _++_, map}
 use Prim.Native.Nat.{ℕ, suc, _+_, _-_, _*_, _/_, _%_, _^_, _≤_, _<_}
-use native.Mathlib.Nat.{suc-mul, mul-le-mul, one-mul}
+use native.Mathlib.Nat.{suc-mul, one-mul}
 use native.Mathlib.Numerals.{add-one}
 use native.Mathlib.Omega.{arith}
 use lib.Count.{ones as count}
@@ -11,6 +11,7 @@ use lib.ListN.{length, getD, drop, replicate, length-append, length-drop}
 use Rattle.lists.specs.Below.{Below}
 use Rattle.lists.specs.Parts.{put}
 use Rattle.lists.proofs.Below.{below-drop}
+use Rattle.lists.proofs.Cuts.{slot-end}
 use Rattle.lists.proofs.Writing.{Pending, pending-part, pending-as}
 use Rattle.symbol.specs.Xor.{xor}
 use Rattle.even_places.specs.Sets.{ones, byteOf, allSets}
@@ -49,13 +50,10 @@ pub record RowTurn (S set row : ℕ) (numbers : List ℕ) (size : ℕ) : Type 0 
   pub read : row * count set + count set ≤ length numbers
   pub written : row * S + S ≤ size
 
-next-fits : (row rows each size : ℕ) → row < rows → rows * each ≤ size → row * each + each ≤ size
-next-fits row rows each size h k = omega (arith, suc-mul row each, mul-le-mul h (let w : each ≤ each = omega arith in w))
-
 pub row-turn : {N K S set rows size : ℕ} {store numbers : List ℕ} (row : ℕ) → SetAnswerable N K S store set rows numbers → rows * S ≤ size → row < rows
     → RowTurn S set row numbers size
 row-turn {N} {K} {S} {set} {rows} {size} {store} {numbers} row given room h =
-    record { read = next-fits row rows (count set) (length numbers) h (given .enough); written = next-fits row rows S size h room }
+    record { read = omega (arith, slot-end row rows (count set) h, given .enough); written = omega (arith, slot-end row rows S h) }
 
 pub row-given : {N K S set rows size : ℕ} {store numbers : List ℕ} {row : ℕ} → SetAnswerable N K S store set rows numbers → RowTurn S set row numbers size
     → SetAnswerable N K S store set 1 (drop (row * count set) numbers)

@@ -4,12 +4,12 @@ use mathlib.Core.List.{List, map, flatMap}
 use Prim.Native.Nat.{ℕ, zero, suc, _+_, _-_, _*_, _/_, _%_, _^_, _≤_, _<_}
 use native.Mathlib.Nat.{mul-one, pow-zero, pow-suc, pow-le-pow-right, div-add-mod', mod-lt}
 use native.Mathlib.Omega.{arith}
-use lib.ListN.{length, getD, drop}
+use lib.ListN.{length, getD, drop, length-map}
 use lib.Seq.{getD-take, getD-drop}
 use Rattle.lists.specs.Parts.{cut}
 use Rattle.lists.specs.Ranges.{range}
 use Rattle.lists.specs.Sums.{bit, sum}
-use Rattle.lists.proofs.Ranges.{map-range-at}
+use Rattle.lists.proofs.Mapped.{mapped-at}
 use Rattle.lists.proofs.Sums.{sum-one, sum-ext, sum-flatMap}
 use Rattle.even_places.specs.Sets.{sets, byteOf, allSets}
 use Rattle.even_places.specs.Rule.{rowCount}
@@ -29,6 +29,9 @@ all-length K =
     sum-ext (λ b. length (sets K (suc b)) * (2 - 1) ^ b) (λ b. sum (λ A. 1) (sets K (suc b)))
     (λ b. ap (λ n. length (sets K (suc b)) * n) (one-pow b) ∙ mul-one (length (sets K (suc b))) ∙ sym (sum-one (sets K (suc b)))) blocks in
     omega (arith, each, sum-flatMap (λ A. 1) (λ b. sets K (suc b)) blocks, sum-one (flatMap (λ b. sets K (suc b)) blocks), row-count-product 2 K (omega arith), mul-one (rowCount 2 K))
+
+pub all-bytes : (K power : ℕ) → power ≡ 2 ^ K → length (map byteOf (allSets K)) ≡ power - 1
+all-bytes K power e = length-map (allSets K) byteOf ∙ omega (arith, all-length K)
 
 pub subsets-few : (K : ℕ) → K ≤ 8 → 2 ^ K ≤ 256
 subsets-few K few = pow-le-pow-right {n = 2} (omega arith) {j = 8} few
@@ -60,7 +63,7 @@ row-entry d place h =
     let row = place / 8 in
     let inside : place % 8 < 8 = mod-lt place (omega arith) in
     let whole : row * 8 + place % 8 ≡ place = div-add-mod' place 8 in
-    ap (λ (l : List ℕ). getD l (place % 8) 0) (map-range-at (λ row. cut (row * 8) 8 listedSets) 64 row d (omega arith))
+    ap (λ (l : List ℕ). getD l (place % 8) 0) (mapped-at (λ row. cut (row * 8) 8 listedSets) d 64 row (omega arith))
     ∙ getD-take 8 (drop (row * 8) listedSets) (place % 8) 0 inside
     ∙ getD-drop (row * 8) listedSets (place % 8) 0
     ∙ ap (λ (n : ℕ). getD listedSets n 0) whole

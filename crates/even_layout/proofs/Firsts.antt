@@ -4,26 +4,29 @@ use mathlib.Core.Logic.{_≢_}
 use mathlib.Core.List.{List, [], _∷_, _++_, map, flatMap}
 use mathlib.Core.Bool.{Bool, true, false, cond, _&&_, false≢true}
 use Prim.Native.Nat.{ℕ, zero, suc, _+_, _-_, _*_, _/_, _%_, _^_, _≤_, _<_}
-use native.Mathlib.Nat.{pow-zero, zero-add, add-zero, add-assoc, suc-add, pow-suc, pow-le-pow-right, div-add-mod', div-lt-iff-lt-mul, mod-lt}
+use native.Mathlib.Nat.{pow-zero, zero-add, add-zero, add-assoc, pow-suc, pow-le-pow-right, div-add-mod', div-lt-iff-lt-mul, mod-lt}
 use native.Mathlib.Numerals.{add-one}
 use native.Mathlib.Omega.{arith}
-use borrow.Author.Tests.{ltb-true, ltb-false, lt-ltb, eqb-true, eqb-false}
+use borrow.Author.Tests.{ltb-true, ltb-false, lt-ltb}
 use lib.Count.{ones as count, onesIn}
-use lib.Dec.{eqb, ltb}
-use lib.ListN.{length, getD, set, replicate, drop, length-set, length-map, length-replicate, getD-replicate}
+use lib.Dec.{ltb}
+use lib.ListN.{length, getD, set, replicate, drop, length-set, length-replicate, getD-replicate}
 use lib.Seq.{drop-cons, ext-getD, getD-set-same, getD-set-other}
 use Rattle.lists.specs.Ranges.{range}
 use Rattle.lists.specs.Sums.{bit, sum, All, allNil, allCons}
-use Rattle.lists.proofs.Elements.{All-both, sum-none, map-range-at}
-use Rattle.lists.proofs.Sums.{sum-flatMap, sum-next, sum-ext, sum-all, sum-zero, All-imp}
-use Rattle.even_places.specs.Sets.{ones, byteOf, sets, allSets, alike}
+use Rattle.lists.proofs.Bits.{bit-of}
+use Rattle.lists.proofs.Each.{All-both, All-imp}
+use Rattle.lists.proofs.Sums.{sum-none}
+use Rattle.lists.proofs.Mapped.{mapped-length, mapped-at}
+use Rattle.even_places.specs.Sets.{ones, byteOf, allSets, alike}
 use Rattle.even_places.specs.Rule.{layout, firstRow}
-use Rattle.even_places.proofs.SetLaws.{alike-eq, alike-one}
-use Rattle.even_places.proofs.Counts.{sets-fit, range-length}
-use Rattle.even_places.proofs.Rows.{below, below-step, below-zero, below-lt}
+use Rattle.even_places.proofs.SetLaws.{alike-eq, alike-self}
+use Rattle.even_places.proofs.Rows.{below}
 use Rattle.even_places.proofs.Bytes.{byte-ones, byte-below}
+use Rattle.even_places.proofs.AllSets.{IsSet, all-sets, alike-all, layout-by-set}
+use Rattle.even_places.proofs.SetRuns.{first-here, first-later}
 use Rattle.even_layout.specs.Layout.{Bounds, setIn, rowsOf, firstRowOf, firstRows}
-use Rattle.even_layout.proofs.Tables.{IsSet, all-sets, set-in, ones-few, rows-low, layout-sets}
+use Rattle.even_layout.proofs.Tables.{set-in, rows-low}
 
 -- the table with the first row of each set in turn, where the rows before these sets are `row` many
 unfoldable pub filled : ℕ → ℕ → List (List Bool) → List ℕ → List ℕ
@@ -47,23 +50,6 @@ unfolding filled
 filled-other N row x table allNil = refl
 filled-other N row x table (allCons {x = A} {xs = L} d a) =
     filled-other N (row + rowsOf N A) x (set table (byteOf A) row) a ∙ getD-set-other table (byteOf A) x row 0 d
-
--- the first row of X among more rows of another set, or among its own
-first-other : (X A : List Bool) (more : List (List Bool)) → alike X A ≡ false → (n : ℕ) → firstRow X (replicate n A ++ more) ≡ n + firstRow X more
-unfolding firstRow
-first-other X A more e zero = sym (zero-add (firstRow X more))
-first-other X A more e (suc n) = rw e (ap suc (first-other X A more e n) ∙ sym (suc-add n (firstRow X more)))
-
-first-own : (X A : List Bool) (more : List (List Bool)) → alike X A ≡ true → (n : ℕ) → 1 ≤ n → firstRow X (replicate n A ++ more) ≡ 0
-unfolding firstRow
-first-own X A more e zero h = absurd (let w : ⊥ = omega arith in w)
-first-own X A more e (suc n) h = rw e
-
-alike-self : (A : List Bool) → alike A A ≡ true
-unfolding alike
-alike-self [] = refl
-alike-self (true ∷ A) = alike-self A
-alike-self (false ∷ A) = alike-self A
 
 byte-apart : (K : ℕ) (X A : List Bool) → length X ≡ K → length A ≡ K → alike X A ≡ false → byteOf X ≢ byteOf A
 byte-apart K X A e f d same =
@@ -95,33 +81,9 @@ filled-at N K row X table bounds e h (allCons {x = A} {xs = L} s a) one =
         ∙ ap (λ (B : List Bool). getD (set table (byteOf A) row) (byteOf B) 0) (alike-eq X A t)
         ∙ getD-set-same table (byteOf A) row 0 inside
         ∙ sym (add-zero row)
-        ∙ ap (λ (n : ℕ). row + n) (sym (first-own X A (rowsAll N L) t (rowsOf N A) (rows-low N K bounds A s)))
+        ∙ ap (λ (n : ℕ). row + n) (sym (first-here X A (rowsOf N A) (rowsAll N L) (rows-low N K bounds A s) t))
     go false t once ih =
-        ih (omega arith) ∙ add-assoc row (rowsOf N A) (firstRow X (rowsAll N L)) ∙ ap (λ (n : ℕ). row + n) (sym (first-other X A (rowsAll N L) t (rowsOf N A)))
-
--- ---- Every set is among the sets once
-
-once : (j M : ℕ) → sum (λ b. bit (eqb b j)) (range 0 M) ≡ below j M
-unfolding sum range
-once j zero = sym (below-zero j)
-once j (suc M) = sum-next (λ b. bit (eqb b j)) M ∙ omega (arith, once j M, below-step j M)
-
-pub alike-all : (K : ℕ) (X : List Bool) → length X ≡ K → 1 ≤ ones X → sum (λ A. bit (alike X A)) (allSets K) ≡ 1
-unfolding allSets bit
-alike-all K X e h =
-    sum-flatMap (λ A. bit (alike X A)) (λ b. sets K (suc b)) (range 0 K)
-    ∙ sum-ext (λ b. sum (λ A. bit (alike X A)) (sets K (suc b))) (λ b. bit (eqb b (ones X - 1))) (λ b. block b (eqb b (ones X - 1)) refl) (range 0 K)
-    ∙ once (ones X - 1) K ∙ below-lt (ones X - 1) K (omega (arith, ones-few X))
-  where
-    block : (b : ℕ) (t : Bool) → eqb b (ones X - 1) ≡ t → sum (λ A. bit (alike X A)) (sets K (suc b)) ≡ bit t
-    block b true t = alike-one X K (suc b) e (omega (arith, eqb-true b (ones X - 1) t))
-    block b false t =
-        sum-all (λ A. bit (alike X A)) (λ A. 0) (All-imp (λ A f. other A (alike X A) refl (λ same. eqb-false b (ones X - 1) t (omega (arith, f .1)))) (sets-fit K (suc b)))
-        ∙ sum-zero (sets K (suc b))
-      where
-        other : (A : List Bool) (u : Bool) → alike X A ≡ u → (ones X ≡ ones A → ⊥) → bit u ≡ 0
-        other A true u d = absurd (d (ap ones (alike-eq X A u)))
-        other A false u d = refl
+        ih (omega arith) ∙ add-assoc row (rowsOf N A) (firstRow X (rowsAll N L)) ∙ ap (λ (n : ℕ). row + n) (sym (first-later X A (rowsOf N A) (rowsAll N L) t))
 
 -- ---- Bytes and sets
 
@@ -130,18 +92,12 @@ unfolding setIn
 setIn-length zero x = refl
 setIn-length (suc K) x = ap suc (setIn-length K (x / 2))
 
-low-bit : (r : ℕ) → r < 2 → bit (eqb r 1) ≡ r
-unfolding bit
-low-bit zero h = refl
-low-bit (suc zero) h = refl
-low-bit (suc (suc r)) h = absurd (let w : ⊥ = omega arith in w)
-
-pub byte-setIn : (K x : ℕ) → x < 2 ^ K → byteOf (setIn K x) ≡ x
+byte-setIn : (K x : ℕ) → x < 2 ^ K → byteOf (setIn K x) ≡ x
 unfolding setIn byteOf
 byte-setIn zero x h = omega (arith, pow-zero 2)
 byte-setIn (suc K) x h =
     let half : x / 2 < 2 ^ K = div-lt-iff-lt-mul {k = 2} (omega arith) .1 (rw (pow-suc 2 K) at h) in
-    ap₂ (λ (a b : ℕ). a * 2 + b) (byte-setIn K (x / 2) half) (low-bit (x % 2) (mod-lt x (omega arith))) ∙ div-add-mod' x 2
+    ap₂ (λ (a b : ℕ). a * 2 + b) (byte-setIn K (x / 2) half) (bit-of (x % 2) (mod-lt x (omega arith))) ∙ div-add-mod' x 2
 
 byte-none : (A : List Bool) → ones A ≡ 0 → byteOf A ≡ 0
 unfolding ones byteOf sum bit
@@ -167,8 +123,8 @@ byte-some A h = go (byteOf A) refl
 -- ---- The table
 
 layout-rows : (N K : ℕ) → rowsAll N (allSets K) ≡ layout N K
-unfolding rowsAll
-layout-rows N K = sym (layout-sets N K)
+unfolding rowsAll rowsOf
+layout-rows N K = sym (layout-by-set N K)
 
 filled-entry : (N K size x : ℕ) → Bounds N K → 2 ^ K ≤ size → x < size → getD (filled N 0 (allSets K) (replicate size 0)) x 0 ≡ firstRowOf N K x
 unfolding firstRowOf
@@ -199,8 +155,8 @@ filled-firsts N K bounds = whole 256 (pow-le-pow-right {n = 2} (omega arith) {j 
         let table = filled N 0 (allSets K) (replicate size 0) in
         let long : length table ≡ size = filled-length N 0 (allSets K) (replicate size 0) ∙ length-replicate {A = ℕ} size 0 in
         ext-getD 0 table (map (firstRowOf N K) (range 0 size))
-        (long ∙ sym (length-map (range 0 size) (firstRowOf N K) ∙ range-length 0 size))
-        (λ i h. filled-entry N K size i bounds room (omega arith) ∙ sym (map-range-at (firstRowOf N K) 0 size i (omega arith) ∙ ap (firstRowOf N K) (zero-add i)))
+        (long ∙ sym (mapped-length (firstRowOf N K) 0 size))
+        (λ i h. filled-entry N K size i bounds room (omega arith) ∙ sym (mapped-at (firstRowOf N K) 0 size i (omega arith)))
 
 -- at the byte of a set stands the number of its first row
 pub first-rows-at : (N K : ℕ) (A : List Bool) → K ≤ 8 → length A ≡ K → 1 ≤ ones A → getD (firstRows N K) (byteOf A) 0 ≡ firstRow A (layout N K)
@@ -208,5 +164,5 @@ unfolding firstRows firstRowOf
 first-rows-at N K A few e h =
     let below : byteOf A < 2 ^ K = rw e at (byte-below A) in
     let room : 2 ^ K ≤ 256 = pow-le-pow-right {n = 2} (omega arith) {j = 8} few in
-    map-range-at (firstRowOf N K) 0 256 (byteOf A) (omega arith)
-    ∙ rw (zero-add (byteOf A), lt-ltb 0 (byteOf A) (byte-some A h), lt-ltb (byteOf A) (2 ^ K) below, set-in K A e)
+    mapped-at (firstRowOf N K) 0 256 (byteOf A) (omega arith)
+    ∙ rw (lt-ltb 0 (byteOf A) (byte-some A h), lt-ltb (byteOf A) (2 ^ K) below, set-in K A e)

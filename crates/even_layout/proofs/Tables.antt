@@ -7,37 +7,21 @@ use native.Mathlib.Nat.{pow-le-pow-left, pow-le-pow-right, pow-zero, pow-suc, mu
 use native.Mathlib.Numerals.{add-one}
 use native.Mathlib.Omega.{arith}
 use lib.Arith.{digits-mod, digits-div}
-use lib.Count.{ones as count, ones-le}
+use lib.Count.{ones as count}
 use lib.ListN.{length, getD, drop, replicate, length-map, drop-of-length-le, List·getD-append, List·getD-map}
 use lib.Seq.{drop-cons}
-use Rattle.lists.specs.Ranges.{range}
-use Rattle.lists.specs.Sums.{bit, All}
-use Rattle.lists.proofs.Elements.{All-at}
-use Rattle.lists.proofs.Flat.{flatMap-flatMap}
-use Rattle.lists.proofs.Sums.{All-every, All-flatMap, All-imp}
-use Rattle.even_places.specs.Sets.{ones, members, byteOf, sets, allSets}
-use Rattle.even_places.specs.Rule.{layout, positions, queryCells}
-use Rattle.even_places.proofs.SetLaws.{flatMap-all}
-use Rattle.even_places.proofs.Counts.{sets-fit}
-use Rattle.even_places.proofs.Flat.{query-length}
-use Rattle.even_places.proofs.Positions.{same-members}
+use Rattle.lists.specs.Sums.{bit}
+use Rattle.lists.proofs.Each.{All-get}
+use Rattle.lists.proofs.Joined.{flatMap-flatMap}
+use Rattle.even_places.specs.Sets.{ones, members, byteOf, allSets}
+use Rattle.even_places.specs.Rule.{positions}
+use Rattle.even_places.proofs.AllSets.{IsSet, all-sets, ones-most, layout-by-set}
+use Rattle.even_places.proofs.Positions.{positions-length}
 use Rattle.even_places.proofs.Bytes.{byte-ones, byte-below}
 use Rattle.even_layout.specs.Layout.{Bounds, setIn, rowsOf}
 
--- a set of K messages that is not empty
-pub record IsSet (K : ℕ) (A : List Bool) : Type 0 where
-  pub long : length A ≡ K
-  pub some : 1 ≤ ones A
-
-pub all-sets : (K : ℕ) → All (IsSet K) (allSets K)
-unfolding allSets
-all-sets K = All-flatMap (λ b. sets K (suc b)) (All-every block (range 0 K))
-  where
-    block : (b : ℕ) → All (IsSet K) (sets K (suc b))
-    block b = All-imp (λ A h. record { long = h .0; some = omega (arith, h .1) }) (sets-fit K (suc b))
-
 -- a set's byte stands for it
-pub setIn-byte : (A : List Bool) → setIn (length A) (byteOf A) ≡ A
+setIn-byte : (A : List Bool) → setIn (length A) (byteOf A) ≡ A
 unfolding setIn byteOf bit
 setIn-byte [] = refl
 setIn-byte (true ∷ A) = rw (digits-mod (byteOf A) {m = 2} {r = 1} (omega arith), digits-div (byteOf A) {m = 2} {r = 1} (omega arith), setIn-byte A)
@@ -46,15 +30,12 @@ setIn-byte (false ∷ A) = rw (digits-mod (byteOf A) {m = 2} {r = 0} (omega arit
 pub set-in : (K : ℕ) (A : List Bool) → length A ≡ K → setIn K (byteOf A) ≡ A
 set-in K A e = rw (← e) (setIn-byte A)
 
-pub ones-few : (A : List Bool) → ones A ≤ length A
-ones-few A = omega (arith, ones-le (length A) (byteOf A) (byte-below A), byte-ones A)
-
 -- a set has no more rows than a message has symbols, and one at least
 module _ (N K : ℕ) (bounds : Bounds N K) (A : List Bool) (s : IsSet K A) where
   pub rows-high : rowsOf N A ≤ 256
   unfolding rowsOf
   rows-high =
-      let few : ones A ≤ K = omega (arith, ones-few A, s .long) in
+      let few : ones A ≤ K = omega (arith, ones-most A, s .long) in
       let fewer : (N - 1) ^ (ones A - 1) ≤ N ^ (ones A - 1) = pow-le-pow-left (omega (arith, bounds .servers-low)) (ones A - 1) in
       let all : N ^ (ones A - 1) ≤ N ^ K = pow-le-pow-right {n = N} (omega (arith, bounds .servers-low)) (let w : ones A - 1 ≤ K = omega arith in w) in
       omega (arith, bounds .symbols-high)
@@ -76,7 +57,7 @@ pub record SetByte (N K set : ℕ) (A : List Bool) : Type 0 where
   pub rows : (N - 1) ^ (count set - 1) ≡ rowsOf N A
   pub high : rowsOf N A ≤ 256
 
-pub set-byte : (N K set : ℕ) (A : List Bool) → Bounds N K → IsSet K A → set ≡ byteOf A → SetByte N K set A
+set-byte : (N K set : ℕ) (A : List Bool) → Bounds N K → IsSet K A → set ≡ byteOf A → SetByte N K set A
 unfolding rowsOf
 set-byte N K set A bounds s e =
     let ones-set : count set ≡ ones A = ap count e ∙ byte-ones A in
@@ -97,19 +78,8 @@ pub byte-at : (N K i : ℕ) (table more : List ℕ) → Bounds N K → table ≡
 unfolding byteOf
 byte-at N K i table more bounds e h =
     let bytes = map byteOf (allSets K) in
-    set-byte N K (getD table i 0) (getD (allSets K) i []) bounds (All-at (all-sets K) i [] h)
+    set-byte N K (getD table i 0) (getD (allSets K) i []) bounds (All-get [] (all-sets K) i h)
     (ap (λ (l : List ℕ). getD l i 0) e ∙ List·getD-append bytes more 0 i (omega (arith, length-map (allSets K) byteOf)) ∙ List·getD-map byteOf (allSets K) i [])
-
--- the rows of the sets in order are the layout
-pub layout-sets : (N K : ℕ) → layout N K ≡ flatMap (λ A. replicate (rowsOf N A) A) (allSets K)
-unfolding layout allSets rowsOf
-layout-sets N K =
-    flatMap-all _ _ (All-every block (range 0 K)) ∙ sym (flatMap-flatMap (λ A. replicate (rowsOf N A) A) (λ b. sets K (suc b)) (range 0 K))
-  where
-    block : (b : ℕ) → flatMap (replicate ((N - 1) ^ b)) (sets K (suc b)) ≡ flatMap (λ A. replicate (rowsOf N A) A) (sets K (suc b))
-    block b =
-        flatMap-all (replicate ((N - 1) ^ b)) (λ A. replicate (rowsOf N A) A)
-        (All-imp (λ A h. ap (λ (n : ℕ). replicate ((N - 1) ^ n) A) (let w : b ≡ ones A - 1 = omega (arith, h .1) in w)) (sets-fit K (suc b)))
 
 -- the positions of the rows of a set, and of the sets from i on
 unfoldable pub setPositions : ℕ → List Bool → List ℕ
@@ -124,9 +94,9 @@ unfolding setPositions
 set-positions N K set rows A s e = ap₂ (λ (n : ℕ) (B : List Bool). flatMap (members 0) (replicate n B)) (e ∙ s .rows) (s .decoded)
 
 pub positions-all : (N K : ℕ) → positionsFrom N K 0 ≡ positions N K
-unfolding positionsFrom setPositions positions
+unfolding positionsFrom setPositions positions rowsOf
 positions-all N K =
-    sym (flatMap-flatMap (members 0) (λ A. replicate (rowsOf N A) A) (allSets K)) ∙ ap (flatMap (members 0)) (sym (layout-sets N K))
+    sym (flatMap-flatMap (members 0) (λ A. replicate (rowsOf N A) A) (allSets K)) ∙ ap (flatMap (members 0)) (sym (layout-by-set N K))
 
 pub positions-none : (N K i : ℕ) → length (allSets K) ≤ i → positionsFrom N K i ≡ []
 unfolding positionsFrom flatMap
@@ -137,12 +107,7 @@ pub positions-more : (N K i : ℕ) → i < length (allSets K)
 unfolding positionsFrom flatMap
 positions-more N K i h = rw (add-one i, drop-cons (allSets K) i [] h)
 
--- there is a position for each byte of a query, at most 1,024
-pub positions-length : (N K : ℕ) → 1 < N → 0 < K → length (positions N K) ≡ K * N ^ (K - 1)
-unfolding positions
-positions-length N K h l =
-    ap length (sym (same-members N K 0 0 h l (omega arith))) ∙ length-map (queryCells N K 0 0) (λ e. e .0) ∙ query-length N K 0 h l 0 (omega arith)
-
+-- the positions of a query fit the table of them
 pub positions-room : (N K : ℕ) → Bounds N K → length (positions N K) ≤ 1024
 positions-room N K bounds =
     let last : K ≡ suc (K - 1) = omega (arith, bounds .messages-low) in

@@ -1,14 +1,15 @@
-// The layout of an even query, which every server knows from N and K: its sets in order, the message at each position, and each set's first row.
+// The layout of an even query, which every server knows from N and K: its sets in order, the message at each position, each set's first row,
+// and the order of the other servers, from whose rows a row is joined.
 // A set of messages is one byte, bit p for message p; its block is the number of ones in it (document 01, 'Even code').
 ghost use mathlib.Core.Path.{_≡_};
 ghost use mathlib.Core.List.{_++_, map, flatMap};
-ghost use Prim.Native.Nat.{_+_, _-_, _^_, _≤_, _<_};
-ghost use lib.ListN.{length, replicate};
+ghost use Prim.Native.Nat.{ℕ, _+_, _-_, _^_, _≤_, _<_};
+ghost use lib.ListN.{length, getD, replicate};
 ghost use lib.Count.{ones};
 ghost use Rattle.lists.specs.Parts.{put};
 ghost use Rattle.lists.specs.Padded.{padded};
 ghost use Rattle.even_places.specs.Sets.{byteOf, members, allSets};
-ghost use Rattle.even_places.specs.Rule.{«positions»};
+ghost use Rattle.even_places.specs.Rule.{others, «positions»};
 ghost use Rattle.even_layout.specs.Layout.{Bounds, setIn, listedRows, firstRows};
 
 // The sets of an even query in order, for each number of messages up to 8: those of k messages stand from 2^k on, and the empty one after them.
@@ -180,4 +181,12 @@ pub fn first_rows(n: usize, k: usize) -> [usize; 256]
         i += 1;
     }
     firsts
+}
+
+// The server whose turn it is of those that are not `server`, ascending from turn 0.
+pub fn other_server(server: usize, turn: usize) -> usize
+    requires { ⌜ turn < 16 ⌝ }
+    ensures { λ r. ⌜ ((n : ℕ) → server < n → turn < n - 1 → r ≡ getD (others n server) turn 0) ⌝ }
+{
+    if turn < server { turn } else { turn + 1 }
 }

@@ -5,19 +5,15 @@ use native.Mathlib.Nat.{div-div-eq-div-mul, pow-succ', pow-suc, zero-div, div-on
 use native.Mathlib.Omega.{arith}
 use mathlib.Core.Path.{_≡_, refl, sym, ap, _∙_}
 use mathlib.Core.List.{List, [], _∷_}
-use mathlib.Core.Bool.{Bool, true, false}
+use mathlib.Core.Bool.{Bool}
 use lib.ListN.{length}
 use lib.Arith.{digits-lt, digits-div, digits-mod}
 use lib.Count.{ones-step, ones as count, onesIn}
 use Rattle.lists.specs.Sums.{bit, sum, All}
-use Rattle.lists.proofs.Sums.{All-imp}
+use Rattle.lists.proofs.Each.{All-imp}
+use Rattle.lists.proofs.Bits.{bit-small}
 use Rattle.even_places.specs.Sets.{has, ones, byteOf, sets}
 use Rattle.even_places.proofs.Counts.{sets-fit}
-
-bit-small : (a : Bool) → bit a < 2
-unfolding bit
-bit-small true = omega arith
-bit-small false = omega arith
 
 pub byte-ones : (A : List Bool) → count (byteOf A) ≡ ones A
 unfolding byteOf ones sum count onesIn

@@ -11,8 +11,9 @@ use lib.ListN.{length, getD, set, replicate, length-replicate, List·getD-append
 use lib.Seq.{getD-append-add, getD-set-same}
 use Rattle.lists.specs.Sums.{bit, keep, keepIf, sum, All, allNil, allCons}
 use Rattle.lists.specs.Ranges.{range}
-use Rattle.lists.proofs.Kept.{keep-append, keep-nothing}
-use Rattle.lists.proofs.Sums.{All-imp, All-replicate, sum-mul, sum-ext, sum-keep}
+use Rattle.lists.proofs.Keep.{keep-append, keep-nothing}
+use Rattle.lists.proofs.Each.{All-imp, All-replicate}
+use Rattle.lists.proofs.Sums.{sum-mul, sum-ext, sum-keep}
 use Rattle.even_places.specs.Sets.{has, sets, with, ones, alike}
 use Rattle.even_places.specs.Process.{afters}
 use Rattle.even_places.specs.Rule.{Row, same, give, next, after, number, join, ofSet, block, used, sideSets, sideRows, wantedRows, joins, sources}
@@ -171,7 +172,7 @@ module _ (N K k : ℕ) (wide : 1 < N) (known : k < K) where
       ≡ some (used N (joins N K k) (suc b) n + j * length (sideSets N K k b) + (N - 1) ^ b * length (before (set A k false) (keep (λ B. not (has k B)) (sets K (suc b)))) + r)
   unfolding wantedRows sources sideSets ofSet flatMap
   wanted-at b n j r A l long many g hj hr =
-      ap (λ s. getD (getD s (j * q + r) []) k none) (with-k N K k wide known (suc b) n A g) ∙ go (others-below N K k wide known n l) (used N (joins N K k) (suc b) n) j (omega (arith, others-length N n l))
+      ap (λ s. getD (getD s (j * q + r) []) k none) (with-k N K k wide known (suc b) n A g) ∙ go (others-below N n) (used N (joins N K k) (suc b) n) j (omega (arith, others-length N n l))
     where
       q : ℕ
       q = (N - 1) ^ b

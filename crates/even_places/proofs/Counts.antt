@@ -7,16 +7,20 @@ use mathlib.Core.Path.{_≡_, refl, sym, ap, _∙_}
 use mathlib.Core.List.{List, [], _∷_, _++_, map, flatMap}
 use mathlib.Core.Bool.{Bool, true, false, not}
 use mathlib.Core.Option.{none}
+use borrow.Author.Tests.{not-true}
 use lib.ListN.{length, getD, replicate, length-replicate, getD-replicate}
 use Rattle.lists.specs.Sums.{bit, keep, sum, All, allNil, allCons}
 use Rattle.lists.specs.Ranges.{range}
-pub use Rattle.lists.proofs.Ranges.{range-length}
-use Rattle.lists.proofs.Ranges.{map-range-length, map-range-at}
-use Rattle.lists.proofs.Sums.{sum-append, sum-add, sum-mul, sum-ext, sum-one, sum-flatMap, sum-keep, sum-next, sum-replicate, All-append, All-map, All-imp, All-flatMap, All-every, All-replicate, All-keep}
+use Rattle.lists.proofs.Mapped.{mapped-length, mapped-at}
+use Rattle.lists.proofs.Sums.{sum-append, sum-add, sum-mul, sum-ext, sum-one, sum-flatMap, sum-keep, sum-next, sum-replicate, sum-same}
+use Rattle.lists.proofs.Each.{All-append, All-map, All-imp, All-flatMap, All-every, All-replicate, All-keep}
+use Rattle.lists.proofs.Bits.{bit-either}
+use Rattle.lists.proofs.Replicate.{getD-replicate-same}
 use Rattle.even_places.specs.Sets.{has, sets, with, ones}
 use Rattle.even_places.specs.Rule.{Row, isSome, number, bySet, others, block, used, sideSets, sideRows, sources, joins, wantedRows, rows, rowCount}
 use Rattle.even_places.proofs.Choose.{tail, gen-tail, gen-one, none-not, swap-has}
-use Rattle.even_places.proofs.Rows.{somes, Lacks, SetLacks, Fits, number-lacks, number-length, join-sum, join-fits, bySet-sum, others-sum}
+use Rattle.even_places.proofs.Rows.{somes, Lacks, SetLacks, Fits, number-lacks, number-length, join-sum, join-fits, others-sum}
+use Rattle.even_places.proofs.BySet.{bySet-sum}
 
 -- every set of `sets K b` has b of K messages
 pub sets-fit : (K b : ℕ) → All (λ A. (length A ≡ K) × (ones A ≡ b)) (sets K b)
@@ -32,10 +36,6 @@ sets-fit (suc K) (suc b) =
 pub up : (n : ℕ) → 0 < n → suc (n - 1) ≡ n
 up n h = omega arith
 
-not-true : (t : Bool) → not t ≡ true → t ≡ false
-not-true true e = sym e
-not-true false e = refl
-
 pub sets-zero : (K : ℕ) → sets K 0 ≡ replicate K false ∷ []
 unfolding sets
 sets-zero zero = refl
@@ -43,19 +43,7 @@ sets-zero (suc K) = ap (map (λ A. false ∷ A)) (sets-zero K)
 
 pub has-none : (K p : ℕ) → has p (replicate K false) ≡ false
 unfolding has
-has-none zero p = refl
-has-none (suc K) zero = refl
-has-none (suc K) (suc p) = has-none K p
-
-pub sum-const : (c M : ℕ) → sum (λ m. c) (range 0 M) ≡ M * c
-unfolding sum range
-sum-const c zero = sym (zero-mul c)
-sum-const c (suc M) = omega (arith, sum-next (λ m. c) M, sum-const c M, suc-mul M c)
-
-pub either : (t : Bool) → bit (not t) + bit t ≡ 1
-unfolding bit
-either true = refl
-either false = refl
+has-none K p = getD-replicate-same K p false
 
 -- what is used at the next server's turn, and at the next block's
 module _ (N : ℕ) (f : ℕ → ℕ) where
@@ -87,11 +75,11 @@ module _ (N K k : ℕ) (wide : 1 < N) (known : k < K) where
 
   pub starts-length : (b n : ℕ) → length (starts b n) ≡ K
   unfolding starts
-  starts-length b n = map-range-length (λ p. used N (fresh p) b n) K
+  starts-length b n = mapped-length (λ p. used N (fresh p) b n) 0 K
 
   pub starts-at : (p b n : ℕ) → p < K → getD (starts b n) p 0 ≡ used N (fresh p) b n
   unfolding starts
-  starts-at p b n h = map-range-at (λ q. used N (fresh q) b n) K p 0 h
+  starts-at p b n h = mapped-at (λ q. used N (fresh q) b n) 0 K p h
 
   pub side-is : (b n : ℕ) → sideRows N K k b n ≡ number (starts b n) (sideSets N K k b)
   unfolding sideRows starts fresh
@@ -155,7 +143,7 @@ module _ (N K k : ℕ) (wide : 1 < N) (known : k < K) where
       sym (sum-one (flatMap (sideRows N K k b) (others N n)))
       ∙ sum-flatMap (λ r. 1) (sideRows N K k b) (others N n)
       ∙ sum-ext (λ m. sum (λ r. 1) (sideRows N K k b m)) (λ m. length (sideSets N K k b)) (λ m. sum-one (sideRows N K k b m) ∙ side-length b m) (others N n)
-      ∙ omega (arith, others-sum (λ m. length (sideSets N K k b)) N n l, sum-const (length (sideSets N K k b)) N, suc-mul (N - 1) (length (sideSets N K k b)), ap (λ s. s * length (sideSets N K k b)) (up N (omega arith)))
+      ∙ omega (arith, others-sum (λ m. length (sideSets N K k b)) N n l, sum-same (length (sideSets N K k b)) N, suc-mul (N - 1) (length (sideSets N K k b)), ap (λ s. s * length (sideSets N K k b)) (up N (omega arith)))
 
   pub sources-long : (b n : ℕ) → All (λ r. k < length r) (sources N K k b n)
   sources-long b n = All-imp (λ r h. omega (arith, h .long)) (sources-lack b n)
@@ -168,7 +156,7 @@ module _ (N K k : ℕ) (wide : 1 < N) (known : k < K) where
       has-or-not : (b : ℕ) → sum (λ A. bit (not (has k A))) (sets K b) + sum (λ A. bit (has k A)) (sets K b) ≡ length (sets K b)
       has-or-not b =
           sym (sum-add (λ A. bit (not (has k A))) (λ A. bit (has k A)) (sets K b))
-          ∙ sum-ext (λ A. bit (not (has k A)) + bit (has k A)) (λ A. 1) (λ A. either (has k A)) (sets K b)
+          ∙ sum-ext (λ A. bit (not (has k A)) + bit (has k A)) (λ A. 1) (λ A. bit-either (has k A)) (sets K b)
           ∙ sum-one (sets K b)
 
       block : (b : ℕ) → sum (λ r. 1) (sideRows N K k b n) + sum (λ r. 1) (wantedRows N K k b n) ≡ length (sets K (suc b)) * (N - 1) ^ b

@@ -10,26 +10,28 @@ use mathlib.Core.Bool.{true}
 use mathlib.Core.List.{List, [], _∷_, map, flatMap}
 use mathlib.Core.Option.{Option, none, some}
 use borrow.Author.Tests.{eq-eqb, ne-eqb}
-use lib.Dec.{eqb}
+use lib.Dec.{eqb, ltb}
 use lib.ListN.{length, getD, length-append}
 use Rattle.lists.specs.Below.{Below}
 use Rattle.lists.specs.Distinct.{distinct}
 use Rattle.lists.specs.Pairs.{under}
 use Rattle.lists.specs.Ranges.{range}
 use Rattle.lists.specs.Sums.{bit, keep, sum, All, allNil, allCons}
-use Rattle.lists.proofs.Kept.{keep-flatMap, map-flatMap}
+use Rattle.lists.proofs.Keep.{keep-flatMap}
+use Rattle.lists.proofs.Joined.{map-flatMap}
 use Rattle.lists.proofs.Below.{allBelow-below}
+use Rattle.lists.proofs.Bits.{bit-small}
 use Rattle.lists.proofs.Distinct.{times, times-distinct, times-below}
-use Rattle.lists.proofs.Each.{All-at, All-get}
-use Rattle.lists.proofs.Elements.{All-both}
+use Rattle.lists.proofs.Each.{All-at, All-get, All-both, All-imp, All-flatMap, All-every, All-keep}
 use Rattle.lists.proofs.Pairs.{under-cons, under-all}
-use Rattle.lists.proofs.Sums.{sum-append, sum-all, sum-one, sum-flatMap, sum-swap, sum-first, sum-range, All-imp, All-flatMap, All-every, All-keep}
+use Rattle.lists.proofs.Sums.{sum-append, sum-all, sum-one, sum-flatMap, sum-swap, sum-range, sum-same, sum-map, sum-at}
 use Rattle.even_places.specs.Rule.{Row, isSome, same, ofSet, bySet, block, rows, cells, queryCells}
-use Rattle.even_places.specs.Sets.{sets}
+use Rattle.even_places.specs.Sets.{sets, ones}
 use Rattle.even_places.proofs.Rows.{below, below-lt, below-ge, is, hit, gives}
-use Rattle.even_places.proofs.Counts.{sum-const, block-fits}
+use Rattle.even_places.proofs.Counts.{block-fits}
 use Rattle.even_places.proofs.Totals.{other-once, other-many, wanted-apart, wanted-many}
 use Rattle.even_places.proofs.Order.{held, placesOf}
+use Rattle.even_places.proofs.SetLaws.{setOf, cells-length}
 
 -- ---- the cells of rows, message by message
 
@@ -56,17 +58,16 @@ cells-under (some x ∷ r) q (suc p) =
     shift : (a b : ℕ) → a + suc b ≡ suc a + b
     shift a b = omega arith
 
-cells-messages : (r : Row) (q : ℕ) → All (λ cell. cell .0 < q + length r) (cells q r)
+-- the messages of a row's cells
+pub cells-messages : (r : Row) (q : ℕ) → All (λ cell. cell .0 < q + length r) (cells q r)
 unfolding cells
 cells-messages [] q = allNil
 cells-messages (none ∷ r) q = All-imp (λ cell h. omega (arith, h)) (cells-messages r (suc q))
 cells-messages (some x ∷ r) q = allCons {x = (q, x)} (omega arith) (All-imp (λ cell h. omega (arith, h)) (cells-messages r (suc q)))
 
-cells-length : (r : Row) (q : ℕ) → length (cells q r) ≡ sum (λ p. gives p r) (range 0 (length r))
-unfolding cells sum range gives isSome bit
-cells-length [] q = refl
-cells-length (none ∷ r) q = omega (arith, cells-length r (suc q), sum-first (λ p. gives p (none ∷ r)) 0 (length r))
-cells-length (some x ∷ r) q = omega (arith, cells-length r (suc q), sum-first (λ p. gives p (some x ∷ r)) 0 (length r))
+cells-given : (r : Row) (q : ℕ) → length (cells q r) ≡ sum (λ p. gives p r) (range 0 (length r))
+unfolding ones setOf gives
+cells-given r q = cells-length q r ∙ sum-map bit isSome r ∙ sum-at (λ x. bit (isSome x)) none r
 
 places-times : (p v : ℕ) (rs : List Row) → times v (placesOf p rs) ≡ sum (hit p v) rs
 unfolding times placesOf sum hit is
@@ -93,12 +94,9 @@ below-mono v m n le = go (decLt v m)
     go (yes h) = omega (arith, below-lt v m h, below-lt v n (omega arith))
     go (no h) = omega (arith, below-ge v m (omega arith))
 
-pub below-one : (v n : ℕ) → below v n ≤ 1
-below-one v n = go (decLt v n)
-  where
-    go : Dec (v < n) → below v n ≤ 1
-    go (yes h) = omega (arith, below-lt v n h)
-    go (no h) = omega (arith, below-ge v n (omega arith))
+below-one : (v n : ℕ) → below v n ≤ 1
+unfolding below
+below-one v n = omega (arith, bit-small (ltb v n))
 
 -- ---- a server's query
 
@@ -110,7 +108,7 @@ module _ (N K k : ℕ) (wide : 1 < N) (known : k < K) where
       (All-every (λ b. All-flatMap (λ A. ofSet A (block N K k b n)) (All-every (λ A. All-imp (λ r h. h .0 .long) (All-keep (same A) (block-fits N K k wide known b n))) (sets K (suc b)))) (range 0 K))
 
   -- a message's places in the cells are those in the rows
-  pub query-places : (p n : ℕ) → under p (queryCells N K k n) ≡ placesOf p (rows N K k n)
+  query-places : (p n : ℕ) → under p (queryCells N K k n) ≡ placesOf p (rows N K k n)
   unfolding queryCells under placesOf
   query-places p n =
       ap (map (λ e. e .1)) (keep-flatMap (λ e. eqb (e .0) p) (cells 0) (rows N K k n))
@@ -157,10 +155,10 @@ module _ (N K k : ℕ) (wide : 1 < N) (known : k < K) where
         sym (sum-one (queryCells N K k n))
         ∙ sum-flatMap (λ e. 1) (cells 0) (rows N K k n)
         ∙ sum-all (λ r. sum (λ e. 1) (cells 0 r)) (λ r. sum (λ p. gives p r) (range 0 K))
-        (All-imp (λ r e. sum-one (cells 0 r) ∙ cells-length r 0 ∙ ap (λ j. sum (λ p. gives p r) (range 0 j)) e) (rows-long n))
+        (All-imp (λ r e. sum-one (cells 0 r) ∙ cells-given r 0 ∙ ap (λ j. sum (λ p. gives p r) (range 0 j)) e) (rows-long n))
         ∙ sum-swap (λ r p. gives p r) (rows N K k n) (range 0 K)
         ∙ sum-range (λ p. sum (gives p) (rows N K k n)) (λ p. N ^ (K - 1)) K (λ p hp. gives-many p n hp there)
-        ∙ sum-const (N ^ (K - 1)) K
+        ∙ sum-same (N ^ (K - 1)) K
 
   -- by position
   pub inside : (n i : ℕ) → n < N → i < length (queryCells N K k n) → (getD (queryCells N K k n) i (0, 0) .0 < K) × (getD (queryCells N K k n) i (0, 0) .1 < N ^ K)

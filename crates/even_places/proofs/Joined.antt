@@ -10,13 +10,16 @@ use mathlib.Core.Option.{none, some}
 use lib.ListN.{length, set, replicate, length-set}
 use Rattle.lists.specs.Sums.{bit, keep, sum}
 use Rattle.lists.specs.Ranges.{range}
-use Rattle.lists.proofs.Kept.{keep-append, keep-nothing, keep-flatMap, flatMap-all, map-flatMap}
-use Rattle.lists.proofs.Sums.{sum-append, sum-mul, sum-ext, sum-all, sum-flatMap, All-imp}
+use Rattle.lists.proofs.Keep.{keep-append, keep-nothing, keep-flatMap}
+use Rattle.lists.proofs.Joined.{flatMap-all, map-flatMap}
+use Rattle.lists.proofs.Sums.{sum-append, sum-mul, sum-ext, sum-all, sum-flatMap, sum-same}
+use Rattle.lists.proofs.Each.{All-imp}
+use Rattle.lists.proofs.Bits.{bit-either}
 use Rattle.even_places.specs.Sets.{has, sets, ones, alike}
 use Rattle.even_places.specs.Rule.{isSome, same, bySet, ofSet, others, block, used, sideRows, sources, joins, wantedRows, rows, layout}
 use Rattle.even_places.proofs.Rows.{join-sum, others-sum}
 use Rattle.even_places.proofs.SetLaws.{setOf, same-alike, alike-one, alike-carry, alike-join, ones-drop, setOf-set, number-sets, keep-sets, same-not, join-keep, join-have, has-drop}
-use Rattle.even_places.proofs.Counts.{sets-fit, sets-zero, has-none, sum-const, either, starts, starts-length, sideSets-sum, side-is, sideSets-lack, side-lacks, sources-lack}
+use Rattle.even_places.proofs.Counts.{sets-fit, sets-zero, has-none, starts, starts-length, sideSets-sum, side-is, sideSets-lack, side-lacks, sources-lack}
 
 setOf-none : (K : ℕ) → setOf (replicate K none) ≡ replicate K false
 unfolding setOf isSome
@@ -48,7 +51,7 @@ module _ (N K k : ℕ) (wide : 1 < N) (known : k < K) where
   sources-sets f (suc b) n l =
       sum-flatMap (λ r. f (setOf r)) (sideRows N K k b) (others N n)
       ∙ sum-ext (λ m. sum (λ r. f (setOf r)) (sideRows N K k b m)) (λ m. c) (side-sets f b) (others N n)
-      ∙ omega (arith, others-sum (λ m. c) N n l, sum-const c N, suc-mul (N - 1) c, ap (λ s. s * c) up)
+      ∙ omega (arith, others-sum (λ m. c) N n l, sum-same c N, suc-mul (N - 1) c, ap (λ s. s * c) up)
       ∙ sym (mul-assoc (N - 1) ((N - 1) ^ b) (sum (λ A. bit (not (has k A)) * f A) (sets K (suc b))))
       ∙ ap (λ s. s * sum (λ A. bit (not (has k A)) * f A) (sets K (suc b))) (sym (pow-succ' (N - 1) b))
     where
@@ -63,7 +66,7 @@ module _ (N K k : ℕ) (wide : 1 < N) (known : k < K) where
   unfolding block wantedRows bit
   group-size b n A l long many =
       sum-append (λ r. bit (same A r)) (sideRows N K k b n) (wantedRows N K k b n)
-      ∙ omega (arith, in-side, in-wanted, ap (λ s. x * s) (either (has k A)), mul-add x (bit (not (has k A))) (bit (has k A)), mul-one x)
+      ∙ omega (arith, in-side, in-wanted, ap (λ s. x * s) (bit-either (has k A)), mul-add x (bit (not (has k A))) (bit (has k A)), mul-one x)
     where
       x : ℕ
       x = (N - 1) ^ b

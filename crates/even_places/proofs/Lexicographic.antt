@@ -8,7 +8,7 @@ use borrow.Author.Tests.{eq-eqb, lt-ltb, le-ltb}
 use Rattle.lists.specs.Lexicographic.{precedes, Ordered, orderedNil, orderedCons}
 use Rattle.lists.specs.Sums.{allNil, bit, sum}
 use Rattle.lists.proofs.Ordered.{Ordered-imp, Ordered-append, Ordered-map}
-use Rattle.lists.proofs.Sums.{All-imp, All-map, All-every}
+use Rattle.lists.proofs.Each.{All-imp, All-map, All-every}
 use Rattle.even_places.specs.Sets.{ones, members, sets}
 use Rattle.even_places.proofs.Counts.{sets-fit}
 

@@ -1,7 +1,9 @@
 pub mod Choose
 pub mod Rows
+pub mod BySet
 pub mod SetLaws
 pub mod Counts
+pub mod AllSets
 pub mod Totals
 pub mod Joined
 pub mod Order

@@ -1,11 +1,11 @@
 -- Each message's places are used up in ascending order: those that rows take anew, in the order made, are 0, 1, 2, and so on
 -- (`places-in-order`).
 use Prim.Native.Nat.{ℕ, zero, suc, _+_, _*_, _-_, _^_, _≤_, _<_}
-use native.Mathlib.Nat.{zero-add, add-zero, mul-zero, zero-mul, mul-add, suc-mul, pow-succ'}
+use native.Mathlib.Nat.{zero-add, mul-zero, zero-mul, mul-add, suc-mul, pow-succ'}
 use native.Mathlib.Omega.{arith}
 use mathlib.Core.Path.{_≡_, refl, sym, ap, _∙_}
 use mathlib.Core.Logic.{_≢_}
-use mathlib.Core.List.{List, [], _∷_, _++_, append-assoc, append-nil, flatMap}
+use mathlib.Core.List.{List, [], _∷_, _++_, flatMap}
 use mathlib.Core.Bool.{Bool, true, false, cond}
 use mathlib.Core.Option.{Option, none, some}
 use borrow.Author.Tests.{eqb-true, eqb-false}
@@ -14,8 +14,10 @@ use lib.ListN.{length, getD}
 use lib.Seq.{getD-set-same}
 use Rattle.lists.specs.Sums.{bit, sum, All, allNil, allCons}
 use Rattle.lists.specs.Ranges.{range}
-pub use Rattle.lists.proofs.Ranges.{range-append}
-use Rattle.lists.proofs.Sums.{sum-next, All-imp}
+use Rattle.lists.proofs.Joined.{flatMap-next}
+use Rattle.lists.proofs.Ranges.{range-append}
+use Rattle.lists.proofs.Sums.{sum-next}
+use Rattle.lists.proofs.Each.{All-imp}
 use Rattle.even_places.specs.Sets.{has, with}
 use Rattle.even_places.specs.Rule.{Row, give, after, number, join, used, sideSets, sideRows, joins, wantedRows}
 use Rattle.even_places.proofs.Rows.{next-at, after-at, after-length}
@@ -30,14 +32,6 @@ held (some x) = x ∷ []
 unfoldable pub placesOf : ℕ → List Row → List ℕ
 unfolding held flatMap
 placesOf p rs = flatMap (λ r. held (getD r p none)) rs
-
-each-last : (g : ℕ → List ℕ) (a n : ℕ) → flatMap g (range a (suc n)) ≡ flatMap g (range a n) ++ g (a + n)
-unfolding flatMap range
-each-last g a zero = append-nil (g a) ∙ ap g (sym (add-zero a))
-each-last g a (suc n) = ap (λ l. g a ++ l) (each-last g (suc a) n) ∙ sym (append-assoc (g a) (flatMap g (range (suc a) n)) (g (suc a + n))) ∙ ap (λ i. g a ++ flatMap g (range (suc a) n) ++ g i) (omega arith)
-
-each-next : (g : ℕ → List ℕ) (n : ℕ) → flatMap g (range 0 (suc n)) ≡ flatMap g (range 0 n) ++ g n
-each-next g n = each-last g 0 n ∙ ap (λ i. flatMap g (range 0 n) ++ g i) (zero-add n)
 
 number-order : (K p : ℕ) (c : List ℕ) {L : List (List Bool)} → length c ≡ K → All (λ A. length A ≡ K) L → placesOf p (number c L) ≡ range (getD c p 0) (with p L)
 unfolding number with sum placesOf range
@@ -63,7 +57,7 @@ module _ (N : ℕ) (f : ℕ → ℕ) (g : ℕ → ℕ → List ℕ) (turn : (b n
   unfolding flatMap range used
   in-block b zero l = rw (zero-mul (f b))
   in-block b (suc n) l =
-      each-next (g b) n
+      flatMap-next (g b) n
       ∙ ap (λ s. s ++ g b n) (in-block b n (omega arith))
       ∙ ap (λ s. range (used N f b 0) (n * f b) ++ s) (turn b n l ∙ ap (λ s. range s (f b)) (omega (arith, zero-mul (f b))))
       ∙ range-append (used N f b 0) (n * f b) (f b)
@@ -73,7 +67,7 @@ module _ (N : ℕ) (f : ℕ → ℕ) (g : ℕ → ℕ → List ℕ) (turn : (b n
   unfolding flatMap range sum
   in-order zero = rw (mul-zero N)
   in-order (suc B) =
-      each-next (λ b. flatMap (g b) (range 0 N)) B
+      flatMap-next (λ b. flatMap (g b) (range 0 N)) B
       ∙ ap (λ s. s ++ flatMap (g B) (range 0 N)) (in-order B)
       ∙ ap (λ s. range 0 (N * sum f (range 0 B)) ++ s) (in-block B N (omega arith) ∙ ap (λ s. range s (N * f B)) (used-all N f B ∙ sym (zero-add (N * sum f (range 0 B)))))
       ∙ range-append 0 (N * sum f (range 0 B)) (N * f B)

@@ -1,10 +1,9 @@
 -- Where things stand: the message at each position of a query, the same at every server and for every wanted message (`same-members`),
 -- how many positions there are (`positions-length`), and the row that a wanted row is joined from, by number (`joined-at`).
-use Prim.Native.Nat.{ℕ, zero, suc, _+_, _*_, _-_, _^_, _≤_, _<_}
-use native.Mathlib.Nat.{zero-add, zero-mul, suc-mul, not-suc-le-zero}
+use Prim.Native.Nat.{ℕ, suc, _+_, _*_, _-_, _^_, _≤_, _<_}
+use native.Mathlib.Nat.{zero-add}
 use native.Mathlib.Omega.{arith}
 use mathlib.Core.Path.{_≡_, refl, sym, ap, _∙_, fun-ext}
-use mathlib.Core.Logic.{_≢_}
 use mathlib.Core.List.{List, [], _∷_, _++_, map, flatMap}
 use mathlib.Core.Bool.{Bool, true, false, not}
 use mathlib.Core.Option.{none, some}
@@ -12,11 +11,12 @@ use borrow.Author.Tests.{eq-eqb, ne-eqb}
 use lib.ListN.{length, getD, set, length-replicate, length-set, length-map, length-append, List·getD-append, List·getD-map}
 use lib.Seq.{getD-append-add}
 use lib.Dec.{eqb}
-use Rattle.lists.specs.Sums.{bit, keep, keepIf, sum, All, allNil, allCons}
+use Rattle.lists.specs.Sums.{bit, keep, keepIf, sum, All}
 use Rattle.lists.specs.Ranges.{range}
-use Rattle.lists.proofs.Kept.{map-flatMap, keep-append}
-use Rattle.lists.proofs.Ranges.{range-append, range-at, range-below, range-length}
-use Rattle.lists.proofs.Sums.{All-imp, All-keep}
+use Rattle.lists.proofs.Joined.{map-flatMap, flatMap-map, flatMap-at}
+use Rattle.lists.proofs.Keep.{keep-all, keep-append}
+use Rattle.lists.proofs.Ranges.{range-length, range-at, range-around, All-from, All-range}
+use Rattle.lists.proofs.Each.{All-imp, All-keep}
 use Rattle.even_places.specs.Sets.{has, ones, members}
 use Rattle.even_places.specs.Rule.{Row, isSome, same, ofSet, others, block, rows, cells, queryCells, layout, positions}
 use Rattle.even_places.proofs.SetLaws.{setOf, keep-sets, ones-drop}
@@ -29,18 +29,13 @@ cells-members q [] = refl
 cells-members q (none ∷ r) = cells-members (suc q) r
 cells-members q (some x ∷ r) = ap (λ l. q ∷ l) (cells-members (suc q) r)
 
-each-map : (g : List Bool → List ℕ) (rs : List Row) → flatMap (λ r. g (setOf r)) rs ≡ flatMap g (map setOf rs)
-unfolding flatMap
-each-map g [] = refl
-each-map g (r ∷ rs) = ap (λ l. g (setOf r) ++ l) (each-map g rs)
-
 -- the message at each position of a query depends on N and K alone
 pub same-members : (N K k n : ℕ) → 1 < N → k < K → n < N → map (λ e. e .0) (queryCells N K k n) ≡ flatMap (members 0) (layout N K)
 unfolding queryCells
 same-members N K k n wide known l =
     map-flatMap (λ e. e .0) (cells 0) (rows N K k n)
     ∙ ap (λ g. flatMap g (rows N K k n)) (fun-ext (cells-members 0))
-    ∙ each-map (members 0) (rows N K k n)
+    ∙ sym (flatMap-map (members 0) setOf (rows N K k n))
     ∙ ap (flatMap (members 0)) (same-layout N K k wide known n l)
 
 pub positions-length : (N K : ℕ) → 1 < N → 0 < K → length (positions N K) ≡ K * N ^ (K - 1)
@@ -50,36 +45,16 @@ positions-length N K wide some-message =
     ∙ length-map (queryCells N K 0 0) (λ e. e .0)
     ∙ query-length N K 0 wide some-message 0 (omega arith)
 
--- lists of one length, joined: what stands at j * q + r
-module _ {A B : Type 0} (g : B → List A) (q : ℕ) (d : A) (e : B) where
-  pub flatMap-at : {xs : List B} → All (λ x. length (g x) ≡ q) xs → (j r : ℕ) → j < length xs → r < q → getD (flatMap g xs) (j * q + r) d ≡ getD (g (getD xs j e)) r d
-  unfolding flatMap
-  flatMap-at allNil j r h l = absurd (not-suc-le-zero h)
-  flatMap-at (allCons {x = x} {xs = xs} f a) zero r h l = ap (λ i. getD (g x ++ flatMap g xs) i d) (omega (arith, zero-mul q)) ∙ List·getD-append (g x) (flatMap g xs) d r (omega arith)
-  flatMap-at (allCons {x = x} {xs = xs} f a) (suc j) r h l =
-      ap (λ i. getD (g x ++ flatMap g xs) i d) (omega (arith, suc-mul j q)) ∙ getD-append-add (g x) (flatMap g xs) (j * q + r) d ∙ flatMap-at a j r (omega arith) l
-
 -- the other servers than n: those below it, then those above
-keep-apart : (n a M : ℕ) → ((i : ℕ) → i < M → a + i ≢ n) → keep (λ m. not (eqb m n)) (range a M) ≡ range a M
-unfolding keep keepIf range
-keep-apart n a zero h = refl
-keep-apart n a (suc M) h = rw (ne-eqb a n (λ q. h 0 (omega arith) (omega arith))) (ap (λ l. a ∷ l) (keep-apart n (suc a) M (λ i l q. h (suc i) (omega arith) (omega arith))))
-
 others-is : (N n : ℕ) → n < N → others N n ≡ range 0 n ++ range (suc n) (N - suc n)
 unfolding others keep keepIf range
 others-is N n l =
-    ap (keep t) whole
+    ap (keep t) (range-around N n l)
     ∙ keep-append t (range 0 n) (n ∷ range (suc n) (N - suc n))
-    ∙ rw (keep-apart n 0 n (λ i h q. absurd (omega arith)), eq-eqb n n refl, keep-apart n (suc n) (N - suc n) (λ i h q. absurd (omega arith)))
+    ∙ rw (keep-all t (All-from 0 n (λ m a h. ap not (ne-eqb m n (λ e. omega arith)))), eq-eqb n n refl, keep-all t (All-from (suc n) (N - suc n) (λ m a h. ap not (ne-eqb m n (λ e. omega arith)))))
   where
     t : ℕ → Bool
     t m = not (eqb m n)
-
-    parts : N ≡ n + suc (N - suc n)
-    parts = omega arith
-
-    whole : range 0 N ≡ range 0 n ++ (n ∷ range (suc n) (N - suc n))
-    whole = ap (range 0) parts ∙ sym (range-append 0 n (suc (N - suc n))) ∙ ap (λ s. range 0 n ++ range s (suc (N - suc n))) (zero-add n)
 
 pub others-length : (N n : ℕ) → n < N → length (others N n) ≡ N - 1
 others-length N n l =
@@ -100,6 +75,10 @@ others-high N n j l h g =
     split : j ≡ length (range 0 n) + (j - n)
     split = omega (arith, range-length 0 n)
 
+pub others-below : (N n : ℕ) → All (λ m. m < N) (others N n)
+unfolding others
+others-below N n = All-imp (λ m h. h .0) (All-keep (λ m. not (eqb m n)) (All-range N (λ m h. h)))
+
 module _ (N K k : ℕ) (wide : 1 < N) (known : k < K) where
   pub group-length : (b n : ℕ) (A : List Bool) → n < N → length A ≡ K → ones A ≡ suc b → length (ofSet A (block N K k b n)) ≡ (N - 1) ^ b
   group-length b n A l long many =
@@ -108,10 +87,6 @@ module _ (N K k : ℕ) (wide : 1 < N) (known : k < K) where
       ∙ length-replicate (sum (λ r. bit (same A r)) (block N K k b n)) A
       ∙ group-size N K k wide known b n A l long many
 
-  pub others-below : (n : ℕ) → n < N → All (λ m. m < N) (others N n)
-  unfolding others
-  others-below n l = All-imp (λ m h. h .0) (All-keep (λ m. not (eqb m n)) (range-below N 0 N (omega arith)))
-
   -- by number: of server n's rows of a set with k, number j (N-1)^b + r is joined from row r of the set without k at the j-th other server
   pub joined-at : (b n j r : ℕ) (A : List Bool) → n < N → has k A ≡ true → length A ≡ K → ones A ≡ suc (suc b) → j < N - 1 → r < (N - 1) ^ b
       → set (getD (ofSet A (block N K k (suc b) n)) (j * (N - 1) ^ b + r) []) k none ≡ getD (ofSet (set A k false) (block N K k b (getD (others N n) j 0))) r []
@@ -119,5 +94,5 @@ module _ (N K k : ℕ) (wide : 1 < N) (known : k < K) where
       sym (List·getD-map (λ s. set s k none) (ofSet A (block N K k (suc b) n)) (j * (N - 1) ^ b + r) [])
       ∙ ap (λ s. getD s (j * (N - 1) ^ b + r) []) (joined N K k wide known b n A e)
       ∙ flatMap-at (λ m. ofSet (set A k false) (block N K k b m)) ((N - 1) ^ b) [] 0
-      (All-imp (λ m h. group-length b m (set A k false) h (length-set A k false ∙ long) (omega (arith, ones-drop A k e, many))) (others-below n l))
+      (All-imp (λ m h. group-length b m (set A k false) h (length-set A k false ∙ long) (omega (arith, ones-drop A k e, many))) (others-below N n))
       j r (omega (arith, others-length N n l)) hr

@@ -13,9 +13,10 @@ use lib.ListN.{length, getD, replicate, length-set, length-replicate, getD-repli
 use lib.Seq.{ext-getD, getD-set-same, getD-set-other}
 use Rattle.lists.specs.Ranges.{range}
 use Rattle.lists.specs.Sums.{bit, sum, All, allNil, allCons}
-use Rattle.lists.proofs.Kept.{flatMap-all}
-use Rattle.lists.proofs.Ranges.{map-range-at}
-use Rattle.lists.proofs.Sums.{All-imp, sum-all, sum-zero}
+use Rattle.lists.proofs.Joined.{flatMap-all}
+use Rattle.lists.proofs.Mapped.{mapped-at}
+use Rattle.lists.proofs.Each.{All-imp}
+use Rattle.lists.proofs.Sums.{sum-all, sum-zero}
 use Rattle.even_places.specs.Process.{Made, afters, joinedFrom, turn, turned, turns, turnsDone, blocks, process}
 use Rattle.even_places.specs.Rule.{Row, give, next, after, number, join, used, sideSets, sideRows, sources, joins, wantedRows}
 use Rattle.even_places.specs.Sets.{has, with}
@@ -74,7 +75,7 @@ module _ (N K k : ℕ) (wide : 1 < N) (known : k < K) where
   joined-from zero n before e l = refl
   joined-from (suc b) n before e l =
       flatMap-all (λ m. getD before m idle .side) (sideRows N K k b)
-      (All-imp (λ m h. ap (λ made. getD made m idle .side) e ∙ ap (λ made. made .side) (map-range-at (ruled b) N m idle h)) (others-below N K k wide known n l))
+      (All-imp (λ m h. ap (λ made. getD made m idle .side) e ∙ ap (λ made. made .side) (mapped-at (ruled b) idle N m h)) (others-below N n))
     where
       idle : Made
       idle = record { side = []; wanted = [] }

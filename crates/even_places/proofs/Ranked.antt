@@ -1,24 +1,26 @@
 -- How sets stand among the others of their block: the sets without k of one block are those with k of the next, in order, without k;
 -- all sets of one size among all sets; and what stands before a set in a list that has it once.
 use Prim.Native.Nat.{ℕ, zero, suc, _+_, _-_, _≤_, _<_}
-use native.Mathlib.Nat.{zero-add, not-suc-le-zero}
+use native.Mathlib.Nat.{not-suc-le-zero}
 use native.Mathlib.Omega.{arith}
 use mathlib.Core.Path.{_≡_, refl, sym, ap, ap₂, _∙_}
 use mathlib.Core.Logic.{_≢_}
 use mathlib.Core.List.{List, [], _∷_, _++_, map, map-map, append-nil, flatMap}
 use mathlib.Core.Bool.{Bool, true, false, not}
+use borrow.Author.Tests.{eq-eqb, ne-eqb}
 use lib.ListN.{set}
 use lib.Dec.{eqb}
-use Rattle.lists.specs.Sums.{bit, keep, keepIf, sum, All, allNil, allCons}
+use Rattle.lists.specs.Sums.{bit, keep, keepIf, sum}
 use Rattle.lists.specs.Ranges.{range}
-use Rattle.lists.proofs.Sums.{sum-append, All-imp, All-every}
-use Rattle.lists.proofs.Keep.{keep-all, flatMap-nothing}
-use Rattle.lists.proofs.Flat.{keep-map, flatMap-append}
+use Rattle.lists.proofs.Sums.{sum-append}
+use Rattle.lists.proofs.Each.{All-imp, All-every}
+use Rattle.lists.proofs.Keep.{keep-all, keep-map, keep-append, keep-nothing, keep-flatMap}
+use Rattle.lists.proofs.Joined.{flatMap-nothing, flatMap-append}
+use Rattle.lists.proofs.Mapped.{map-append}
+use Rattle.lists.proofs.Ranges.{range-around, All-from}
 use Rattle.even_places.specs.Sets.{has, ones, sets, allSets, alike}
-use Rattle.even_places.proofs.SetLaws.{keep-append, keep-nothing, keep-flatMap, map-append}
+use Rattle.even_places.proofs.SetLaws.{alike-self}
 use Rattle.even_places.proofs.Counts.{sets-fit, sets-zero, has-none}
-use Rattle.even_places.proofs.Order.{range-append}
-use borrow.Author.Tests.{eq-eqb, ne-eqb}
 use Rattle.even_places.proofs.Closed.{before, beforeIf}
 
 -- ---- The sets with k, without it
@@ -94,9 +96,9 @@ pub of-block : (K b : ℕ) → b < K → keep (λ A. eqb (suc b) (ones A)) (allS
 unfolding allSets flatMap range
 of-block K b h =
     keep-flatMap t (λ j. sets K (suc j)) (range 0 K)
-    ∙ ap (flatMap g) whole
+    ∙ ap (flatMap g) (range-around K b h)
     ∙ flatMap-append g (range 0 b) (b ∷ range (suc b) (K - suc b))
-    ∙ rw (flatMap-nothing g (low 0 b (λ i l e. absurd (omega arith))), flatMap-nothing g (low (suc b) (K - suc b) (λ i l e. absurd (omega arith))), append-nil (g b))
+    ∙ rw (flatMap-nothing g (All-from 0 b (λ j l u. other j (λ e. omega arith))), flatMap-nothing g (All-from (suc b) (K - suc b) (λ j l u. other j (λ e. omega arith))), append-nil (g b))
     (keep-all t (All-imp (λ A f. ap (eqb (suc b)) (f .1) ∙ eq-eqb (suc b) (suc b) refl) (sets-fit K (suc b))))
   where
     t : List Bool → Bool
@@ -108,22 +110,7 @@ of-block K b h =
     other : (j : ℕ) → j ≢ b → g j ≡ []
     other j d = keep-nothing t (All-imp (λ A f. ap (eqb (suc b)) (f .1) ∙ ne-eqb (suc b) (suc j) (λ e. d (omega arith))) (sets-fit K (suc j)))
 
-    low : (a n : ℕ) → ((i : ℕ) → i < n → a + i ≢ b) → All (λ j. g j ≡ []) (range a n)
-    low a zero d = allNil
-    low a (suc n) d = allCons {x = a} (other a (λ e. d 0 (omega arith) (omega arith))) (low (suc a) n (λ i l e. d (suc i) (omega arith) (omega arith)))
-
-    whole : range 0 K ≡ range 0 b ++ (b ∷ range (suc b) (K - suc b))
-    whole =
-        ap (range 0) (let e : K ≡ b + suc (K - suc b) = omega arith in e)
-        ∙ sym (range-append 0 b (suc (K - suc b))) ∙ ap (λ s. range 0 b ++ range s (suc (K - suc b))) (zero-add b)
-
 -- ---- What stands before a set
-
-alike-self : (A : List Bool) → alike A A ≡ true
-unfolding alike
-alike-self [] = refl
-alike-self (true ∷ A) = alike-self A
-alike-self (false ∷ A) = alike-self A
 
 pub before-seam : (A : List Bool) (X Y : List (List Bool)) → sum (λ B. bit (alike A B)) (X ++ A ∷ Y) ≤ 1 → before A (X ++ A ∷ Y) ≡ X
 unfolding before beforeIf sum bit

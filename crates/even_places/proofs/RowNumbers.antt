@@ -1,67 +1,24 @@
 -- A query's rows by their numbers: row i of set A is row `firstRow A (layout N K) + i` of each server's query.
-use Prim.Native.Nat.{ℕ, suc, _+_, _-_, _^_, _≤_, _<_}
+use Prim.Native.Nat.{ℕ, suc, _+_, _-_, _^_, _<_}
 use native.Mathlib.Nat.{one-le-pow}
 use native.Mathlib.Omega.{arith}
 use mathlib.Core.Path.{_≡_, refl, sym, ap, _∙_, fun-ext}
-use mathlib.Core.List.{List, [], _∷_, flatMap}
+use mathlib.Core.List.{List, [], flatMap}
 use mathlib.Core.Bool.{Bool, true, false, true≢false, false≢true}
 use mathlib.Core.Option.{Option, none, some}
-use lib.ListN.{length, getD, replicate, getD-replicate, List·getD-map}
-use Rattle.lists.specs.Any.{Any}
+use lib.ListN.{length, getD, getD-replicate, List·getD-map}
 use Rattle.lists.specs.Ranges.{range}
-use Rattle.lists.specs.Sums.{bit, sum, All}
-use Rattle.lists.proofs.Any.{Any-imp, Any-sum, Any-flatMap, Any-range}
-use Rattle.lists.proofs.Flat.{flatMap-flatMap}
-use Rattle.lists.proofs.Kept.{flatMap-all}
-use Rattle.lists.proofs.Sums.{All-imp, All-flatMap, All-every}
-use Rattle.even_places.specs.Sets.{has, ones, sets, allSets, alike}
+use Rattle.lists.specs.Sums.{bit, sum}
+use Rattle.lists.proofs.Joined.{flatMap-flatMap, flatMap-all}
+use Rattle.lists.proofs.Each.{All-imp}
+use Rattle.even_places.specs.Sets.{has, ones, sets, allSets}
 use Rattle.even_places.specs.Rule.{Row, isSome, same, ofSet, bySet, block, rows, layout, firstRow}
+use Rattle.even_places.proofs.AllSets.{IsSet, all-sets, set-stands, layout-by-set}
 use Rattle.even_places.proofs.SetRuns.{Numbered, numbered}
-use Rattle.even_places.proofs.SetLaws.{setOf, setOf-has, alike-eq, alike-one, keep-sets}
+use Rattle.even_places.proofs.SetLaws.{setOf, setOf-has, keep-sets}
 use Rattle.even_places.proofs.Counts.{sets-fit}
 use Rattle.even_places.proofs.Joined.{group-size}
 use Rattle.even_places.proofs.Positions.{group-length}
-
--- ---- The sets of a query
-
--- a set of K messages, not empty: one of those that a query goes by
-pub record Good (K : ℕ) (A : List Bool) : Type 0 where
-  pub long : length A ≡ K
-  pub some-ones : 0 < ones A
-
-pub allSets-good : (K : ℕ) → All (Good K) (allSets K)
-unfolding allSets
-allSets-good K =
-    All-flatMap (λ b. sets K (suc b))
-    (All-every (λ b. All-imp (λ A h. record { long = h .0; some-ones = omega (arith, h .1) }) (sets-fit K (suc b))) (range 0 K))
-
-ones-most : (A : List Bool) → ones A ≤ length A
-unfolding ones sum bit
-ones-most [] = omega arith
-ones-most (true ∷ A) = omega (arith, ones-most A)
-ones-most (false ∷ A) = omega (arith, ones-most A)
-
-alike-same : (A B : List Bool) → 0 < bit (alike A B) → A ≡ B
-unfolding bit
-alike-same A B h = go (alike A B) refl h
-  where
-    go : (t : Bool) → alike A B ≡ t → 0 < bit t → A ≡ B
-    go true e l = alike-eq A B e
-    go false e l = absurd (let w : ⊥ = omega arith in w)
-
-good-stands : (K : ℕ) (A : List Bool) → Good K A → Any (λ B. A ≡ B) (allSets K)
-unfolding allSets
-good-stands K A good = Any-flatMap (λ b. sets K (suc b)) (Any-range K (ones A - 1) (omega (arith, ones-most A, good .long, good .some-ones)) here)
-  where
-    one-less : ones A ≡ suc (ones A - 1)
-    one-less = omega (arith, good .some-ones)
-
-    here : Any (λ B. A ≡ B) (sets K (suc (ones A - 1)))
-    here =
-        Any-imp (alike-same A)
-        (Any-sum (λ B. bit (alike A B)) (sets K (suc (ones A - 1))) (omega (arith, alike-one A K (suc (ones A - 1)) (good .long) one-less)))
-
--- ---- The rows of a query
 
 module _ (N K k : ℕ) where
   -- server n's rows of set A
@@ -78,25 +35,13 @@ module _ (N K k : ℕ) where
       here : (b : ℕ) (A : List Bool) → (length A ≡ K) × (ones A ≡ suc b) → ofSet A (block N K k b n) ≡ setRows n A
       here b A h = ap (λ j. ofSet A (block N K k j n)) (let e : b ≡ ones A - 1 = omega (arith, h .1) in e)
 
-pub layout-by-set : (N K : ℕ) → layout N K ≡ flatMap (λ A. replicate ((N - 1) ^ (ones A - 1)) A) (allSets K)
-unfolding layout allSets
-layout-by-set N K =
-    ap (λ g. flatMap g (range 0 K)) (fun-ext (λ b. flatMap-all (replicate ((N - 1) ^ b)) run (All-imp (here b) (sets-fit K (suc b)))))
-    ∙ sym (flatMap-flatMap run (λ b. sets K (suc b)) (range 0 K))
-  where
-    run : List Bool → List (List Bool)
-    run A = replicate ((N - 1) ^ (ones A - 1)) A
-
-    here : (b : ℕ) (A : List Bool) → (length A ≡ K) × (ones A ≡ suc b) → replicate ((N - 1) ^ b) A ≡ run A
-    here b A h = ap (λ j. replicate ((N - 1) ^ j) A) (let e : b ≡ ones A - 1 = omega (arith, h .1) in e)
-
 module _ (N K k : ℕ) (wide : 1 < N) (known : k < K) (n : ℕ) (l : n < N) where
-  pub setRows-length : (A : List Bool) → Good K A → length (setRows N K k n A) ≡ (N - 1) ^ (ones A - 1)
+  pub setRows-length : (A : List Bool) → IsSet K A → length (setRows N K k n A) ≡ (N - 1) ^ (ones A - 1)
   unfolding setRows
-  setRows-length A good = group-length N K k wide known (ones A - 1) n A l (good .long) (omega (arith, good .some-ones))
+  setRows-length A good = group-length N K k wide known (ones A - 1) n A l (good .long) (omega (arith, good .some))
 
   -- row i of set A in the whole query
-  pub row-number : (A : List Bool) (i : ℕ) → Good K A → i < (N - 1) ^ (ones A - 1)
+  pub row-number : (A : List Bool) (i : ℕ) → IsSet K A → i < (N - 1) ^ (ones A - 1)
       → (firstRow A (layout N K) + i < length (rows N K k n)) × (getD (rows N K k n) (firstRow A (layout N K) + i) [] ≡ getD (setRows N K k n A) i [])
   row-number A i good h = rw (layout-by-set N K, rows-by-set N K k n) (r .number-below, r .number-row)
     where
@@ -104,24 +49,24 @@ module _ (N K k : ℕ) (wide : 1 < N) (known : k < K) (n : ℕ) (l : n < N) wher
       q B = (N - 1) ^ (ones B - 1)
 
       r : Numbered q (setRows N K k n) [] (allSets K) A i
-      r = numbered q (setRows N K k n) [] A i h (All-imp (λ B b. (one-le-pow (ones B - 1) (N - 1) (omega arith), setRows-length B b)) (allSets-good K)) (good-stands K A good)
+      r = numbered q (setRows N K k n) [] A i h (All-imp (λ B b. (one-le-pow (ones B - 1) (N - 1) (omega arith), setRows-length B b)) (all-sets K)) (set-stands K A good)
 
   -- its set is A
-  pub row-set : (A : List Bool) (i : ℕ) → Good K A → i < (N - 1) ^ (ones A - 1) → setOf (getD (setRows N K k n A) i []) ≡ A
+  pub row-set : (A : List Bool) (i : ℕ) → IsSet K A → i < (N - 1) ^ (ones A - 1) → setOf (getD (setRows N K k n A) i []) ≡ A
   unfolding setRows setOf
   row-set A i good h =
       sym (List·getD-map setOf (ofSet A R) i [])
       ∙ ap (λ (L : List (List Bool)). getD L i []) (keep-sets A R)
-      ∙ getD-replicate (sum (λ r. bit (same A r)) R) i A [] (omega (arith, group-size N K k wide known (ones A - 1) n A l (good .long) (omega (arith, good .some-ones))))
+      ∙ getD-replicate (sum (λ r. bit (same A r)) R) i A [] (omega (arith, group-size N K k wide known (ones A - 1) n A l (good .long) (omega (arith, good .some))))
     where
       R : List Row
       R = block N K k (ones A - 1) n
 
-  row-has : (A : List Bool) (i p : ℕ) → Good K A → i < (N - 1) ^ (ones A - 1) → isSome (getD (getD (setRows N K k n A) i []) p none) ≡ has p A
+  row-has : (A : List Bool) (i p : ℕ) → IsSet K A → i < (N - 1) ^ (ones A - 1) → isSome (getD (getD (setRows N K k n A) i []) p none) ≡ has p A
   row-has A i p good h = sym (setOf-has (getD (setRows N K k n A) i []) p) ∙ ap (has p) (row-set A i good h)
 
   -- so it has a place of p if A has p, and else none
-  pub row-some : (A : List Bool) (i p : ℕ) → Good K A → i < (N - 1) ^ (ones A - 1) → has p A ≡ true → (x : ℕ) × (getD (getD (setRows N K k n A) i []) p none ≡ some x)
+  pub row-some : (A : List Bool) (i p : ℕ) → IsSet K A → i < (N - 1) ^ (ones A - 1) → has p A ≡ true → (x : ℕ) × (getD (getD (setRows N K k n A) i []) p none ≡ some x)
   unfolding isSome
   row-some A i p good h e = go (getD (getD (setRows N K k n A) i []) p none) (row-has A i p good h ∙ e)
     where
@@ -129,7 +74,7 @@ module _ (N K k : ℕ) (wide : 1 < N) (known : k < K) (n : ℕ) (l : n < N) wher
       go none f = absurd (false≢true f)
       go (some x) f = (x, refl)
 
-  pub row-none : (A : List Bool) (i p : ℕ) → Good K A → i < (N - 1) ^ (ones A - 1) → has p A ≡ false → getD (getD (setRows N K k n A) i []) p none ≡ none
+  pub row-none : (A : List Bool) (i p : ℕ) → IsSet K A → i < (N - 1) ^ (ones A - 1) → has p A ≡ false → getD (getD (setRows N K k n A) i []) p none ≡ none
   unfolding isSome
   row-none A i p good h e = go (getD (getD (setRows N K k n A) i []) p none) (row-has A i p good h ∙ e)
     where
@@ -140,6 +85,6 @@ module _ (N K k : ℕ) (wide : 1 < N) (known : k < K) (n : ℕ) (l : n < N) wher
 -- row i of set A at server n, where A has k
 pub record WantedRow (N K k n : ℕ) (A : List Bool) (i : ℕ) : Type 0 where
   pub server-below : n < N
-  pub set-good : Good K A
+  pub set-good : IsSet K A
   pub in-set : has k A ≡ true
   pub row-below : i < (N - 1) ^ (ones A - 1)

@@ -1,23 +1,22 @@
--- Laws of rows: what numbering, joining and sorting by set do to the number of times that place v of message p stands in a list of rows.
+-- Laws of rows: what numbering and joining do to the number of times that place v of message p stands in a list of rows.
 use Prim.Native.Nat.{ℕ, zero, suc, _+_, _*_, _≤_, _<_}
-use native.Mathlib.Nat.{zero-add, add-zero, zero-mul, one-mul, mul-one, mul-comm, add-comm, add-mul, not-suc-le-zero}
+use native.Mathlib.Nat.{zero-add, add-zero, zero-mul, one-mul, add-mul, not-suc-le-zero}
 use native.Mathlib.Omega.{arith}
-use mathlib.Core.Path.{_≡_, refl, sym, ap, _∙_, subst}
+use mathlib.Core.Path.{_≡_, refl, sym, ap, _∙_}
 use mathlib.Core.List.{List, [], _∷_}
 use mathlib.Core.Bool.{Bool, true, false, not}
 use mathlib.Core.Option.{Option, none, some}
+use borrow.Author.Tests.{lt-ltb, le-ltb, eqb-true}
 use lib.ListN.{length, getD, set, length-set}
 use lib.Seq.{getD-set-same}
-use lib.Arith.{le→nltb}
-use native.Mathlib.Numerals.{add-one}
-use lib.Dec.{lt→ltb, eqb, ltb, T, eqb→eq, eqb·suc-suc, eqb·suc-zero, eqb·zero-suc, leb·suc-suc, leb·zero, leb·suc-zero}
-use Rattle.lists.specs.Sums.{bit, keep, sum, All, allNil, allCons}
+use lib.Dec.{eqb, ltb}
+use Rattle.lists.specs.Sums.{bit, sum, All, allNil, allCons}
 use Rattle.lists.specs.Ranges.{range}
-use Rattle.even_places.specs.Sets.{has, sets, with, ones}
+use Rattle.lists.proofs.Sums.{sum-keep, sum-next}
+use Rattle.lists.proofs.Bits.{bit-step}
+use Rattle.even_places.specs.Sets.{has, with, ones}
 use Rattle.even_places.specs.Process.{afters}
-use Rattle.even_places.specs.Rule.{Row, isSome, same, give, next, after, number, join, bySet, ofSet, others}
-use Rattle.lists.proofs.Sums.{sum-mul, sum-ext, sum-all, sum-zero, sum-flatMap, sum-keep, sum-swap, sum-next, All-imp}
-use Rattle.even_places.proofs.Choose.{sets-none, sets-some}
+use Rattle.even_places.specs.Rule.{Row, isSome, give, next, after, number, join, others}
 
 -- 1 if v < n, else 0
 unfoldable pub below : ℕ → ℕ → ℕ
@@ -34,32 +33,21 @@ hit p v r = is v (getD r p none)
 unfoldable pub gives : ℕ → Row → ℕ
 gives p r = bit (isSome (getD r p none))
 
-pub below-step : (v x : ℕ) → bit (eqb x v) + below v x ≡ below v (suc x)
-unfolding below bit
-below-step zero zero = refl
-below-step zero (suc x) = rw (eqb·suc-zero x, leb·suc-suc 0 x, leb·zero x, leb·suc-suc 0 (suc x), leb·zero (suc x))
-below-step (suc v) zero = rw (eqb·zero-suc v, leb·suc-zero (suc v), leb·suc-suc (suc v) 0, leb·suc-zero v)
-below-step (suc v) (suc x) = rw (eqb·suc-suc x v, leb·suc-suc (suc v) x, leb·suc-suc (suc v) (suc x)) (below-step v x)
+below-step : (v x : ℕ) → bit (eqb x v) + below v x ≡ below v (suc x)
+unfolding below
+below-step v x = bit-step v x
 
 pub below-zero : (v : ℕ) → below v 0 ≡ 0
 unfolding below bit
-below-zero v = rw (leb·suc-zero v)
+below-zero v = ap bit (le-ltb v 0 (omega arith))
 
 pub below-lt : (v n : ℕ) → v < n → below v n ≡ 1
 unfolding below bit
-below-lt v n h = go (ltb v n) (lt→ltb v n h)
-  where
-    go : (t : Bool) → T t → bit t ≡ 1
-    go true h = refl
-    go false h = absurd h
+below-lt v n h = ap bit (lt-ltb v n h)
 
 pub below-ge : (v n : ℕ) → n ≤ v → below v n ≡ 0
 unfolding below bit
-below-ge v n h = go (ltb v n) (le→nltb v n h)
-  where
-    go : (t : Bool) → T (not t) → bit t ≡ 0
-    go true h = absurd h
-    go false h = refl
+below-ge v n h = ap bit (le-ltb v n h)
 
 unfoldable pub somes : Row → ℕ
 somes r = sum (λ x. bit (isSome x)) r
@@ -212,42 +200,13 @@ join-fits K k b x h (allCons {x = r} f a) =
     (record { long = length-set r k (some x) ∙ f .long; many = somes-set r k x (omega arith) (f .lack) ∙ ap suc (f .many) })
     (join-fits K k b (suc x) h a)
 
--- a row's set stands once among the sets of its size
-same-once : (r : Row) → sum (λ A. bit (same A r)) (sets (length r) (somes r)) ≡ 1
-unfolding somes sum isSome bit sets same
-same-once [] = refl
-same-once (none ∷ r) = rw (zero-add (somes r)) (go (somes r) (same-once r))
-  where
-    go : (b : ℕ) → sum (λ A. bit (same A r)) (sets (length r) b) ≡ 1 → sum (λ A. bit (same A (none ∷ r))) (sets (suc (length r)) b) ≡ 1
-    go zero e = sets-none (λ A. bit (same A (none ∷ r))) (length r) ∙ e
-    go (suc b) e = sets-some (λ A. bit (same A (none ∷ r))) (length r) b ∙ omega (arith, e, sum-zero (sets (length r) b))
-same-once (some x ∷ r) =
-    ap (λ b. sum (λ A. bit (same A (some x ∷ r))) (sets (suc (length r)) b)) (add-comm 1 (somes r) ∙ add-one (somes r))
-    ∙ sets-some (λ A. bit (same A (some x ∷ r))) (length r) (somes r)
-    ∙ omega (arith, same-once r, sum-zero (sets (length r) (suc (somes r))))
-
-pub bySet-sum : (h : Row → ℕ) (K b : ℕ) {rs : List Row} → All (Fits K b) rs → sum h (bySet (sets K b) rs) ≡ sum h rs
-unfolding bySet ofSet
-bySet-sum h K b {rs} a =
-    sum-flatMap h (λ A. keep (same A) rs) (sets K b)
-    ∙ sum-ext (λ A. sum h (keep (same A) rs)) (λ A. sum (λ r. bit (same A r) * h r) rs) (λ A. sum-keep h (same A) rs) (sets K b)
-    ∙ sum-swap (λ A r. bit (same A r) * h r) (sets K b) rs
-    ∙ sum-all (λ r. sum (λ A. bit (same A r) * h r) (sets K b)) h (All-imp once a)
-  where
-    once : (r : Row) → Fits K b r → sum (λ A. bit (same A r) * h r) (sets K b) ≡ h r
-    once r f =
-        sum-ext (λ A. bit (same A r) * h r) (λ A. h r * bit (same A r)) (λ A. mul-comm (bit (same A r)) (h r)) (sets K b)
-        ∙ sum-mul (h r) (λ A. bit (same A r)) (sets K b)
-        ∙ ap (λ s. h r * s) (rw (← f .long, ← f .many) (same-once r))
-        ∙ mul-one (h r)
-
 -- the others of n, and n, are all
 pub others-sum : (h : ℕ → ℕ) (N n : ℕ) → n < N → sum h (others N n) + h n ≡ sum h (range 0 N)
 unfolding others bit sum range
 others-sum h N n l = omega (arith, sum-keep h (λ m. not (eqb m n)) (range 0 N), go N, ap (λ s. s * h n) (below-lt n N l), one-mul (h n))
   where
     one : (m : ℕ) (t : Bool) → eqb m n ≡ t → bit (not t) * h m + bit t * h n ≡ h m
-    one m true e = omega (arith, zero-mul (h m), one-mul (h n), ap h (eqb→eq m n (subst T (sym e) tt)))
+    one m true e = omega (arith, zero-mul (h m), one-mul (h n), ap h (eqb-true m n e))
     one m false e = omega (arith, zero-mul (h n), one-mul (h m))
 
     go : (M : ℕ) → sum (λ m. bit (not (eqb m n)) * h m) (range 0 M) + below n M * h n ≡ sum h (range 0 M)

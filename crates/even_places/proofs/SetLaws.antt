@@ -10,14 +10,13 @@ use mathlib.Core.List.{List, [], _∷_, _++_, map}
 use mathlib.Core.Bool.{Bool, true, false, not, Bool·beq, _&&_, false≢true}
 use mathlib.Core.Option.{none, some}
 use lib.ListN.{length, getD, set, replicate}
-use lib.Seq.{getD-set-same, set-set, set-getD}
+use lib.Seq.{getD-set-same, getD-set-other, set-set, set-getD}
 use Rattle.lists.specs.Sums.{bit, keep, keepIf, sum, All, allNil, allCons}
 use Rattle.lists.proofs.Sums.{sum-zero}
 use Rattle.even_places.specs.Sets.{has, sets, ones, alike}
-use Rattle.even_places.specs.Rule.{Row, isSome, same, give, next, after, number, join, ofSet}
+use Rattle.even_places.specs.Rule.{Row, isSome, same, give, next, after, number, join, ofSet, cells}
 use Rattle.even_places.proofs.Choose.{sets-none, sets-some}
 use Rattle.even_places.proofs.Rows.{after-length, Lacks}
-pub use Rattle.lists.proofs.Kept.{keep-append, keep-nothing, keep-flatMap, map-append, flatMap-all, map-flatMap}
 
 -- a row's set
 unfoldable pub setOf : Row → List Bool
@@ -40,8 +39,14 @@ alike-eq (true ∷ A) (false ∷ B) e = absurd (false≢true e)
 alike-eq (false ∷ A) (true ∷ B) e = absurd (false≢true e)
 alike-eq (false ∷ A) (false ∷ B) e = ap (λ C. false ∷ C) (alike-eq A B e)
 
+pub alike-self : (A : List Bool) → alike A A ≡ true
+unfolding alike
+alike-self [] = refl
+alike-self (true ∷ A) = alike-self A
+alike-self (false ∷ A) = alike-self A
+
 -- a set stands once among the sets of its size
-pub alike-once : (A : List Bool) → sum (λ B. bit (alike A B)) (sets (length A) (ones A)) ≡ 1
+alike-once : (A : List Bool) → sum (λ B. bit (alike A B)) (sets (length A) (ones A)) ≡ 1
 unfolding ones sum bit sets alike
 alike-once [] = refl
 alike-once (false ∷ A) = rw (zero-add (ones A)) (go (ones A) (alike-once A))
@@ -88,6 +93,18 @@ ones-drop (true ∷ A) zero e = omega arith
 ones-drop (false ∷ A) zero e = absurd (false≢true e)
 ones-drop (a ∷ A) (suc k) e = omega (arith, ones-drop A k e)
 
+-- a set of one message has no other
+has-empty : (A : List Bool) (p : ℕ) → ones A ≡ 0 → has p A ≡ false
+unfolding ones has sum bit
+has-empty [] p e = refl
+has-empty (true ∷ A) p e = absurd (omega arith)
+has-empty (false ∷ A) zero e = refl
+has-empty (false ∷ A) (suc p) e = has-empty A p (omega arith)
+
+pub has-lone : (A : List Bool) (k p : ℕ) → ones A ≡ 1 → has k A ≡ true → p ≢ k → has p A ≡ false
+unfolding has
+has-lone A k p many e d = sym (getD-set-other A k p false false d) ∙ has-empty (set A k false) p (omega (arith, ones-drop A k e))
+
 pub setOf-next : (A : List Bool) (c : List ℕ) → length A ≡ length c → setOf (next A c) ≡ A
 unfolding setOf next isSome give
 setOf-next [] c e = refl
@@ -107,6 +124,13 @@ unfolding setOf isSome has
 setOf-has [] k = refl
 setOf-has (y ∷ r) zero = refl
 setOf-has (y ∷ r) (suc k) = setOf-has r k
+
+-- a row has a cell for each message of its set
+pub cells-length : (q : ℕ) (r : Row) → length (cells q r) ≡ ones (setOf r)
+unfolding cells setOf isSome ones sum bit
+cells-length q [] = refl
+cells-length q (none ∷ r) = omega (arith, cells-length (suc q) r)
+cells-length q (some x ∷ r) = omega (arith, cells-length (suc q) r)
 
 pub number-sets : (f : List Bool → ℕ) (K : ℕ) (c : List ℕ) {L : List (List Bool)} → length c ≡ K → All (λ A. length A ≡ K) L → sum (λ r. f (setOf r)) (number c L) ≡ sum f L
 unfolding number sum
@@ -139,7 +163,7 @@ same-not A r k d = go (same A r) refl
     go true e = absurd (d (same-has A r k e))
     go false e = refl
 
-pub same-join : (A : List Bool) (r : Row) (k x : ℕ) → has k A ≡ true → getD r k none ≡ none → k < length r → same A (set r k (some x)) ≡ same (set A k false) r
+same-join : (A : List Bool) (r : Row) (k x : ℕ) → has k A ≡ true → getD r k none ≡ none → k < length r → same A (set r k (some x)) ≡ same (set A k false) r
 unfolding has same isSome
 same-join A [] k x e l h = absurd (not-suc-le-zero h)
 same-join [] (y ∷ r) k x e l h = absurd (false≢true e)

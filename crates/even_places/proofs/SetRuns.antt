@@ -3,7 +3,7 @@ use Prim.Native.Nat.{ℕ, zero, suc, _+_, _<_}
 use native.Mathlib.Nat.{zero-add, not-suc-le-zero}
 use native.Mathlib.Omega.{arith}
 use mathlib.Core.Path.{_≡_, refl, sym, ap, _∙_}
-use mathlib.Core.List.{List, [], _∷_, _++_, flatMap}
+use mathlib.Core.List.{List, _∷_, _++_, flatMap}
 use mathlib.Core.Bool.{Bool, true, false}
 use lib.ListN.{length, getD, replicate, length-append, List·getD-append}
 use lib.Seq.{getD-append-add}
@@ -11,13 +11,7 @@ use Rattle.lists.specs.Any.{Any, anyHere, anyLater}
 use Rattle.lists.specs.Sums.{All, allCons}
 use Rattle.even_places.specs.Sets.{alike}
 use Rattle.even_places.specs.Rule.{firstRow}
-use Rattle.even_places.proofs.SetLaws.{alike-eq}
-
-pub alike-self : (A : List Bool) → alike A A ≡ true
-unfolding alike
-alike-self [] = refl
-alike-self (true ∷ A) = alike-self A
-alike-self (false ∷ A) = alike-self A
+use Rattle.even_places.proofs.SetLaws.{alike-eq, alike-self}
 
 pub first-here : (A B : List Bool) (n : ℕ) (L : List (List Bool)) → 0 < n → alike A B ≡ true → firstRow A (replicate n B ++ L) ≡ 0
 unfolding firstRow

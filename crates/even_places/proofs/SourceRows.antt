@@ -13,22 +13,23 @@ use Rattle.even_places.specs.Sets.{has, ones}
 use Rattle.even_places.specs.Rule.{ofSet, block, others}
 use Rattle.even_places.proofs.SetLaws.{ones-drop}
 use Rattle.even_places.proofs.Positions.{others-below, others-length, joined-at}
-use Rattle.even_places.proofs.RowNumbers.{Good, setRows}
+use Rattle.even_places.proofs.RowNumbers.{setRows}
+use Rattle.even_places.proofs.AllSets.{IsSet}
 
 module _ (N K k : ℕ) where
   -- server m's row j of the set without k is server n's row i of set A without k
   pub record Source (n : ℕ) (A : List Bool) (i m j : ℕ) : Type 0 where
     pub server-below : m < N
-    pub set-good : Good K (set A k false)
+    pub set-good : IsSet K (set A k false)
     pub row-below : j < (N - 1) ^ (ones (set A k false) - 1)
     pub without : set (getD (setRows N K k n A) i []) k none ≡ getD (setRows N K k m (set A k false)) j []
 
-pub source-row : (N K k : ℕ) → 1 < N → k < K → (n : ℕ) → n < N → (A : List Bool) (i : ℕ) → Good K A → has k A ≡ true → 1 < ones A → i < (N - 1) ^ (ones A - 1)
+pub source-row : (N K k : ℕ) → 1 < N → k < K → (n : ℕ) → n < N → (A : List Bool) (i : ℕ) → IsSet K A → has k A ≡ true → 1 < ones A → i < (N - 1) ^ (ones A - 1)
     → Source N K k n A i (getD (others N n) (i / (N - 1) ^ (ones A - 2)) 0) (i % (N - 1) ^ (ones A - 2))
 unfolding setRows
 source-row N K k wide known n l A i good e many h = record {
-  server-below = All-get 0 (others-below N K k wide known n l) (i / q) (omega (arith, turn, others-length N n l));
-  set-good = record { long = length-set A k false ∙ good .long; some-ones = omega (arith, ones-drop A k e) };
+  server-below = All-get 0 (others-below N n) (i / q) (omega (arith, turn, others-length N n l));
+  set-good = record { long = length-set A k false ∙ good .long; some = omega (arith, ones-drop A k e) };
   row-below = rw less (mod-lt i some);
   without =
       ap (λ (b : ℕ). set (getD (ofSet A (block N K k b n)) i []) k none) (let s : ones A - 1 ≡ suc (ones A - 2) = omega arith in s)

@@ -5,28 +5,21 @@ use native.Mathlib.Nat.{mul-zero, not-suc-le-zero, pow-succ', eq-of-mul-eq-mul-l
 use native.Mathlib.Omega.{arith}
 use mathlib.Core.Path.{_≡_, refl, sym, ap, _∙_, subst}
 use mathlib.Core.Logic.{_≢_}
-use mathlib.Core.List.{List, [], _∷_, flatMap}
-use mathlib.Core.Bool.{Bool, true, false, not}
+use mathlib.Core.List.{List, [], flatMap}
+use mathlib.Core.Bool.{Bool, false, not}
 use mathlib.Core.Option.{none, some}
 use lib.ListN.{set, replicate, getD-replicate}
 use lib.Seq.{getD-set-other}
-use Rattle.lists.specs.Sums.{bit, keep, keepIf, sum}
+use Rattle.lists.specs.Sums.{bit, sum}
 use Rattle.lists.specs.Ranges.{range}
-use Rattle.lists.proofs.Sums.{sum-mul, sum-ext, sum-all, sum-zero, sum-flatMap, sum-swap, sum-next, All-imp}
+use Rattle.lists.proofs.Sums.{sum-mul, sum-ext, sum-all, sum-zero, sum-flatMap, sum-swap, sum-next, sum-same, sum-none}
+use Rattle.lists.proofs.Each.{All-imp}
+use Rattle.lists.proofs.Keep.{keep-nothing}
 use Rattle.even_places.specs.Sets.{has, sets, with}
 use Rattle.even_places.specs.Rule.{Row, isSome, number, others, used, sideSets, sideRows, sources, joins, wantedRows, rows}
 use Rattle.even_places.proofs.Choose.{gen, tail, gen-tail, gen-not, gen-both, full-has}
 use Rattle.even_places.proofs.Rows.{below, hit, is, gives, below-zero, number-hit, number-gives, join-sum, join-hit, join-gives, others-sum}
-use Rattle.even_places.proofs.Counts.{sets-zero, has-none, sum-const, used-next, used-all, used-over, up, fresh, starts, starts-length, starts-at, side-is, sideSets-lack, side-lacks, rows-sum, sideSets-sum, joins-is, sources-length, sources-long}
-
-keep-none : (t : List Bool → Bool) (L : List (List Bool)) → sum (λ A. bit (t A)) L ≡ 0 → keep t L ≡ []
-unfolding keep keepIf sum bit
-keep-none t [] e = refl
-keep-none t (A ∷ L) e = go (t A) e (keep-none t L (omega arith))
-  where
-    go : (b : Bool) → bit b + sum (λ B. bit (t B)) L ≡ 0 → keep t L ≡ [] → keepIf b A (keep t L) ≡ []
-    go true d r = absurd (omega arith)
-    go false d r = r
+use Rattle.even_places.proofs.Counts.{sets-zero, has-none, used-next, used-all, used-over, up, fresh, starts, starts-length, starts-at, side-is, sideSets-lack, side-lacks, rows-sum, sideSets-sum, joins-is, sources-length, sources-long}
 
 sum-part : (f : ℕ → ℕ) (M n : ℕ) → n < M → f n ≤ sum f (range 0 M)
 sum-part f M n l = omega (arith, others-sum f M n l)
@@ -58,7 +51,7 @@ module _ (N K k : ℕ) (wide : 1 < N) (known : k < K) where
   unfolding sideSets flatMap
   last-sets J e =
       ap (flatMap (replicate ((N - 1) ^ J)))
-      (keep-none (λ A. not (has k A)) (sets K (suc J)) (ap (λ j. sum (λ A. bit (not (has k A))) (sets K j)) e ∙ full-has K k known))
+      (keep-nothing (λ A. not (has k A)) (sum-none (λ A. not (has k A)) (sets K (suc J)) (ap (λ j. sum (λ A. bit (not (has k A))) (sets K j)) e ∙ full-has K k known)))
 
   last-sum : (h : Row → ℕ) (n : ℕ) → sum h (sources N K k K n) ≡ 0
   unfolding sources number sum
@@ -164,7 +157,7 @@ module _ (N K k : ℕ) (wide : 1 < N) (known : k < K) where
   unfolding gives isSome bit
   other-many p n hp e l =
       assemble (gives p) (λ r x. ap (λ o. bit (isSome o)) (getD-set-other r k p (some x) none e)) (ap (λ o. bit (isSome o)) (getD-replicate K p none none hp)) n l
-      ∙ sum-ext (λ b. sum (λ m. sum (gives p) (sideRows N K k b m)) (range 0 N)) (λ b. N * fresh N K k wide known p b) (λ b. sum-ext (λ m. sum (gives p) (sideRows N K k b m)) (λ m. fresh N K k wide known p b) (side-gives p b) (range 0 N) ∙ sum-const (fresh N K k wide known p b) N) (range 0 K)
+      ∙ sum-ext (λ b. sum (λ m. sum (gives p) (sideRows N K k b m)) (range 0 N)) (λ b. N * fresh N K k wide known p b) (λ b. sum-ext (λ m. sum (gives p) (sideRows N K k b m)) (λ m. fresh N K k wide known p b) (side-gives p b) (range 0 N) ∙ sum-same (fresh N K k wide known p b) N) (range 0 K)
       ∙ sum-mul N (fresh N K k wide known p) (range 0 K)
       ∙ other-total p hp e
 

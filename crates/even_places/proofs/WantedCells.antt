@@ -9,25 +9,17 @@ use mathlib.Core.Bool.{Bool, true, false, false≢true}
 use mathlib.Core.Option.{none, some}
 use lib.ListN.{length, getD, take}
 use Rattle.lists.specs.Sums.{bit, sum, All}
-use Rattle.lists.proofs.Each.{All-get}
-use Rattle.lists.proofs.Flat.{flatMap-flatMap}
-use Rattle.lists.proofs.FlatAt.{PlacedAt, placed-at, flatMap-size}
-use Rattle.lists.proofs.Sums.{All-imp, All-every, All-keep}
+use Rattle.lists.proofs.Each.{All-get, All-imp, All-every, All-keep}
+use Rattle.lists.proofs.Joined.{flatMap-flatMap, PlacedAt, placed-at, flatMap-size, flatMap-at}
 use Rattle.even_places.specs.Sets.{has, ones, allSets}
 use Rattle.even_places.specs.Rule.{Row, isSome, same, ofSet, block, rows, cells, queryCells, layout, firstRow}
-use Rattle.even_places.proofs.SetLaws.{setOf, same-alike, alike-eq}
-use Rattle.even_places.proofs.Positions.{flatMap-at}
-use Rattle.even_places.proofs.RowNumbers.{Good, allSets-good, setRows, rows-by-set, setRows-length, row-number, row-set}
+use Rattle.even_places.proofs.SetLaws.{setOf, same-alike, alike-eq, cells-length}
+use Rattle.even_places.proofs.RowNumbers.{setRows, rows-by-set, setRows-length, row-number, row-set}
+use Rattle.even_places.proofs.AllSets.{IsSet, all-sets}
 
 -- ---- In one row
 
-cells-length : (q : ℕ) (r : Row) → length (cells q r) ≡ ones (setOf r)
-unfolding cells setOf isSome ones sum bit
-cells-length q [] = refl
-cells-length q (none ∷ r) = omega (arith, cells-length (suc q) r)
-cells-length q (some x ∷ r) = omega (arith, cells-length (suc q) r)
-
-pub ones-before : (A : List Bool) (p : ℕ) → has p A ≡ true → ones (take p A) < ones A
+ones-before : (A : List Bool) (p : ℕ) → has p A ≡ true → ones (take p A) < ones A
 unfolding ones sum bit has
 ones-before [] p e = absurd (false≢true e)
 ones-before (true ∷ A) zero e = omega arith
@@ -74,7 +66,7 @@ module _ (N K k : ℕ) (wide : 1 < N) (known : k < K) (n : ℕ) (l : n < N) wher
       All-imp (λ r h. cells-length 0 r ∙ ap ones (sym (alike-eq A (setOf r) (sym (same-alike A r) ∙ h .1))))
       (All-keep {P = λ (r : Row). r ≡ r} (same A) (All-every (λ (r : Row). refl) (block N K k (ones A - 1) n)))
 
-  set-cells : (A : List Bool) → Good K A → length (setCells A) ≡ cellsOf N A
+  set-cells : (A : List Bool) → IsSet K A → length (setCells A) ≡ cellsOf N A
   unfolding setCells cellsOf
   set-cells A good = flatMap-size (cells 0) (ones A) (row-cells A) ∙ ap (λ (m : ℕ). m * ones A) (setRows-length N K k wide known n l A good)
 
@@ -100,8 +92,8 @@ module _ (N K k : ℕ) (wide : 1 < N) (known : k < K) (n : ℕ) (l : n < N) wher
       A : List Bool
       A = getD (allSets K) j []
 
-      good : Good K A
-      good = All-get [] (allSets-good K) j hj
+      good : IsSet K A
+      good = All-get [] (all-sets K) j hj
 
       row : Row
       row = getD (setRows N K k n A) i []
@@ -113,7 +105,7 @@ module _ (N K k : ℕ) (wide : 1 < N) (known : k < K) (n : ℕ) (l : n < N) wher
       within = omega (arith, ones-before A k e, suc-mul i (ones A), mul-le-mul-right (ones A) hi)
 
       placed : PlacedAt setCells (cellsOf N) [] (0, 0) (allSets K) j (i * ones A + ones (take k A))
-      placed = placed-at setCells (cellsOf N) [] (0, 0) (All-imp set-cells (allSets-good K)) j (i * ones A + ones (take k A)) hj within
+      placed = placed-at setCells (cellsOf N) [] (0, 0) (All-imp set-cells (all-sets K)) j (i * ones A + ones (take k A)) hj within
 
       at-row : getD (queryCells N K k n) (sum (cellsOf N) (take j (allSets K)) + (i * ones A + ones (take k A))) (0, 0)
           ≡ getD (cells 0 row) (ones (take k (setOf row))) (0, 0)

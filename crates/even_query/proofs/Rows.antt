@@ -13,8 +13,8 @@ use lib.Seq.{drop-cons}
 use Rattle.lists.specs.Below.{Below}
 use Rattle.lists.specs.Parts.{cut, put}
 use Rattle.lists.specs.Ranges.{range}
-use Rattle.lists.proofs.Parts.{cut-length}
-use Rattle.lists.proofs.Reading.{below-front, below-back}
+use Rattle.lists.proofs.Cuts.{cut-length}
+use Rattle.lists.proofs.Below.{below-front, below-back}
 use Rattle.lists.proofs.Writing.{Pending, pending-part}
 use Rattle.even_places.specs.Sets.{ones, members, allSets}
 use Rattle.even_layout.specs.Layout.{Bounds, setIn, rowsOf}

@@ -1,37 +1,38 @@
 -- What the steps of a query rest on: a place read off the tables, a row's origin by its set's byte, and one row or set more.
 use Prim.Native.Nat.{ℕ, suc, _+_, _-_, _*_, _/_, _%_, _^_, _≤_, _<_}
-use native.Mathlib.Nat.{zero-add, one-mul, mul-le-mul, one-le-pow, pow-succ', div-lt-iff-lt-mul}
+use native.Mathlib.Nat.{one-mul, mul-le-mul, one-le-pow, pow-succ', div-lt-iff-lt-mul}
 use native.Mathlib.Omega.{arith}
-use mathlib.Core.Path.{_≡_, refl, sym, ap, ap₂, _∙_}
+use mathlib.Core.Path.{_≡_, sym, ap, ap₂, _∙_}
 use mathlib.Core.Bool.{Bool, true, false, cond, _&&_}
 use mathlib.Core.List.{List}
 use borrow.Author.Tests.{ltb-true}
 use lib.Arith.{digits-div, digits-mod}
 use lib.Count.{ones as count}
 use lib.Dec.{eqb, ltb}
-use lib.ListN.{length, getD, length-map}
-use Rattle.lists.specs.Ranges.{range}
+use lib.ListN.{length, getD}
 use Rattle.lists.specs.Sums.{bit}
-use Rattle.lists.proofs.Elements.{map-range-at}
+use Rattle.lists.proofs.Bits.{bit-test}
+use Rattle.lists.proofs.Both.{both-true}
+use Rattle.lists.proofs.Mapped.{mapped-length, mapped-at}
 use Rattle.even_places.specs.Sets.{has, ones}
 use Rattle.even_places.proofs.Bytes.{byte-has}
-use Rattle.even_places.proofs.Counts.{range-length}
+use Rattle.even_places.proofs.AllSets.{ones-most}
 use Rattle.even_layout.specs.Layout.{setIn}
 use Rattle.even_ranks.specs.Counts.{Stands, takers, taken, takenTable}
 use Rattle.even_ranks.specs.Walk.{placeIn, plain, joined, isJoined, originOf}
-use Rattle.even_ranks.proofs.Counters.{ones-most}
-use Rattle.even_ranks.proofs.Steps.{stands-count, setIn-length}
+use Rattle.even_layout.proofs.Firsts.{setIn-length}
+use Rattle.even_ranks.proofs.Steps.{stands-count}
 use Rattle.even_query.specs.Query.{Tables, Within}
 
 table-at : (N k b p : ℕ) (totals : List ℕ) → b < 8 → p < 8 → getD (takenTable N k totals) (b * 8 + p) 0 ≡ taken N k totals b p
 unfolding takenTable
 table-at N k b p totals hb hp =
-    map-range-at (λ j. taken N k totals (j / 8) (j % 8)) 0 64 (b * 8 + p) (omega arith)
-    ∙ rw (zero-add (b * 8 + p), digits-div b {m = 8} hp, digits-mod b {m = 8} hp)
+    mapped-at (λ j. taken N k totals (j / 8) (j % 8)) 0 64 (b * 8 + p) (omega arith)
+    ∙ rw (digits-div b {m = 8} hp, digits-mod b {m = 8} hp)
 
 pub table-length : (N k : ℕ) (totals : List ℕ) → length (takenTable N k totals) ≡ 64
 unfolding takenTable
-table-length N k totals = length-map (range 0 64) (λ j. taken N k totals (j / 8) (j % 8)) ∙ range-length 0 64
+table-length N k totals = mapped-length (λ j. taken N k totals (j / 8) (j % 8)) 0 64
 
 -- the place that the code computes from the tables
 pub place-read : (N k b p rows turn rank number : ℕ) (totals table : List ℕ) → Tables N k totals table → b < 8 → p < 8
@@ -72,25 +73,17 @@ rows-before N m i wide many h =
 
 -- ---- Origins by a set's byte
 
-both-right : (t u : Bool) → t && u ≡ true → u ≡ true
-both-right true u e = e
-both-right false u e = let z : _≡_ {A = ℕ} 0 1 = cc in absurd (let w : ⊥ = omega arith in w)
-
 -- joined rows have two messages at least
 pub joined-two : (t : Bool) (m : ℕ) → t && ltb 1 m ≡ true → 2 ≤ m
-joined-two t m e = ltb-true 1 m (both-right t (ltb 1 m) e)
+joined-two t m e = ltb-true 1 m (both-true t (ltb 1 m) e .1)
 
 module _ (K k byte : ℕ) (stands : Stands K byte) where
   joined-byte : eqb (byte / 2 ^ k % 2) 1 && ltb 1 (count byte) ≡ isJoined k (setIn K byte)
   unfolding isJoined bit
   joined-byte =
       ap₂ (λ (t : Bool) (m : ℕ). t && ltb 1 m)
-      (ap (λ (x : ℕ). eqb (x / 2 ^ k % 2) 1) (sym (stands .encoded)) ∙ ap (λ (x : ℕ). eqb x 1) (byte-has (setIn K byte) k) ∙ go (has k (setIn K byte)))
+      (ap (λ (x : ℕ). eqb (x / 2 ^ k % 2) 1) (sym (stands .encoded)) ∙ ap (λ (x : ℕ). eqb x 1) (byte-has (setIn K byte) k) ∙ bit-test (has k (setIn K byte)))
       (stands-count K byte stands)
-    where
-      go : (t : Bool) → eqb (bit t) 1 ≡ t
-      go true = refl
-      go false = refl
 
   pub origin-byte : (N server i : ℕ)
       → cond (eqb (byte / 2 ^ k % 2) 1 && ltb 1 (count byte)) (joined N server (count byte) i) (plain N server (count byte) i) ≡ originOf N k server (setIn K byte) i

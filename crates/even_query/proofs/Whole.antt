@@ -1,20 +1,18 @@
 -- The whole query: the places that are written are the rule's, and the key's entries for them are the query of the scheme.
 use Prim.Native.Nat.{ℕ, suc, _-_, _*_, _^_, _≤_, _<_}
 use native.Mathlib.Omega.{arith}
-use mathlib.Core.Path.{_≡_, refl, sym, ap, ap₂, _∙_}
-use mathlib.Core.List.{List, [], _∷_, _++_, map, zipWith}
+use mathlib.Core.Path.{_≡_, refl, sym, ap₂, _∙_}
+use mathlib.Core.List.{List, [], _∷_, map, zipWith}
 use lib.Arith.{digits-lt}
-use lib.ListN.{length, getD, take, length-map, length-append, List·getD-map}
-use lib.Seq.{take-at}
+use lib.ListN.{length, getD, length-map, List·getD-map}
 use Rattle.lists.specs.Below.{Below}
-use Rattle.lists.proofs.Reading.{cut-at}
-use Rattle.even_places.specs.Sets.{byteOf, allSets}
+use Rattle.lists.proofs.Cuts.{cut-at}
+use Rattle.even_places.specs.Sets.{allSets}
 use Rattle.even_places.specs.Rule.{queryCells, positions}
 use Rattle.even_places.proofs.Flat.{inside, query-length}
-use Rattle.even_places.proofs.Positions.{same-members}
+use Rattle.even_places.proofs.Positions.{same-members, positions-length}
 use Rattle.even_scheme.specs.Even.{permutation, numberAt, evenQuery}
-use Rattle.even_layout.proofs.Blocks.{all-length}
-use Rattle.even_layout.proofs.Tables.{positions-length, positions-room}
+use Rattle.even_layout.proofs.Tables.{positions-room}
 use Rattle.even_ranks.specs.Counts.{noCounts, totalsOf}
 use Rattle.even_ranks.specs.Walk.{setsPlaces, walked}
 use Rattle.even_ranks.proofs.Walk.{walked-is, walked-below}
@@ -69,14 +67,3 @@ module _ (N K k server : ℕ) (asks : Asks N K k server) where
   pub entries-are : (key : List ℕ) → entries (N ^ K) key (positions N K) (map (λ cell. cell .1) (queryCells N K k server)) ≡ evenQuery N K k server key
   unfolding evenQuery
   entries-are key = rw messages-are (entries-cells N K key (queryCells N K k server) (λ i h. inside N K k wide (asks .message) server i (asks .server-low) h .1))
-
--- the front of a table that holds a list and more after it
-pub front-is : (count : ℕ) (table front more : List ℕ) → table ≡ front ++ more → length front ≡ count → take count table ≡ front
-front-is count table front more e l = ap (take count) e ∙ take-at front more count l
-
-pub front-fits : (count : ℕ) (table front more : List ℕ) → table ≡ front ++ more → length front ≡ count → count ≤ length table
-front-fits count table front more e l = omega (arith, ap length e, length-append front more)
-
--- how many sets there are
-pub sets-length : (K power : ℕ) → power ≡ 2 ^ K → length (map byteOf (allSets K)) ≡ power - 1
-sets-length K power e = length-map (allSets K) byteOf ∙ omega (arith, all-length K)

@@ -3,7 +3,6 @@ use mathlib.Core.Path.{_≡_}
 use mathlib.Core.List.{List, zipWith}
 use Prim.Native.Nat.{ℕ, _+_, _-_, _*_, _≤_, _<_}
 use lib.ListN.{length, getD}
-use Rattle.even_places.specs.Rule.{others}
 use Rattle.even_layout.specs.Layout.{Bounds}
 use Rattle.even_ranks.specs.Counts.{takenTable}
 use Rattle.even_ranks.specs.declared.Origin.{Origin}
@@ -14,10 +13,6 @@ pub record Asks (N K k server : ℕ) : Type 0 where
   pub servers-high : N ≤ 16
   pub message : k < K
   pub server-low : server < N
-
--- r is the one numbered j of the other servers than `server`, of however many
-abbrev pub IsOther : ℕ → ℕ → ℕ → Type 0
-IsOther server j r = (N : ℕ) → server < N → j < N - 1 → r ≡ getD (others N server) j 0
 
 -- the tables that places follow from
 pub record Tables (N k : ℕ) (totals taken : List ℕ) : Type 0 where

@@ -6,18 +6,6 @@ ghost use Prim.Native.Nat.{_-_, _/_, _%_, _^_, _≤_, _<_};
 ghost use lib.Count.{ones as count};
 ghost use lib.Dec.{eqb, ltb};
 ghost use Rattle.even_ranks.specs.Walk.{«plain» as plainOf, «joined» as joinedOf};
-ghost use Rattle.even_query.specs.Query.{IsOther};
-
-// The one numbered `other` of the servers that are not `server`, in ascending order.
-fn other_server(server: usize, other: usize) -> usize
-    requires { ⌜ other < 16 ⌝ }
-    ensures { λ r. ⌜ IsOther server other r ⌝ }
-{
-    if other < server {
-        return other;
-    }
-    other + 1
-}
 
 // Where a row comes from: the one numbered i of a set of `ones` messages, all of which take their next places.
 fn plain(n: usize, server: usize, ones: usize, i: usize) -> Origin
@@ -47,7 +35,7 @@ fn joined(n: usize, server: usize, ones: usize, i: usize) -> Origin
         source: ones - 2,
         rows,
         turn: server * (n - 1) + other,
-        server: other_server(server, other),
+        server: even_layout::other_server(server, other),
         number: i % rows,
     }
 }

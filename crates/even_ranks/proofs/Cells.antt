@@ -1,6 +1,6 @@
 -- The place that the counters give to each message of a row is the one that the rule gives it.
 use Prim.Native.Nat.{ℕ, zero, suc, _+_, _-_, _*_, _/_, _%_, _^_, _≤_, _<_}
-use native.Mathlib.Nat.{mul-add, add-mul, mul-assoc, mul-left-comm, mul-zero, mul-one, one-mul, pow-zero, pow-succ', one-le-pow, div-add-mod', div-lt-iff-lt-mul, mod-lt}
+use native.Mathlib.Nat.{pow-zero, pow-succ', one-le-pow, div-add-mod', div-lt-iff-lt-mul, mod-lt}
 use native.Mathlib.Omega.{arith}
 use native.Mathlib.Decide.{ℕ-discrete}
 use mathlib.Core.Path.{_≡_, refl, sym, ap, _∙_, subst}
@@ -13,100 +13,22 @@ use lib.ListN.{length, getD, set, length-set, length-map}
 use lib.Seq.{getD-set-other}
 use borrow.Author.Tests.{eq-eqb, ne-eqb, lt-ltb, le-ltb}
 use Rattle.lists.specs.Parts.{cut}
-use Rattle.lists.specs.Ranges.{range}
-use Rattle.lists.specs.Sums.{bit, keep, sum, All}
-use Rattle.lists.proofs.Reading.{cut-at}
-use Rattle.lists.proofs.Sums.{sum-range}
-use Rattle.lists.proofs.Keep.{All-front, All-back, All-head}
+use Rattle.lists.specs.Sums.{bit, keep, All}
+use Rattle.lists.proofs.Cuts.{cut-at}
+use Rattle.lists.proofs.Each.{All-front, All-back, All-head}
 use Rattle.even_places.specs.Sets.{has, ones, with, sets, allSets}
 use Rattle.even_places.specs.Rule.{used, sideSets, joins, ofSet, block, others}
-use Rattle.even_places.proofs.SetLaws.{ones-drop, has-drop}
+use Rattle.even_places.proofs.SetLaws.{ones-drop, has-drop, has-lone}
 use Rattle.even_places.proofs.Positions.{joined-at}
 use Rattle.even_places.proofs.Closed.{before, side-at, wanted-at, wanted-first}
-use Rattle.even_layout.proofs.Tables.{IsSet, all-sets}
-use Rattle.even_ranks.specs.Counts.{counter, noCounts, countersOf, countedAll, totalsOf, takers, taken}
-use Rattle.even_ranks.specs.Walk.{placeIn, placeOf, isJoined, plain, joined, originOf}
-use Rattle.even_ranks.proofs.Counters.{ones-most, ofKind, counts-tell}
-use Rattle.even_ranks.proofs.Ranking.{with-wanted, with-reduced, rank-side, rank-wanted, rank-below, side-total, sources-total, wanted-total}
-
--- a set of one message has no other
-empty : (A : List Bool) (p : ℕ) → ones A ≡ 0 → has p A ≡ false
-unfolding ones has sum bit
-empty [] p e = refl
-empty (true ∷ A) p e = absurd (omega arith)
-empty (false ∷ A) zero e = refl
-empty (false ∷ A) (suc p) e = empty A p (omega arith)
-
-lone : (A : List Bool) (k p : ℕ) → ones A ≡ 1 → has k A ≡ true → p ≢ k → has p A ≡ false
-unfolding has
-lone A k p many e d = sym (getD-set-other A k p false false d) ∙ empty (set A k false) p (omega (arith, ones-drop A k e))
+use Rattle.even_places.proofs.AllSets.{IsSet, all-sets, ones-most}
+use Rattle.even_ranks.specs.Counts.{counter, noCounts, countersOf, countedAll, totalsOf}
+use Rattle.even_ranks.specs.Walk.{placeOf, isJoined, plain, joined, originOf}
+use Rattle.even_ranks.proofs.Placed.{place-side, place-first, place-wanted, wanted-one}
+use Rattle.even_ranks.proofs.Counters.{ofKind, counts-tell}
+use Rattle.even_ranks.proofs.Ranking.{with-wanted, with-reduced, rank-side, rank-wanted, rank-below}
 
 module _ (N K k : ℕ) (wide : 1 < N) (wanted : k < K) (few : K ≤ 8) where
-  takers-side : (b p : ℕ) → b < K → p < K → p ≢ k → takers k (totalsOf K k) b p ≡ with p (keep (ofKind k false b) (allSets K))
-  unfolding takers totalsOf
-  takers-side b p hb hp d =
-      ap (λ t. getD (countedAll k (allSets K) noCounts) (counter t b p) 0) (ne-eqb p k d) ∙ counts-tell K k few (all-sets K) false b p (omega arith) hp
-
-  takers-wanted : (b : ℕ) → b < K → takers k (totalsOf K k) b k ≡ with k (keep (ofKind k true b) (allSets K))
-  unfolding takers totalsOf
-  takers-wanted b hb =
-      ap (λ t. getD (countedAll k (allSets K) noCounts) (counter t b k) 0) (eq-eqb k k refl) ∙ counts-tell K k few (all-sets K) true b k (omega arith) wanted
-
-  -- the places of other messages, taken by side rows
-  place-side : (b p m rank r : ℕ) → b < K → p < K → p ≢ k
-      → placeIn N k (totalsOf K k) b p ((N - 1) ^ b) m rank r ≡ used N (λ j. with p (sideSets N K k j)) b m + (N - 1) ^ b * rank + r
-  unfolding placeIn taken used
-  place-side b p m rank r hb hp d =
-      omega (arith, ap (λ s. N * s) before-b, ap (λ s. m * s) (share b hb), mul-add q (m * T) rank, mul-left-comm q m T)
-    where
-      q : ℕ
-      q = (N - 1) ^ b
-
-      T : ℕ
-      T = takers k (totalsOf K k) b p
-
-      share : (j : ℕ) → j < K → (N - 1) ^ j * takers k (totalsOf K k) j p ≡ with p (sideSets N K k j)
-      share j h = ap (λ s. (N - 1) ^ j * s) (takers-side j p h hp d) ∙ sym (side-total K k wanted N wide p j h)
-
-      before-b : sum (λ j. (N - 1) ^ j * takers k (totalsOf K k) j p) (range 0 b) ≡ sum (λ j. with p (sideSets N K k j)) (range 0 b)
-      before-b = sum-range (λ j. (N - 1) ^ j * takers k (totalsOf K k) j p) (λ j. with p (sideSets N K k j)) b (λ j l. share j (omega arith))
-
-  taken-wanted : (b : ℕ) → b < K → taken N k (totalsOf K k) b k ≡ sum (joins N K k) (range 0 b)
-  unfolding taken
-  taken-wanted b h =
-      sum-range (λ j. (N - 1) ^ j * takers k (totalsOf K k) j k) (joins N K k) b
-      (λ j l. ap (λ s. (N - 1) ^ j * s) (takers-wanted j (omega arith)) ∙ sym (wanted-total K k wanted N wide j (omega arith)))
-
-  -- the places of the wanted message, in the first block and in the others
-  place-first : (n rank r : ℕ) → rank ≡ 0 → r ≡ 0 → placeIn N k (totalsOf K k) 0 k ((N - 1) ^ 0) n rank r ≡ n
-  unfolding placeIn taken sum range joins
-  place-first n rank r e f =
-      omega (arith, mul-zero N, ap (λ s. s * (n * T + rank)) (pow-zero (N - 1)), one-mul (n * T + rank), ap (λ s. n * s) one, mul-one n)
-    where
-      T : ℕ
-      T = takers k (totalsOf K k) 0 k
-
-      one : T ≡ 1
-      one = takers-wanted 0 (omega arith) ∙ sym (one-mul (with k (keep (ofKind k true 0) (allSets K)))) ∙ sym (wanted-total K k wanted N wide 0 (omega arith) ∙ ap (λ s. s * with k (keep (ofKind k true 0) (allSets K))) (pow-zero (N - 1)))
-
-  place-wanted : (b n j rank r : ℕ) → suc b < K
-      → placeIn N k (totalsOf K k) (suc b) k ((N - 1) ^ b) (n * (N - 1) + j) rank r ≡ used N (joins N K k) (suc b) n + j * length (sideSets N K k b) + (N - 1) ^ b * rank + r
-  unfolding placeIn used joins
-  place-wanted b n j rank r h =
-      omega (arith, ap (λ s. N * s) (taken-wanted (suc b) h), ap (λ s. n * ((N - 1) * s)) size, ap (λ s. j * s) size, mul-add q ((n * (N - 1) + j) * T) rank, spread)
-    where
-      q : ℕ
-      q = (N - 1) ^ b
-
-      T : ℕ
-      T = takers k (totalsOf K k) (suc b) k
-
-      size : length (sideSets N K k b) ≡ q * T
-      size = sources-total K k wanted N wide b h ∙ ap (λ s. q * s) (sym (takers-wanted (suc b) h))
-
-      spread : q * ((n * (N - 1) + j) * T) ≡ n * ((N - 1) * (q * T)) + j * (q * T)
-      spread = mul-left-comm q (n * (N - 1) + j) T ∙ add-mul (n * (N - 1)) j (q * T) ∙ ap (λ s. s + j * (q * T)) (mul-assoc n (N - 1) (q * T))
-
   -- A stands among all sets, after those of D; `ranks` are its messages' counters then
   module _ (D L : List (List Bool)) (A : List Bool) (split : D ++ A ∷ L ≡ allSets K) where
     known : IsSet K A
@@ -133,7 +55,7 @@ module _ (N K k : ℕ) (wide : 1 < N) (wanted : k < K) (few : K ≤ 8) where
       side-cell b i p many lack hi hp g d =
           side-at N K k wide wanted b n i p A (known .long) many lack hp g hi
           ∙ ap some
-          (rw (ne-eqb p k d, (let e : ones A - 1 ≡ b = omega arith in e), place-side b p n (getD ranks p 0) i low hp d)
+          (rw (ne-eqb p k d, (let e : ones A - 1 ≡ b = omega arith in e), place-side N K k wide wanted few b p n (getD ranks p 0) i low hp d)
           (ap (λ s. used N (λ j. with p (sideSets N K k j)) b n + (N - 1) ^ b * s + i) rank))
         where
           low : b < K
@@ -144,23 +66,20 @@ module _ (N K k : ℕ) (wide : 1 < N) (wanted : k < K) (few : K ≤ 8) where
 
       -- the row is of k alone
       first-cell : (i : ℕ) → ones A ≡ 1 → has k A ≡ true → i < (N - 1) ^ 0 → At 0 i k ≡ some (placeOf N k (totalsOf K k) ranks (plain N n (ones A) i) k)
-      unfolding At placeOf plain joins
+      unfolding At placeOf plain
       first-cell i many g hi =
           ap (λ j. At 0 j k) zeroth
           ∙ wanted-first N K k wide wanted n A server (known .long) many g
-          ∙ ap some (sym (rw (eq-eqb k k refl, (let e : ones A - 1 ≡ 0 = omega arith in e)) (place-first n (getD ranks k 0) i none-before zeroth)))
+          ∙ ap some (sym (rw (eq-eqb k k refl, (let e : ones A - 1 ≡ 0 = omega arith in e)) (place-first N K k wide wanted few n (getD ranks k 0) i none-before zeroth)))
         where
           zeroth : i ≡ 0
           zeroth = omega (arith, pow-zero (N - 1))
-
-          one : with k (keep (ofKind k true 0) (allSets K)) ≡ 1
-          one = sym (one-mul (with k (keep (ofKind k true 0) (allSets K)))) ∙ sym (wanted-total K k wanted N wide 0 (omega arith) ∙ ap (λ s. s * with k (keep (ofKind k true 0) (allSets K))) (pow-zero (N - 1)))
 
           none-before : getD ranks k 0 ≡ 0
           none-before =
               ranks-tell 0 k many wanted
               ∙ ap (λ t. with k (keep (ofKind k t 0) D)) g
-              ∙ omega (arith, one, rank-below K k wanted D L A split 0 (omega arith) (known .long) many g)
+              ∙ omega (arith, wanted-one N K k wide wanted few, rank-below K k wanted D L A split 0 (omega arith) (known .long) many g)
 
       -- the row is joined: the j-th other server's row numbered r, with k
       module _ (b i : ℕ) (many : ones A ≡ suc (suc b)) (has-k : has k A ≡ true) (hi : i < (N - 1) ^ suc b) where
@@ -207,7 +126,7 @@ module _ (N K k : ℕ) (wide : 1 < N) (wanted : k < K) (few : K ≤ 8) where
             ap (λ s. At (suc b) s k) (sym whole)
             ∙ wanted-at N K k wide wanted b n j r A server (known .long) many has-k j-low r-low
             ∙ ap some
-            (rw (eq-eqb k k refl, one-less, two-less, place-wanted b n j (getD ranks k 0) r low)
+            (rw (eq-eqb k k refl, one-less, two-less, place-wanted N K k wide wanted few b n j (getD ranks k 0) r low)
             (ap (λ s. used N (joins N K k) (suc b) n + j * length (sideSets N K k b) + q * s + r) rank))
           where
             rank : length (before (set A k false) (keep (λ B. not (has k B)) (sets K (suc b)))) ≡ getD ranks k 0
@@ -224,7 +143,7 @@ module _ (N K k : ℕ) (wide : 1 < N) (wanted : k < K) (few : K ≤ 8) where
             ∙ ap (λ s. getD s p none) (joined-at N K k wide wanted b n j r A server has-k (known .long) many j-low r-low)
             ∙ side-at N K k wide wanted b m r p A′ (length-set A k false ∙ known .long) (omega (arith, ones-drop A k has-k)) (has-drop A k) hp (getD-set-other A k p false false d ∙ g) r-low
             ∙ ap some
-            (rw (ne-eqb p k d, two-less, place-side b p m (getD ranks p 0) r (omega (arith, low)) hp d)
+            (rw (ne-eqb p k d, two-less, place-side N K k wide wanted few b p m (getD ranks p 0) r (omega (arith, low)) hp d)
             (ap (λ s. used N (λ j. with p (sideSets N K k j)) b m + q * s + r) rank))
           where
             A′ : List Bool
@@ -247,6 +166,6 @@ module _ (N K k : ℕ) (wide : 1 < N) (wanted : k < K) (few : K ≤ 8) where
           go false e (yes f) c m h = absurd (false≢true (sym e ∙ ap (λ s. has s A) (sym f) ∙ g))
           go false e (no d) c m h = side-cell c i p m e h hp g d
           go true e (yes f) zero m h = rw (le-ltb 1 (ones A) (omega arith), f) (first-cell i m e h)
-          go true e (no d) zero m h = absurd (false≢true (sym (lone A k p m e d) ∙ g))
+          go true e (no d) zero m h = absurd (false≢true (sym (has-lone A k p m e d) ∙ g))
           go true e (yes f) (suc c) m h = rw (lt-ltb 1 (ones A) (omega arith), f) (wanted-cell c i m e h)
           go true e (no d) (suc c) m h = rw (lt-ltb 1 (ones A) (omega arith)) (other-cell c i m e h p hp g d)

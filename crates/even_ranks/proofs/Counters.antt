@@ -4,7 +4,7 @@ use native.Mathlib.Nat.{zero-mul, one-mul}
 use native.Mathlib.Omega.{arith}
 use native.Mathlib.Decide.{decLt}
 use mathlib.Core.Path.{_≡_, refl, sym, ap, _∙_}
-use mathlib.Core.List.{List, [], _∷_}
+use mathlib.Core.List.{List}
 use mathlib.Core.Bool.{Bool, true, false, Bool·beq, _&&_}
 use lib.Arith.{lt-of-le-ne}
 use lib.Dec.{eqb}
@@ -12,20 +12,15 @@ use lib.ListN.{length, getD, length-replicate, getD-replicate}
 use borrow.Author.Tests.{eqb-true, eqb-false}
 use Rattle.lists.specs.Parts.{cut, put}
 use Rattle.lists.specs.Sums.{bit, keep, sum, All, allNil, allCons}
-use Rattle.lists.proofs.Parts.{cut-length, put-length}
-use Rattle.lists.proofs.Reading.{cut-at, put-inside, put-before, put-after}
+use Rattle.lists.proofs.Cuts.{cut-length, cut-at}
+use Rattle.lists.proofs.Puts.{put-length}
+use Rattle.lists.proofs.ReadBack.{getD-put-inside, getD-put-before, getD-put-after}
 use Rattle.lists.proofs.Sums.{sum-keep}
 use Rattle.even_places.specs.Sets.{has, ones, with}
 use Rattle.even_places.specs.Rule.{after}
 use Rattle.even_places.proofs.Rows.{after-at, after-length}
-use Rattle.even_layout.proofs.Tables.{IsSet}
+use Rattle.even_places.proofs.AllSets.{IsSet, ones-most}
 use Rattle.even_ranks.specs.Counts.{counter, noCounts, countersOf, counted, countedAll}
-
-pub ones-most : (A : List Bool) → ones A ≤ length A
-unfolding ones sum bit
-ones-most [] = omega arith
-ones-most (true ∷ A) = omega (arith, ones-most A)
-ones-most (false ∷ A) = omega (arith, ones-most A)
 
 -- A is of block b, and has k or not as t says
 unfoldable pub ofKind : ℕ → Bool → ℕ → List Bool → Bool
@@ -71,22 +66,22 @@ module _ (K k : ℕ) (few : K ≤ 8) where
     unfolding counted made part
     inside i p e hp =
         ap (λ j. getD (put (countersOf k A) made counts) j 0) e
-        ∙ put-inside (countersOf k A) made counts made-fits p (omega (arith, made-length, known .long))
+        ∙ getD-put-inside (countersOf k A) made counts made-fits p (omega (arith, made-length, known .long))
         ∙ after-at A part p part-length
         ∙ ap (λ x. bit (has p A) + x) (cut-at (countersOf k A) (length A) p counts (omega (arith, known .long)) ∙ ap (λ j. getD counts j 0) (sym e))
 
     low : (i : ℕ) → i < countersOf k A → getD (counted k A counts) i 0 ≡ getD counts i 0
     unfolding counted made part
-    low i h = put-before (countersOf k A) made counts made-fits i h
+    low i h = getD-put-before (countersOf k A) made counts made-fits i h
 
     high : (i : ℕ) → countersOf k A + length A ≤ i → getD (counted k A counts) i 0 ≡ getD counts i 0
     unfolding counted made part
-    high i h = rw e (put-after (countersOf k A) made counts made-fits (i - (countersOf k A + length made)))
+    high i h = rw e (getD-put-after (countersOf k A) made counts made-fits (i - (countersOf k A + length made)))
       where
-        e : i ≡ countersOf k A + (length made + (i - (countersOf k A + length made)))
+        e : i ≡ countersOf k A + length made + (i - (countersOf k A + length made))
         e = omega (arith, made-length)
 
-    pub counted-at : (t : Bool) (b p : ℕ) → b < 8 → p < K
+    counted-at : (t : Bool) (b p : ℕ) → b < 8 → p < K
         → getD (counted k A counts) (counter t b p) 0 ≡ bit (ofKind k t b A) * bit (has p A) + getD counts (counter t b p) 0
     unfolding ofKind counter bit
     counted-at t b p hb hp = go t (has k A) refl (eqb (suc b) (ones A)) refl

@@ -11,11 +11,13 @@ use lib.ListN.{length, set, length-set, length-map}
 use lib.Seq.{getD-set-other}
 use borrow.Author.Tests.{eq-eqb}
 use Rattle.lists.specs.Sums.{bit, keep, keepIf, sum}
-use Rattle.lists.proofs.Sums.{sum-append, sum-map, sum-ext, sum-all, sum-one, sum-keep, All-imp, All-keep, All-every}
-use Rattle.lists.proofs.Keep.{keep-and, sum-keep-most}
+use Rattle.lists.proofs.Sums.{sum-append, sum-map, sum-ext, sum-all, sum-one, sum-keep, sum-keep-most}
+use Rattle.lists.proofs.Each.{All-imp, All-keep, All-every}
+use Rattle.lists.proofs.Keep.{keep-and, keep-append}
+use Rattle.lists.proofs.Mapped.{map-append}
 use Rattle.even_places.specs.Sets.{has, ones, with, sets, allSets, alike}
 use Rattle.even_places.specs.Rule.{sideSets, joins}
-use Rattle.even_places.proofs.SetLaws.{keep-append, map-append, alike-one, ones-drop}
+use Rattle.even_places.proofs.SetLaws.{alike-one, ones-drop}
 use Rattle.even_places.proofs.Counts.{sets-zero, has-none, sideSets-sum}
 use Rattle.even_places.proofs.Closed.{before}
 use Rattle.even_places.proofs.Ranked.{taken-out, of-block, before-seam}
@@ -40,14 +42,14 @@ module _ (K k : ℕ) (wanted : k < K) where
       keep-and (λ A. Bool·beq t (has k A)) (λ A. eqb (suc b) (ones A)) (allSets K) ∙ ap (keep (λ A. Bool·beq t (has k A))) (of-block K b h)
 
   -- the sets of block b without k, and with it
-  pub without : (b : ℕ) → b < K → keep (ofKind k false b) (allSets K) ≡ keep (λ A. not (has k A)) (sets K (suc b))
+  without : (b : ℕ) → b < K → keep (ofKind k false b) (allSets K) ≡ keep (λ A. not (has k A)) (sets K (suc b))
   without b h = of-kind false b h ∙ ap (λ t. keep t (sets K (suc b))) (fun-ext (λ A. beq-false (has k A)))
 
   having : (b : ℕ) → b < K → keep (ofKind k true b) (allSets K) ≡ keep (has k) (sets K (suc b))
   having b h = of-kind true b h ∙ ap (λ t. keep t (sets K (suc b))) (fun-ext (λ A. beq-true (has k A)))
 
   -- the sets of block b with k, without it
-  pub reduced : (b : ℕ) → b < K → map (λ A. set A k false) (keep (ofKind k true b) (allSets K)) ≡ keep (λ A. not (has k A)) (sets K b)
+  reduced : (b : ℕ) → b < K → map (λ A. set A k false) (keep (ofKind k true b) (allSets K)) ≡ keep (λ A. not (has k A)) (sets K b)
   reduced b h = ap (map (λ A. set A k false)) (having b h) ∙ taken-out K k b wanted
 
   -- each of them has k

@@ -1,6 +1,6 @@
 -- One turn more of each loop: of counting a set's messages, and of adding up what was taken; and bounds on both.
 use Prim.Native.Nat.{ℕ, zero, suc, _+_, _-_, _*_, _/_, _%_, _^_, _≤_, _<_}
-use native.Mathlib.Nat.{add-zero, add-suc, suc-add, add-sub-cancel-left, mod-lt, sub-self, sub-zero, add-comm, not-suc-le-zero, mul-le-mul, pow-le-pow-left, pow-le-pow-right}
+use native.Mathlib.Nat.{add-zero, add-suc, suc-add, add-sub-cancel-left, sub-self, sub-zero, add-comm, not-suc-le-zero, mul-le-mul, pow-le-pow-left, pow-le-pow-right, mod-lt}
 use native.Mathlib.Numerals.{add-one}
 use native.Mathlib.Omega.{arith}
 use mathlib.Core.Path.{_≡_, refl, sym, ap, _∙_}
@@ -10,35 +10,25 @@ use lib.Count.{ones as count}
 use lib.Dec.{eqb}
 use lib.ListN.{length, getD, take, drop, set, replicate, length-map, length-replicate}
 use lib.Seq.{take-all, drop-cons, drop-set-lt}
-use borrow.Author.Tests.{eqb-true, eqb-false}
 use Rattle.lists.specs.Below.{Below}
 use Rattle.lists.specs.Ranges.{range}
 use Rattle.lists.specs.Sums.{bit, sum}
 use Rattle.lists.proofs.Below.{below-cons, below-append, below-take, below-drop, below-zeros}
-use Rattle.lists.proofs.Parts.{cut-length, put-part}
-use Rattle.lists.proofs.Reading.{write-more}
+use Rattle.lists.proofs.Cuts.{cut-length}
+use Rattle.lists.proofs.Puts.{put-part, write-more}
 use Rattle.lists.proofs.Sums.{sum-next}
+use Rattle.lists.proofs.Bits.{bit-of, bit-test}
 use Rattle.even_places.specs.Sets.{has, ones, byteOf, allSets}
 use Rattle.even_places.specs.Rule.{after}
 use Rattle.even_places.proofs.Rows.{after-length}
 use Rattle.even_places.proofs.Bytes.{byte-has, byte-ones}
+use Rattle.even_places.proofs.AllSets.{IsSet, all-sets}
 use Rattle.even_layout.specs.Layout.{setIn}
 use Rattle.even_layout.proofs.Blocks.{all-length, subsets-few}
-use Rattle.even_layout.proofs.Tables.{IsSet, all-sets, byte-at}
+use Rattle.even_layout.proofs.Tables.{byte-at}
+use Rattle.even_layout.proofs.Firsts.{setIn-length}
 use Rattle.even_ranks.proofs.Counters.{room, countedAll-length}
 use Rattle.even_ranks.specs.Counts.{counter, noCounts, Stands, countersOf, counted, countedAll, totalsOf, takers, taken, takenTable}
-
--- the lowest bit of a byte
-bit-of : (rest : ℕ) → bit (eqb (rest % 2) 1) ≡ rest % 2
-unfolding bit
-bit-of rest = go (eqb (rest % 2) 1) refl
-  where
-    go : (t : Bool) → eqb (rest % 2) 1 ≡ t → bit t ≡ rest % 2
-    go true e = sym (eqb-true (rest % 2) 1 e)
-    go false e = let d = eqb-false (rest % 2) 1 e in omega (arith, mod-lt rest {m = 2} (omega arith), two d)
-      where
-        two : (rest % 2 ≡ 1 → ⊥) → rest % 2 ≡ 0
-        two d = omega (arith, mod-lt rest {m = 2} (omega arith), d)
 
 -- the counters from p on are still to be counted, by what is left of the set's byte
 unfoldable pub countsFrom : ℕ → ℕ → ℕ → List ℕ → List ℕ
@@ -51,7 +41,7 @@ counts-more k p rest counts h e =
     let left : k - p ≡ suc (k - (p + 1)) = omega arith in
     let inside : p < length counts = omega arith in
     let next = getD counts p 0 + rest % 2 in
-    rw (left, drop-cons counts p 0 inside, bit-of rest, add-comm (rest % 2) (getD counts p 0), write-more p next counts _ inside, add-one p, drop-set-lt (suc p) counts p next (omega arith))
+    rw (left, drop-cons counts p 0 inside, bit-of (rest % 2) (mod-lt rest (omega arith)), add-comm (rest % 2) (getD counts p 0), write-more p next counts _ inside, add-one p, drop-set-lt (suc p) counts p next (omega arith))
 
 pub counts-done : (k rest : ℕ) (counts : List ℕ) → length counts ≡ k → countsFrom k k rest counts ≡ counts
 unfolding countsFrom after setIn
@@ -138,21 +128,12 @@ stands-at K i sets low high e h =
     (record { encoded = ap byteOf (s .decoded) ∙ sym (s .byte); some = rw (s .decoded) (s .is .some) }, s .decoded)
 
 -- a set's counters by its byte
-pub counters-byte : (k set : ℕ) (A : List Bool) → set ≡ byteOf A → counter (eqb (set / 2 ^ k % 2) 1) (count set - 1) 0 ≡ countersOf k A
+counters-byte : (k set : ℕ) (A : List Bool) → set ≡ byteOf A → counter (eqb (set / 2 ^ k % 2) 1) (count set - 1) 0 ≡ countersOf k A
 unfolding countersOf bit
-counters-byte k set A e = rw (e, byte-has A k, byte-ones A) (ap (λ t. counter t (ones A - 1) 0) (go (has k A)))
-  where
-    go : (t : Bool) → eqb (bit t) 1 ≡ t
-    go true = refl
-    go false = refl
+counters-byte k set A e = rw (e, byte-has A k, byte-ones A) (ap (λ t. counter t (ones A - 1) 0) (bit-test (has k A)))
 
 pub stands-count : (K byte : ℕ) → Stands K byte → count byte ≡ ones (setIn K byte)
 stands-count K byte s = ap count (sym (s .encoded)) ∙ byte-ones (setIn K byte)
-
-pub setIn-length : (K byte : ℕ) → length (setIn K byte) ≡ K
-unfolding setIn
-setIn-length zero byte = refl
-setIn-length (suc K) byte = ap suc (setIn-length K (byte / 2))
 
 pub stands-set : (K byte : ℕ) → Stands K byte → IsSet K (setIn K byte)
 stands-set K byte s = record { long = setIn-length K byte; some = s .some }

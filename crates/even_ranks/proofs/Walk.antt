@@ -12,17 +12,17 @@ use Rattle.lists.specs.Below.{Below}
 use Rattle.lists.specs.Parts.{cut}
 use Rattle.lists.specs.Ranges.{range}
 use Rattle.lists.specs.Sums.{bit, sum, All}
-use Rattle.lists.proofs.Sums.{All-imp}
-use Rattle.lists.proofs.Keep.{All-back, All-head}
-use Rattle.lists.proofs.Flat.{flatMap-flatMap}
+use Rattle.lists.proofs.Each.{All-imp, All-back, All-head}
+use Rattle.lists.proofs.Joined.{flatMap-flatMap, map-flatMap, flatMap-all}
+use Rattle.lists.proofs.Mapped.{map-append}
 use Rattle.even_places.specs.Sets.{has, ones, members, sets, allSets}
 use Rattle.even_places.specs.Rule.{Row, isSome, same, ofSet, bySet, block, rows, cells, queryCells}
-use Rattle.even_places.proofs.SetLaws.{setOf, keep-sets, map-append, map-flatMap, flatMap-all}
+use Rattle.even_places.proofs.SetLaws.{setOf, keep-sets}
 use Rattle.even_places.proofs.Counts.{sets-fit}
 use Rattle.even_places.proofs.Flat.{inside}
 use Rattle.even_places.proofs.Joined.{group-size}
 use Rattle.even_places.proofs.Positions.{group-length}
-use Rattle.even_layout.proofs.Tables.{IsSet, all-sets}
+use Rattle.even_places.proofs.AllSets.{IsSet, all-sets}
 use Rattle.even_ranks.specs.Counts.{noCounts, countersOf, counted, countedAll, totalsOf}
 use Rattle.even_ranks.specs.Walk.{placeOf, originOf, rowPlaces, setPlaces, setsPlaces, walked}
 use Rattle.even_ranks.proofs.Cells.{cell-is}

@@ -13,20 +13,21 @@ use lib.ListN.{length, getD, take, length-map}
 use lib.Seq.{take-suc, take-all}
 use Rattle.lists.specs.Ranges.{range}
 use Rattle.lists.specs.Sums.{bit, keep, keepIf, sum}
-use Rattle.lists.proofs.Flat.{flatMap-append}
+use Rattle.lists.proofs.Joined.{flatMap-append}
 use Rattle.lists.proofs.Sums.{sum-append}
+use Rattle.lists.proofs.Keep.{keep-append}
 use Rattle.symbol.specs.Xor.{xor}
 use Rattle.scheme.specs.Scheme.{answersIn}
 use Rattle.even_places.specs.Sets.{has, ones, allSets, byteOf}
 use Rattle.even_places.proofs.Bytes.{byte-ones, byte-has}
 use Rattle.even_places.proofs.ByteParts.{byte-covers}
-use Rattle.even_places.proofs.SetLaws.{keep-append}
 use Rattle.even_places.proofs.WantedCells.{cellsOf}
+use Rattle.even_places.proofs.AllSets.{ones-most}
 use Rattle.even_scheme.specs.Even.{assemble, recoveredPart, serverParts, evenScheme}
 use Rattle.even_layout.specs.Layout.{rowsOf}
 use Rattle.even_layout.proofs.Blocks.{all-length, subsets-few}
 use Rattle.even_layout.proofs.Fits.{layout-bounds}
-use Rattle.even_layout.proofs.Tables.{SetByte, byte-at, ones-few}
+use Rattle.even_layout.proofs.Tables.{SetByte, byte-at}
 use Rattle.even_recover.specs.declared.Reading.{Reading}
 use Rattle.even_recover.specs.Rows.{readingOf, groupParts, groupOf, setParts, Held, Ready}
 use Rattle.even_recover.proofs.Groups.{Reads, WantedSet, group-grouped}
@@ -92,7 +93,7 @@ module _ {N K S wanted server : ℕ} {key sets firsts answers start : List ℕ} 
 
   few-cells : cellsOf N A ≤ 2048
   unfolding cellsOf rowsOf
-  few-cells = mul-le-mul (set-is .high) (let few : ones A ≤ 8 = omega (arith, ones-few A, set-is .is .long, fetched .reads .bounds .messages-high) in few)
+  few-cells = mul-le-mul (set-is .high) (let few : ones A ≤ 8 = omega (arith, ones-most A, set-is .is .long, fetched .reads .bounds .messages-high) in few)
 
   cells-are : (N - 1) ^ (count (getD sets j 0) - 1) * count (getD sets j 0) ≡ cellsOf N A
   unfolding cellsOf
@@ -106,7 +107,7 @@ module _ {N K S wanted server : ℕ} {key sets firsts answers start : List ℕ} 
   bit-is = ap₂ (λ (set b : ℕ). set / b % 2) (set-is .byte) (ap (λ (r : Reading). r .bit) (fetched .here-is)) ∙ byte-has A wanted
 
   wanted-set : has wanted A ≡ true → WantedSet K wanted A
-  wanted-set e = record { good = record { long = set-is .is .long; some-ones = set-is .is .some }; has-wanted = e }
+  wanted-set e = record { good = record { long = set-is .is .long; some = set-is .is .some }; has-wanted = e }
 
   set-parts : setParts here (getD sets j 0) cell firsts query answers ≡ cond (has wanted A) (partsOfSet N K S wanted server key answers A) []
   unfolding setParts partsOfSet bit

@@ -9,8 +9,8 @@ use mathlib.Core.List.{List, [], map}
 use lib.ListN.{length, getD, take, length-map}
 use Rattle.lists.specs.Ranges.{range}
 use Rattle.lists.specs.Sums.{sum}
-use Rattle.lists.proofs.Any.{All-range}
-use Rattle.lists.proofs.MapAll.{map-at, map-all}
+use Rattle.lists.proofs.Ranges.{All-range}
+use Rattle.lists.proofs.Mapped.{map-at, map-all}
 use Rattle.symbol.specs.Xor.{xor}
 use Rattle.scheme.specs.Scheme.{answersIn}
 use Rattle.even_places.specs.Sets.{ones, allSets, byteOf}

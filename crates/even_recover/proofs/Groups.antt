@@ -13,7 +13,7 @@ use lib.Dec.{eqb}
 use lib.ListN.{length, getD, take, set}
 use Rattle.lists.specs.Parts.{cut}
 use Rattle.lists.proofs.Mapped.{mapped-at}
-use Rattle.lists.proofs.PartsAt.{cut-cut}
+use Rattle.lists.proofs.Cuts.{cut-cut}
 use Rattle.parameters.specs.Measures.{evenRows, evenSizes}
 use Rattle.parameters.proofs.Bounds.{EvenBounds}
 use Rattle.symbol.specs.Xor.{xor}
@@ -23,9 +23,10 @@ use Rattle.even_places.specs.Rule.{rows, layout, firstRow, others}
 use Rattle.even_places.proofs.Bytes.{byte-ones, byte-below}
 use Rattle.even_places.proofs.ByteParts.{byte-before, byte-without}
 use Rattle.even_places.proofs.Counts.{rows-length, row-count-is}
-use Rattle.even_places.proofs.RowNumbers.{Good, row-number}
+use Rattle.even_places.proofs.RowNumbers.{row-number}
 use Rattle.even_places.proofs.SetLaws.{ones-drop}
 use Rattle.even_places.proofs.SourceRows.{Source, source-row}
+use Rattle.even_places.proofs.AllSets.{IsSet}
 use Rattle.even_scheme.specs.Even.{answeredRow, sourceServer, sourceRow, recoveredSymbol, evenScheme}
 use Rattle.even_recover.specs.declared.Reading.{Reading}
 use Rattle.even_recover.specs.declared.Group.{Group}
@@ -36,11 +37,11 @@ pub record Reads (N K S wanted server : ℕ) (firsts : List ℕ) : Type 0 where
   pub bounds : EvenBounds N K S
   pub wanted-known : wanted < K
   pub server-known : server < N
-  pub firsts-are : (A : List Bool) → Good K A → getD firsts (byteOf A) 0 ≡ firstRow A (layout N K)
+  pub firsts-are : (A : List Bool) → IsSet K A → getD firsts (byteOf A) 0 ≡ firstRow A (layout N K)
 
 -- a set of messages with the wanted one
 pub record WantedSet (K wanted : ℕ) (A : List Bool) : Type 0 where
-  pub good : Good K A
+  pub good : IsSet K A
   pub has-wanted : has wanted A ≡ true
 
 -- the rows of an answer buffer are those of its slots
@@ -69,7 +70,7 @@ module _ {N K S wanted server : ℕ} {firsts : List ℕ} (reads : Reads N K S wa
       rows-length N K wanted wide (reads .wanted-known) server (reads .server-known) ∙ row-count-is N K wide (omega (arith, reads .bounds .messages-low))
 
   -- row i of a set is a row of the query
-  row-below : (A : List Bool) (i : ℕ) → Good K A → i < (N - 1) ^ (ones A - 1) → firstRow A (layout N K) + i < evenRows N K
+  row-below : (A : List Bool) (i : ℕ) → IsSet K A → i < (N - 1) ^ (ones A - 1) → firstRow A (layout N K) + i < evenRows N K
   row-below A i good h = omega (arith, row-number N K wanted wide (reads .wanted-known) server (reads .server-known) A i good h .0, rows-count)
 
   some-rows : (b : ℕ) → 1 ≤ (N - 1) ^ b
@@ -82,7 +83,7 @@ module _ {N K S wanted server : ℕ} {firsts : List ℕ} (reads : Reads N K S wa
     abbrev group : Group
     group = groupOf here (byteOf A) cell firsts
 
-    good : Good K A
+    good : IsSet K A
     good = wantedSet .good
 
     pub messages-is : group .messages ≡ ones A
@@ -102,7 +103,7 @@ module _ {N K S wanted server : ℕ} {firsts : List ℕ} (reads : Reads N K S wa
     cell-is = ap (λ (m : ℕ). cell + m) (byte-before A wanted)
 
     many : group .messages ≢ 1 → 1 < ones A
-    many joined = omega (arith, messages-is, good .some-ones)
+    many joined = omega (arith, messages-is, good .some)
 
     -- where rows are joined from others
     module _ (joined : 1 < ones A) where
@@ -110,7 +111,7 @@ module _ {N K S wanted server : ℕ} {firsts : List ℕ} (reads : Reads N K S wa
           → Source N K wanted server A i (getD (others N server) (i / (N - 1) ^ (ones A - 2)) 0) (i % (N - 1) ^ (ones A - 2))
       source i h = source-row N K wanted wide (reads .wanted-known) server (reads .server-known) A i good (wantedSet .has-wanted) joined h
 
-      without-good : Good K (set A wanted false)
+      without-good : IsSet K (set A wanted false)
       without-good = source 0 (some-rows (ones A - 1)) .set-good
 
       source-is : group .source ≡ firstRow (set A wanted false) (layout N K)
@@ -185,5 +186,5 @@ module _ {N K S wanted server : ℕ} {firsts : List ℕ} (reads : Reads N K S wa
           go true alone = own-is i h
           go false f =
               let ne : ones A ≢ 1 = eqb-false (ones A) 1 f in
-              let joined : 1 < ones A = omega (arith, ne, good .some-ones) in
+              let joined : 1 < ones A = omega (arith, ne, good .some) in
               ap₂ (λ (a b : List ℕ). xor .minus a b) (own-is i h) (from-is joined i h)

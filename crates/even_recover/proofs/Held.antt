@@ -7,8 +7,9 @@ use mathlib.Core.Path.{_≡_, ap, _∙_}
 use mathlib.Core.Logic.{_≢_}
 use mathlib.Core.List.{List}
 use lib.ListN.{length, getD}
+use Rattle.lists.proofs.Each.{All-get}
 use Rattle.even_places.specs.Rule.{others}
-use Rattle.even_places.proofs.Positions.{others-low, others-high}
+use Rattle.even_places.proofs.Positions.{others-length, others-below}
 use Rattle.even_recover.specs.declared.Reading.{Reading}
 use Rattle.even_recover.specs.declared.Group.{Group}
 use Rattle.even_recover.specs.Rows.{Held, Grouped}
@@ -26,14 +27,6 @@ row-at here answers server row held known within =
     let high = mul-le-mul-right (here .symbol) below in
     let most = mul-le-mul (held .few) (held .short) in
     record { inside = omega (arith, suc-mul x (here .symbol), held .held); small = omega arith }
-
--- an other server's number
-pub other-below : (N n turn : ℕ) → n < N → turn < N - 1 → getD (others N n) turn 0 < N
-other-below N n turn h k = go (decLt turn n)
-  where
-    go : Dec (turn < n) → getD (others N n) turn 0 < N
-    go (yes l) = omega (arith, others-low N n turn h l)
-    go (no l) = omega (arith, others-high N n turn h (omega arith) k)
 
 module _ (here : Reading) (group : Group) (answers : List ℕ) (i : ℕ) (held : Held here answers) (grouped : Grouped here group) (within : i < group .count) where
   pub own-row : RowAt (here .server * here .rows + (group .first + i)) (here .symbol) (length answers)
@@ -56,7 +49,7 @@ module _ (here : Reading) (group : Group) (answers : List ℕ) (i : ℕ) (held :
         turn = turn;
         source =
             row-at here answers (getD (others (here .servers) (here .server)) (i / group .each) 0) (group .source + i % group .each) held
-            (other-below (here .servers) (here .server) (i / group .each) (held .known) turn)
+            (All-get 0 (others-below (here .servers) (here .server)) (i / group .each) (omega (arith, turn, others-length (here .servers) (here .server) (held .known))))
             (omega (arith, grouped .joined joined, mod-lt i some-each));
       }
     where

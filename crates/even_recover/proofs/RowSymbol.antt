@@ -1,12 +1,14 @@
 -- What a row gives, by the number of messages in its set; and that a copy and a combination write it.
 use Prim.Native.Nat.{ℕ, _+_, _/_, _%_, _≤_}
+use native.Mathlib.Omega.{arith}
 use mathlib.Core.Path.{_≡_, refl, sym, ap, _∙_}
 use mathlib.Core.Logic.{_≢_}
 use mathlib.Core.List.{List}
 use borrow.Author.Tests.{eq-eqb, ne-eqb}
 use lib.ListN.{length, getD}
 use Rattle.lists.specs.Parts.{cut, put}
-use Rattle.lists.proofs.PartsAgain.{put-read, put-again}
+use Rattle.lists.proofs.ReadBack.{cut-put}
+use Rattle.lists.proofs.Puts.{put-over}
 use Rattle.symbol.specs.Xor.{xor}
 use Rattle.symbol.proofs.XorBytes.{xor-length}
 use Rattle.even_places.specs.Rule.{others}
@@ -37,6 +39,6 @@ pub copied-combined : (at size : ℕ) (row source message copied done : List ℕ
 copied-combined at size row source message copied done long fits e f =
     f
     ∙ ap (λ (l : List ℕ). put at (xor .plus (cut at size l) source) l) e
-    ∙ ap (λ (l : List ℕ). put at (xor .plus l source) (put at row message)) (put-read at size row message long fits)
-    ∙ put-again at size row message long fits (xor .plus row source) (xor-length row source ∙ long)
+    ∙ ap (λ (l : List ℕ). put at (xor .plus l source) (put at row message)) (ap (λ (n : ℕ). cut at n (put at row message)) (sym long) ∙ cut-put at row message (omega arith))
+    ∙ put-over at row (xor .plus row source) message (omega arith) (sym (xor-length row source))
     ∙ ap (λ (l : List ℕ). put at l message) (sym (minus-plus row source))

@@ -1,16 +1,15 @@
 -- Recovery server by server: the front of the table of sets is all sets, and one server's parts more are written.
 use Prim.Native.Nat.{ℕ, _+_, _-_, _^_, _≤_}
-use native.Mathlib.Omega.{arith}
 use mathlib.Core.Path.{_≡_, refl, sym, ap, _∙_}
 use mathlib.Core.List.{List, _++_, map, flatMap}
-use lib.ListN.{length, take, length-append, length-map}
-use lib.Seq.{take-at}
+use lib.ListN.{length, take}
 use Rattle.lists.specs.Ranges.{range}
+use Rattle.lists.proofs.Cuts.{front-is, front-fits}
 use Rattle.symbol.specs.Xor.{xor}
 use Rattle.scheme.specs.Scheme.{answersIn}
 use Rattle.even_places.specs.Sets.{byteOf, allSets}
 use Rattle.even_scheme.specs.Even.{assemble, serverParts, recoveredParts, evenScheme}
-use Rattle.even_layout.proofs.Blocks.{all-length}
+use Rattle.even_layout.proofs.Blocks.{all-bytes}
 use Rattle.even_recover.proofs.Written.{assemble-list}
 
 pub record Front (K count : ℕ) (table : List ℕ) : Type 0 where
@@ -18,14 +17,11 @@ pub record Front (K count : ℕ) (table : List ℕ) : Type 0 where
   pub is : take count table ≡ map byteOf (allSets K)
 
 -- a table of all sets, whatever follows them
-pub front-is : (K whole : ℕ) (table rest : List ℕ) → whole ≡ 2 ^ K → table ≡ map byteOf (allSets K) ++ rest → Front K (whole - 1) table
-front-is K whole table rest e f =
+pub sets-front : (K whole : ℕ) (table rest : List ℕ) → whole ≡ 2 ^ K → table ≡ map byteOf (allSets K) ++ rest → Front K (whole - 1) table
+sets-front K whole table rest e f =
     let bytes = map byteOf (allSets K) in
-    let count : length bytes ≡ whole - 1 = omega (arith, length-map (allSets K) byteOf, all-length K) in
-    record {
-      inside = omega (arith, ap length f, length-append bytes rest);
-      is = ap (take (whole - 1)) f ∙ take-at bytes rest (whole - 1) count;
-    }
+    let count = all-bytes K whole e in
+    record { inside = front-fits (whole - 1) table bytes rest f count; is = front-is (whole - 1) table bytes rest f count }
 
 module _ (N K S wanted : ℕ) (key answers : List ℕ) where
   -- the parts of the first servers

@@ -5,15 +5,14 @@ use native.Mathlib.Omega.{arith}
 use mathlib.Core.Path.{_≡_, refl, ap, _∙_}
 use mathlib.Core.Bool.{true}
 use mathlib.Core.List.{List, map, flatMap}
-use lib.ListN.{length, getD, drop, length-append, length-map, List·getD-append}
+use lib.ListN.{length, getD, drop, length-append, List·getD-append}
 use Rattle.lists.specs.Parts.{put}
-use Rattle.lists.specs.Ranges.{range}
 use Rattle.lists.specs.Sums.{keep, sum}
+use Rattle.lists.proofs.Mapped.{mapped-length}
 use Rattle.parameters.specs.Bounds.{evenFits}
 use Rattle.parameters.specs.Measures.{evenRows}
 use Rattle.parameters.proofs.Bounds.{EvenBounds, even-bounds}
 use Rattle.even_places.specs.Sets.{byteOf, allSets}
-use Rattle.even_places.proofs.Counts.{range-length}
 use Rattle.even_scheme.specs.Even.{evenKeyGood, evenQuery, assemble}
 use Rattle.even_layout.specs.Layout.{firstRows, firstRowOf}
 use Rattle.even_layout.proofs.Firsts.{first-rows-at}
@@ -38,7 +37,7 @@ has-query N K wanted server key query space good e =
 
 pub firsts-length : (N K : ℕ) → length (firstRows N K) ≡ 256
 unfolding firstRows
-firsts-length N K = length-map (range 0 256) (firstRowOf N K) ∙ range-length 0 256
+firsts-length N K = mapped-length (firstRowOf N K) 0 256
 
 module _ (N K S wanted server : ℕ) (fits : evenFits N K S ≡ true) (wanted-known : wanted < K) (server-known : server < N) where
   bounds : EvenBounds N K S
@@ -49,7 +48,7 @@ module _ (N K S wanted server : ℕ) (fits : evenFits N K S ≡ true) (wanted-kn
     bounds = bounds;
     wanted-known = wanted-known;
     server-known = server-known;
-    firsts-are = λ A good. ap (λ (l : List ℕ). getD l (byteOf A) 0) e ∙ first-rows-at N K A (bounds .messages-high) (good .long) (good .some-ones);
+    firsts-are = λ A good. ap (λ (l : List ℕ). getD l (byteOf A) 0) e ∙ first-rows-at N K A (bounds .messages-high) (good .long) (good .some);
   }
 
   held : (answers : List ℕ) → N * (evenRows N K * S) ≤ length answers → Held (readingOf N K S wanted server) answers

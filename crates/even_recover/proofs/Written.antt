@@ -1,13 +1,13 @@
 -- Laws of `assemble`: lists of parts one after another, and one part, or one list of them, more.
 use Prim.Native.Nat.{ℕ, _+_}
-use native.Mathlib.Nat.{zero-add}
-use mathlib.Core.Path.{_≡_, refl, sym, ap, _∙_}
-use mathlib.Core.List.{List, [], _∷_, _++_, append-nil, map, flatMap}
+use native.Mathlib.Numerals.{add-one}
+use mathlib.Core.Path.{_≡_, refl, ap, _∙_}
+use mathlib.Core.List.{List, [], _∷_, _++_, map, flatMap}
 use Rattle.lists.specs.Parts.{put}
 use Rattle.lists.specs.Ranges.{range}
-use Rattle.lists.proofs.Flat.{flatMap-append}
-use Rattle.even_places.proofs.Order.{range-append}
-use Rattle.even_places.proofs.SetLaws.{map-append}
+use Rattle.lists.proofs.Joined.{flatMap-next}
+use Rattle.lists.proofs.Ranges.{range-next}
+use Rattle.lists.proofs.Mapped.{map-append}
 use Rattle.even_scheme.specs.Even.{assemble}
 
 abbrev Part : Type 0
@@ -18,10 +18,6 @@ unfolding assemble
 assemble-append [] more buffer = refl
 assemble-append (part ∷ parts) more buffer = assemble-append parts more (put (part .0) (part .1) buffer)
 
-range-next : (i : ℕ) → range 0 (i + 1) ≡ range 0 i ++ (i ∷ [])
-unfolding range
-range-next i = sym (range-append 0 i 1) ∙ ap (λ (from : ℕ). range 0 i ++ (from ∷ [])) (zero-add i)
-
 pub assemble-none : (part : ℕ → Part) (buffer : List ℕ) → buffer ≡ assemble (map part (range 0 0)) buffer
 unfolding assemble range
 assemble-none part buffer = refl
@@ -30,14 +26,12 @@ pub assemble-part : (part : ℕ → Part) (i : ℕ) (buffer : List ℕ)
     → assemble (map part (range 0 (i + 1))) buffer ≡ put (part i .0) (part i .1) (assemble (map part (range 0 i)) buffer)
 unfolding assemble
 assemble-part part i buffer =
-    ap (λ (l : List ℕ). assemble (map part l) buffer) (range-next i)
+    ap (λ (l : List ℕ). assemble (map part l) buffer) (ap (range 0) (add-one i) ∙ range-next i)
     ∙ ap (λ (l : List Part). assemble l buffer) (map-append part (range 0 i) (i ∷ []))
     ∙ assemble-append (map part (range 0 i)) (part i ∷ []) buffer
 
 pub assemble-list : (parts : ℕ → List Part) (i : ℕ) (buffer : List ℕ)
     → assemble (flatMap parts (range 0 (i + 1))) buffer ≡ assemble (parts i) (assemble (flatMap parts (range 0 i)) buffer)
-unfolding flatMap
 assemble-list parts i buffer =
-    ap (λ (l : List ℕ). assemble (flatMap parts l) buffer) (range-next i)
-    ∙ ap (λ (l : List Part). assemble l buffer) (flatMap-append parts (range 0 i) (i ∷ []) ∙ ap (λ (l : List Part). flatMap parts (range 0 i) ++ l) (append-nil (parts i)))
+    ap (λ (l : List Part). assemble l buffer) (ap (λ (n : ℕ). flatMap parts (range 0 n)) (add-one i) ∙ flatMap-next parts i)
     ∙ assemble-append (flatMap parts (range 0 i)) (parts i) buffer

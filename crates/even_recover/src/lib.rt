@@ -2,11 +2,10 @@
 ghost use mathlib.Core.Path.{_≡_};
 ghost use mathlib.Core.Bool.{true};
 ghost use mathlib.Core.List.{map};
-ghost use Prim.Native.Nat.{ℕ, _+_, _-_, _*_, _/_, _%_, _^_, _≤_, _<_};
-ghost use lib.ListN.{length, getD};
+ghost use Prim.Native.Nat.{_+_, _-_, _*_, _/_, _%_, _^_, _≤_, _<_};
+ghost use lib.ListN.{length};
 ghost use Rattle.lists.specs.Parts.{cut, put};
 ghost use Rattle.symbol.specs.Xor.{xor};
-ghost use Rattle.even_places.specs.Rule.{others};
 ghost use Rattle.parameters.specs.Bounds.{evenFits};
 ghost use Rattle.parameters.specs.Measures.{evenRows};
 ghost use Rattle.scheme.specs.Scheme.{answersIn};
@@ -43,14 +42,6 @@ struct Group {
     each: usize,
     // The wanted message's position in the query, in the first row.
     cell: usize,
-}
-
-// The other server than `server` whose turn it is, ascending from turn 0.
-fn other(server: usize, turn: usize) -> usize
-    requires { ⌜ turn < 16 ⌝ }
-    ensures { λ r. ⌜ ((n : ℕ) → server < n → turn < n - 1 → r ≡ getD (others n server) turn 0) ⌝ }
-{
-    if turn < server { turn } else { turn + 1 }
 }
 
 // Copies a row of the answer buffer over a symbol of the message.
@@ -97,7 +88,7 @@ fn from_row(
     let row = here.server * here.rows + (group.first + i);
     copy_row(here.symbol, number, row, answers, message);
     if group.messages != 1 {
-        let source = other(here.server, i / group.each) * here.rows
+        let source = even_layout::other_server(here.server, i / group.each) * here.rows
             + (group.source + i % group.each);
         combine_row(here.symbol, number, source, answers, message);
     }

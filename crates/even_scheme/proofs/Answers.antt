@@ -5,11 +5,10 @@ use mathlib.Core.List.{List, [], _∷_, zipWith}
 use Prim.Native.Nat.{ℕ, suc, _+_, _-_, _*_, _^_, _≤_, _<_}
 use native.Mathlib.Nat.{suc-mul, zero-mul}
 use native.Mathlib.Omega.{arith}
-use lib.ListN.{length, drop, length-append, length-map, replicate, length-replicate}
+use lib.ListN.{length, drop, length-append, length-map, length-replicate}
 use Rattle.lists.specs.Below.{Below}
 use Rattle.lists.specs.Sums.{All, allNil, allCons}
 use Rattle.lists.proofs.Below.{below-drop}
-use Rattle.lists.proofs.Sums.{All-imp, All-flatMap, All-replicate}
 use Rattle.parameters.specs.Bounds.{evenFits}
 use Rattle.parameters.specs.Measures.{evenSizes, evenRows}
 use Rattle.parameters.proofs.Bounds.{even-bounds}
@@ -19,8 +18,8 @@ use Rattle.even_places.specs.Sets.{ones, members}
 use Rattle.even_places.specs.Rule.{rows, layout}
 use Rattle.even_places.proofs.Counts.{rows-length}
 use Rattle.even_places.proofs.Joined.{same-layout}
-use Rattle.even_places.proofs.RowNumbers.{allSets-good, layout-by-set}
 use Rattle.even_places.proofs.SetLaws.{setOf}
+use Rattle.even_places.proofs.AllSets.{layout-long}
 use Rattle.even_scheme.specs.Even.{symbolAt, rowAnswer, rowAnswers, evenAnswer, evenScheme}
 use Rattle.even_scheme.proofs.Measures.{rows-counted}
 use Rattle.even_scheme.proofs.Reach.{admitted}
@@ -32,11 +31,6 @@ layout-length N K wide some =
     ∙ length-map (rows N K 0 0) setOf
     ∙ rows-length N K 0 wide some 0 (omega arith)
     ∙ sym (rows-counted N K wide some)
-
-layout-sets : (N K : ℕ) → All (λ A. length A ≡ K) (layout N K)
-layout-sets N K =
-    rw (layout-by-set N K)
-    (All-flatMap (λ A. replicate ((N - 1) ^ (ones A - 1)) A) (All-imp (λ A good. All-replicate ((N - 1) ^ (ones A - 1)) A (good .long)) (allSets-good K)))
 
 members-below : (K q : ℕ) (A : List Bool) → q + length A ≤ K → All (λ p. p < K) (members q A)
 unfolding members
@@ -82,7 +76,7 @@ module _ (sum : Sum) (N K S : ℕ) (keeps : KeepsLength (sum .plus) S) (fits : e
   unfolding evenAnswer evenSizes
   answer-length server store query long admits =
       let bounds = even-bounds N K S fits in
-      rows-long sum N K S keeps store long (layout-sets N K) query (admitted N K server query admits .low)
+      rows-long sum N K S keeps store long (layout-long N K) query (admitted N K server query admits .low)
       ∙ ap (λ (rows : ℕ). rows * S) (layout-length N K (bounds .servers-low) (bounds .messages-low))
 
 pub answer-fits : (sum : Sum) (N K S server : ℕ) (query : List ℕ) → evenScheme sum N K S .admits server query ≡ true

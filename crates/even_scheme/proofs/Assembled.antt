@@ -11,9 +11,9 @@ use lib.Seq.{ext-getD}
 use Rattle.lists.specs.Any.{Any, anyHere, anyLater}
 use Rattle.lists.specs.Parts.{cut, put}
 use Rattle.lists.specs.Sums.{All, allNil, allCons}
-use Rattle.lists.proofs.Parts.{put-length}
-use Rattle.lists.proofs.PartsAt.{put-inside, put-before, put-after, put-cut}
-use Rattle.lists.proofs.Sums.{All-imp}
+use Rattle.lists.proofs.Puts.{put-length}
+use Rattle.lists.proofs.ReadBack.{getD-put-inside, getD-put-before, getD-put-after, put-cut}
+use Rattle.lists.proofs.Each.{All-imp}
 use Rattle.even_scheme.specs.Even.{assemble}
 
 abbrev pub Part : Type 0
@@ -35,8 +35,8 @@ module _ (part : Part) where
       → getD (put (part .0) (part .1) a) j 0 ≡ getD (put (part .0) (part .1) b) j 0
   put-in j a b ha hb (low, high) =
       at-start a
-      ∙ put-inside (part .0) (part .1) a ha (j - part .0) inside
-      ∙ sym (at-start b ∙ put-inside (part .0) (part .1) b hb (j - part .0) inside)
+      ∙ getD-put-inside (part .0) (part .1) a ha (j - part .0) inside
+      ∙ sym (at-start b ∙ getD-put-inside (part .0) (part .1) b hb (j - part .0) inside)
     where
       inside : j - part .0 < length (part .1)
       inside = omega arith
@@ -49,13 +49,13 @@ module _ (part : Part) where
   put-out j a h out = go (decLt j (part .0)) (decLt j (part .0 + length (part .1)))
     where
       go : Dec (j < part .0) → Dec (j < part .0 + length (part .1)) → getD (put (part .0) (part .1) a) j 0 ≡ getD a j 0
-      go (yes l) k = put-before (part .0) (part .1) a h j l
+      go (yes l) k = getD-put-before (part .0) (part .1) a h j l
       go (no l) (yes k) = absurd (out (omega arith, k))
       go (no l) (no k) =
           let i = j - (part .0 + length (part .1)) in
           let e : j ≡ part .0 + length (part .1) + i = omega arith in
           ap (λ (n : ℕ). getD (put (part .0) (part .1) a) n 0) e
-          ∙ put-after (part .0) (part .1) a h i
+          ∙ getD-put-after (part .0) (part .1) a h i
           ∙ ap (λ (n : ℕ). getD a n 0) (sym e)
 
   in-part : (j : ℕ) → Dec (In j part)
@@ -135,13 +135,13 @@ module _ (size : ℕ) where
           go : Dec (j < size) → getD (assemble parts buffer) j 0 ≡ getD (put 0 made buffer) j 0
           go (yes i) =
               assemble-in within j buffer fresh l (omega arith) (covers j i)
-              ∙ sym (put-inside 0 made buffer fits j (omega (arith, size-made)))
+              ∙ sym (getD-put-inside 0 made buffer fits j (omega (arith, size-made)))
               ∙ ap (λ (n : ℕ). getD (put 0 made buffer) n 0) (zero-add j)
           go (no i) =
               let p : j ≡ 0 + length made + (j - size) = omega (arith, size-made) in
               assemble-out within j buffer l (omega arith)
               ∙ ap (λ (n : ℕ). getD buffer n 0) p
-              ∙ sym (put-after 0 made buffer fits (j - size))
+              ∙ sym (getD-put-after 0 made buffer fits (j - size))
               ∙ ap (λ (n : ℕ). getD (put 0 made buffer) n 0) (sym p)
 
 -- ---- Parts of one message

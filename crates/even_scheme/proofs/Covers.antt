@@ -9,14 +9,15 @@ use lib.ListN.{length, getD, length-map, List·getD-map}
 use Rattle.lists.specs.Arranged.{placeIn}
 use Rattle.lists.specs.Ranges.{range}
 use Rattle.lists.specs.Sums.{All}
-use Rattle.lists.proofs.Any.{Any-at, All-range}
+use Rattle.lists.proofs.Any.{Any-at}
+use Rattle.lists.proofs.Ranges.{All-range}
 use Rattle.lists.proofs.Arranged.{Permutation, covers}
-use Rattle.lists.proofs.Each.{All-get}
-use Rattle.lists.proofs.Sums.{All-imp, All-keep, All-flatMap, All-map}
+use Rattle.lists.proofs.Each.{All-get, All-imp, All-keep, All-flatMap, All-map}
 use Rattle.symbol.specs.Sum.{Sum}
 use Rattle.scheme.specs.Scheme.{Valid}
 use Rattle.even_places.specs.Sets.{has, ones}
-use Rattle.even_places.proofs.RowNumbers.{Good, allSets-good, WantedRow}
+use Rattle.even_places.proofs.RowNumbers.{WantedRow}
+use Rattle.even_places.proofs.AllSets.{IsSet, all-sets}
 use Rattle.even_scheme.specs.Even.{numberAt, recoveredSymbol, wantedPlace, recoveredPart, serverParts, recoveredParts, evenScheme}
 use Rattle.even_scheme.proofs.Assembled.{Part, Within, Covers}
 use Rattle.even_scheme.proofs.Once.{symbols-once}
@@ -35,9 +36,9 @@ module _ (sum : Sum) (N K S k : ℕ) (key : List ℕ) (answers : List (List ℕ)
   unfolding recoveredParts serverParts part setParts
   each-part {P} p =
       All-flatMap (serverParts sum N K S k key answers)
-      (All-range N (λ n l. All-flatMap (setParts n) (All-imp (λ A h. of-set n l A (h .0) (h .1)) (All-keep (has k) (allSets-good K)))))
+      (All-range N (λ n l. All-flatMap (setParts n) (All-imp (λ A h. of-set n l A (h .0) (h .1)) (All-keep (has k) (all-sets K)))))
     where
-      of-set : (n : ℕ) → n < N → (A : List Bool) → Good K A → has k A ≡ true → All P (setParts n A)
+      of-set : (n : ℕ) → n < N → (A : List Bool) → IsSet K A → has k A ≡ true → All P (setParts n A)
       of-set n l A good in-set = All-map (part n A) (All-range ((N - 1) ^ (ones A - 1)) (λ i h. p n A i (record { server-below = l; set-good = good; in-set = in-set; row-below = h })))
 
 -- each recovered symbol has its length

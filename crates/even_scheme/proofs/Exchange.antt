@@ -9,7 +9,7 @@ use Rattle.lists.specs.Pairs.{under}
 use Rattle.lists.proofs.Arranged.{Permutation, arranged-permutation, carried-back, picked-permutation}
 use Rattle.lists.proofs.Completed.{carried-shown, completed-permutation}
 use Rattle.lists.proofs.Pairs.{under-length, same-under}
-use Rattle.lists.proofs.Sums.{All-imp}
+use Rattle.lists.proofs.Each.{All-imp}
 use Rattle.parameters.specs.Bounds.{evenFits}
 use Rattle.parameters.proofs.Bounds.{even-bounds}
 use Rattle.scheme.specs.Scheme.{Valid}

@@ -3,42 +3,30 @@ use mathlib.Core.Path.{_≡_, refl, sym, ap, _∙_}
 use mathlib.Core.Bool.{Bool}
 use mathlib.Core.List.{List, [], _∷_, _++_, map, map-append, flatMap, zipWith}
 use mathlib.Core.Option.{none, some}
-use Prim.Native.Nat.{ℕ, suc, _+_, _-_, _*_, _^_, _≤_, _<_}
+use Prim.Native.Nat.{ℕ, suc, _+_, _-_, _*_, _^_, _<_}
 use native.Mathlib.Nat.{one-le-pow}
 use native.Mathlib.Omega.{arith}
 use lib.ListN.{length, getD, drop, length-map}
 use lib.Seq.{drop-at}
 use Rattle.lists.specs.Below.{Below}
 use Rattle.lists.specs.Parts.{cut}
-use Rattle.lists.specs.Sums.{All, allNil, allCons, bit, sum}
-use Rattle.lists.proofs.PartsAt.{flatMap-cut}
-use Rattle.lists.proofs.Ranges.{map-range-at}
-use Rattle.lists.proofs.Sums.{All-imp}
+use Rattle.lists.specs.Sums.{All, allNil, allCons, sum}
+use Rattle.lists.proofs.Cuts.{flatMap-cut}
+use Rattle.lists.proofs.Mapped.{mapped-at}
+use Rattle.lists.proofs.Each.{All-imp}
 use Rattle.symbol.specs.Group.{AbelianGroup, Symbols, none, more}
 use Rattle.symbol.specs.Sum.{Sum, total}
 use Rattle.symbol.proofs.Totals.{total-symbol}
 use Rattle.scheme.specs.Scheme.{Valid, honestAnswers}
 use Rattle.even_places.specs.Sets.{ones, members}
 use Rattle.even_places.specs.Rule.{Row, isSome, rows, cells, queryCells, layout, firstRow}
-use Rattle.even_places.proofs.Flat.{rows-long}
+use Rattle.even_places.proofs.Flat.{cells-messages, rows-long}
 use Rattle.even_places.proofs.Joined.{same-layout}
-use Rattle.even_places.proofs.RowNumbers.{Good, setRows, row-number}
-use Rattle.even_places.proofs.SetLaws.{setOf}
+use Rattle.even_places.proofs.RowNumbers.{setRows, row-number}
+use Rattle.even_places.proofs.SetLaws.{setOf, cells-length}
+use Rattle.even_places.proofs.AllSets.{IsSet}
 use Rattle.even_scheme.specs.Even.{numberAt, evenQuery, symbolAt, rowAnswer, rowAnswers, evenAnswer, answeredRow, evenScheme}
 use Rattle.even_scheme.proofs.Symbols.{number-below, symbol-symbol}
-
--- a row has a cell for each message of its set
-pub cells-count : (q : ℕ) (r : Row) → length (cells q r) ≡ ones (setOf r)
-unfolding cells setOf isSome ones sum bit
-cells-count q [] = refl
-cells-count q (none ∷ r) = omega (arith, cells-count (suc q) r)
-cells-count q (some x ∷ r) = omega (arith, cells-count (suc q) r)
-
-cells-below : (K q : ℕ) (r : Row) → q + length r ≤ K → All (λ cell. cell .0 < K) (cells q r)
-unfolding cells
-cells-below K q [] h = allNil
-cells-below K q (none ∷ r) h = cells-below K (suc q) r (omega arith)
-cells-below K q (some x ∷ r) h = allCons {x = (q, x)} (omega arith) (cells-below K (suc q) r (omega arith))
 
 module _ (sum : Sum) (N K S : ℕ) (store key : List ℕ) where
   -- the number that a cell names, and the symbol
@@ -68,9 +56,9 @@ module _ (sum : Sum) (N K S : ℕ) (store key : List ℕ) where
       (ap (λ (l : List ℕ). rowTotal r ++ l) (rows-answered rs))
     where
       rest : drop (ones (setOf r)) (map cellNumber (cells 0 r) ++ map cellNumber (flatMap (cells 0) rs)) ≡ map cellNumber (flatMap (cells 0) rs)
-      rest = drop-at (map cellNumber (cells 0 r)) (map cellNumber (flatMap (cells 0) rs)) (ones (setOf r)) (length-map (cells 0 r) cellNumber ∙ cells-count 0 r)
+      rest = drop-at (map cellNumber (cells 0 r)) (map cellNumber (flatMap (cells 0) rs)) (ones (setOf r)) (length-map (cells 0 r) cellNumber ∙ cells-length 0 r)
 
-  pub answer-rows : (k n : ℕ) → 1 < N → k < K → n < N → evenAnswer sum N K S store (evenQuery N K k n key) ≡ flatMap rowTotal (rows N K k n)
+  answer-rows : (k n : ℕ) → 1 < N → k < K → n < N → evenAnswer sum N K S store (evenQuery N K k n key) ≡ flatMap rowTotal (rows N K k n)
   unfolding evenAnswer evenQuery queryCells cellNumber
   answer-rows k n wide known l =
       ap (λ (L : List (List Bool)). rowAnswers sum N K S store L (map cellNumber (flatMap (cells 0) (rows N K k n)))) (sym (same-layout N K k wide known n l))
@@ -101,15 +89,15 @@ module _ (sum : Sum) (N K S k : ℕ) (store key : List ℕ) (run : Retrieval sum
       (cell-symbols a)
 
   pub row-symbols : (r : Row) → length r ≡ K → Symbols S (map (cellSymbol sum N K S store key) (cells 0 r))
-  row-symbols r e = cell-symbols (cells-below K 0 r (omega arith))
+  row-symbols r e = cell-symbols (All-imp (λ cell h. omega (arith, h)) (cells-messages r 0))
 
   -- row i of set A in server n's answer
-  pub honest-row : (n : ℕ) → n < N → (A : List Bool) (i : ℕ) → Good K A → i < (N - 1) ^ (ones A - 1)
+  pub honest-row : (n : ℕ) → n < N → (A : List Bool) (i : ℕ) → IsSet K A → i < (N - 1) ^ (ones A - 1)
       → answeredRow sum N K S k (honestAnswers (evenScheme sum N K S) N store k key) n (firstRow A (layout N K) + i)
       ≡ rowTotal sum N K S store key (getD (setRows N K k n A) i [])
   unfolding answeredRow honestAnswers rowTotal
   honest-row n l A i set-good h =
-      ap (cut ((firstRow A (layout N K) + i) * S) S) (map-range-at (λ m. evenAnswer sum N K S store (evenQuery N K k m key)) N n [] l ∙ answer-rows sum N K S store key k n (run .wide) (run .known) l)
+      ap (cut ((firstRow A (layout N K) + i) * S) S) (mapped-at (λ m. evenAnswer sum N K S store (evenQuery N K k m key)) [] N n l ∙ answer-rows sum N K S store key k n (run .wide) (run .known) l)
       ∙ flatMap-cut (rowTotal sum N K S store key) S []
       (All-imp (λ r e. total-symbol sum S (run .group) (row-symbols r e) .long) (rows-long N K k (run .wide) (run .known) n))
       (firstRow A (layout N K) + i) (number .0)

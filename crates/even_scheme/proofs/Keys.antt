@@ -1,16 +1,16 @@
 -- Keys: a valid key is K permutations (`key-permutation`), and any K permutations are a valid key (`key-of`, `key-of-valid`).
-use Prim.Native.Nat.{ℕ, _^_, _<_}
+use Prim.Native.Nat.{ℕ, _*_, _^_, _<_}
+use native.Mathlib.Nat.{zero-add}
 use native.Mathlib.Omega.{arith}
 use mathlib.Core.Path.{_≡_, ap, _∙_}
 use mathlib.Core.List.{List, flatMap}
 use Rattle.lists.specs.Distinct.{isPermutation}
 use Rattle.lists.specs.Ranges.{range}
 use Rattle.lists.proofs.Arranged.{Permutation, permutation-facts, facts-permutation}
-use Rattle.lists.proofs.Cuts.{joined-length, cut-joined, joined-cuts}
-use Rattle.lists.proofs.Kept.{flatMap-all}
+use Rattle.lists.proofs.Cuts.{flatMap-cut, joined-cuts}
+use Rattle.lists.proofs.Joined.{flatMap-all, flatMap-size}
 use Rattle.lists.proofs.Every.{every-at, every-true}
-use Rattle.lists.proofs.Ranges.{range-below}
-use Rattle.lists.proofs.Sums.{All-imp}
+use Rattle.lists.proofs.Ranges.{range-length, range-at, All-range}
 use Rattle.parameters.specs.Measures.{evenSizes}
 use Rattle.scheme.specs.Scheme.{Valid}
 use Rattle.symbol.specs.Sum.{Sum}
@@ -33,13 +33,14 @@ module _ (sum : Sum) (N K S : ℕ) where
   module _ (g : ℕ → List ℕ) (each : (p : ℕ) → p < K → Permutation (N ^ K) (g p)) where
     pub key-of : (p : ℕ) → p < K → permutation N K (keyOf K g) p ≡ g p
     unfolding keyOf permutation
-    key-of p h = cut-joined g (N ^ K) K (λ i l. each i l .long) p h
+    key-of p h =
+        flatMap-cut g (N ^ K) 0 (All-range K (λ i l. each i l .long)) p (omega (arith, range-length 0 K)) ∙ ap g (range-at 0 K p 0 h ∙ zero-add p)
 
     pub key-of-valid : Valid (evenScheme sum N K S) (keyOf K g)
     unfolding keyOf evenKeyGood evenSizes
     key-of-valid =
         record {
-          long = joined-length g (N ^ K) K (λ i l. each i l .long);
+          long = flatMap-size g (N ^ K) (All-range K (λ i l. each i l .long)) ∙ ap (λ n. n * N ^ K) (range-length 0 K);
           good = every-true K (λ p. isPermutation (N ^ K) (permutation N K (keyOf K g) p))
               (λ p h. ap (isPermutation (N ^ K)) (key-of p h) ∙ facts-permutation (N ^ K) (g p) (each p h));
         }
@@ -47,4 +48,4 @@ module _ (sum : Sum) (N K S : ℕ) where
 -- keys with the same permutations are the same
 pub key-same : (K : ℕ) (g h : ℕ → List ℕ) → ((p : ℕ) → p < K → g p ≡ h p) → keyOf K g ≡ keyOf K h
 unfolding keyOf
-key-same K g h e = flatMap-all g h (All-imp (λ p l. e p l) (range-below K 0 K (omega arith)))
+key-same K g h e = flatMap-all g h (All-range K e)

@@ -13,10 +13,9 @@ use Rattle.lists.specs.Distinct.{distinct}
 use Rattle.lists.specs.Pairs.{under}
 use Rattle.lists.proofs.Arranged.{picked-distinct}
 use Rattle.lists.proofs.Below.{below-allBelow}
-use Rattle.lists.proofs.Each.{All-get}
+use Rattle.lists.proofs.Each.{All-get, All-imp, All-map}
 use Rattle.lists.proofs.Pairs.{zip-map, zip-firsts, zip-seconds, under-map, under-length, same-under}
 use Rattle.lists.proofs.Every.{every-true}
-use Rattle.lists.proofs.Sums.{All-imp, All-map}
 use Rattle.parameters.specs.Bounds.{evenFits}
 use Rattle.parameters.specs.Measures.{evenSizes}
 use Rattle.parameters.proofs.Bounds.{even-bounds}

@@ -14,7 +14,7 @@ use Rattle.lists.specs.Ranges.{every}
 use Rattle.lists.proofs.Arranged.{Permutation, arranged-permutation}
 use Rattle.lists.proofs.Completed.{completed-shown, completed-permutation}
 use Rattle.lists.proofs.Below.{allBelow-below}
-use Rattle.lists.proofs.Distinct.{and-both}
+use Rattle.lists.proofs.Both.{both-true}
 use Rattle.lists.proofs.Pairs.{under-below}
 use Rattle.lists.proofs.Every.{every-at}
 use Rattle.parameters.specs.Bounds.{evenFits}
@@ -48,8 +48,8 @@ module _ (N K : ℕ) where
   pub admitted : (server : ℕ) (query : List ℕ) → evenAdmits N K server query ≡ true → Admitted query
   unfolding evenAdmits
   admitted server query e =
-      let a = and-both (eqb (length query) (K * N ^ (K - 1))) (allBelow (N ^ K) query && every K (λ p. distinct (numbersOf N K p query))) e in
-      let b = and-both (allBelow (N ^ K) query) (every K (λ p. distinct (numbersOf N K p query))) (a .1) in
+      let a = both-true (eqb (length query) (K * N ^ (K - 1))) (allBelow (N ^ K) query && every K (λ p. distinct (numbersOf N K p query))) e in
+      let b = both-true (allBelow (N ^ K) query) (every K (λ p. distinct (numbersOf N K p query))) (a .1) in
       record {
         long = eqb-true (length query) (K * N ^ (K - 1)) (a .0);
         low = allBelow-below (N ^ K) query (b .0);

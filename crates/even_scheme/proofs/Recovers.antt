@@ -9,7 +9,7 @@ use lib.ListN.{length, length-replicate}
 use Rattle.lists.specs.Below.{Below}
 use Rattle.lists.specs.Parts.{cut}
 use Rattle.lists.specs.Sums.{All}
-use Rattle.lists.proofs.Parts.{cut-length}
+use Rattle.lists.proofs.Cuts.{cut-length}
 use Rattle.parameters.specs.Bounds.{evenFits}
 use Rattle.parameters.specs.Measures.{evenSizes}
 use Rattle.parameters.proofs.Bounds.{even-bounds}

@@ -68,7 +68,7 @@ module _ (sum : Sum) (N K S k : ℕ) (store key : List ℕ) (run : Retrieval sum
           ≡ symbolAt sum N K S store k (numberAt N K key k (place .0))
       go true e = here ∙ row-alone sum N K S k store key run row (place .0) long (place .1) (ap ones its-set ∙ eqb-true (ones A) 1 e)
       go false e =
-          let many : 1 < ones A = omega (arith, eqb-false (ones A) 1 e, wanted .set-good .some-ones) in
+          let many : 1 < ones A = omega (arith, eqb-false (ones A) 1 e, wanted .set-good .some) in
           let source = source-row N K k (run .wide) (run .known) n (wanted .server-below) A i (wanted .set-good) (wanted .in-set) many (wanted .row-below) in
           let there = honest-row sum N K S k store key run m (source .server-below) (set A k false) j (source .set-good) (source .row-below) in
           ap₂ (sum .minus) here (there ∙ ap (rowTotal sum N K S store key) (sym (source .without)))

@@ -12,9 +12,9 @@ use Rattle.symbol.specs.Sum.{Symbol, Sum, total, totalFrom}
 use Rattle.symbol.proofs.Totals.{total-found}
 use Rattle.even_places.specs.Sets.{ones}
 use Rattle.even_places.specs.Rule.{Row, cells}
-use Rattle.even_places.proofs.SetLaws.{setOf}
+use Rattle.even_places.proofs.SetLaws.{setOf, cells-length}
 use Rattle.even_scheme.specs.Even.{numberAt, symbolAt}
-use Rattle.even_scheme.proofs.HonestRows.{cells-count, cellNumber, cellSymbol, rowTotal, Retrieval, row-symbols}
+use Rattle.even_scheme.proofs.HonestRows.{cellNumber, cellSymbol, rowTotal, Retrieval, row-symbols}
 
 nothing : {x : ℕ} → none ≡ some x → ⊥
 nothing e = let z : _≡_ {A = ℕ} 0 1 = cc in omega arith
@@ -96,7 +96,7 @@ module _ (sum : Sum) (N K S k : ℕ) (store key : List ℕ) (run : Retrieval sum
   -- a row with the wanted message alone is its symbol
   pub row-alone : ones (setOf r) ≡ 1 → rowTotal sum N K S store key r ≡ symbolAt sum N K S store k (numberAt N K key k x)
   unfolding rowTotal named total totalFrom
-  row-alone one = ap (total sum S) whole ∙ go before after (sym (ap length whole) ∙ length-map (cells 0 r) named ∙ cells-count 0 r ∙ one) ∙ wanted-cell
+  row-alone one = ap (total sum S) whole ∙ go before after (sym (ap length whole) ∙ length-map (cells 0 r) named ∙ cells-length 0 r ∙ one) ∙ wanted-cell
     where
       go : (xs ys : List (List ℕ)) → length (xs ++ named (0 + k, x) ∷ ys) ≡ 1 → total sum S (xs ++ named (0 + k, x) ∷ ys) ≡ named (0 + k, x)
       go [] [] e = run .group .zero-plus (parts .1)

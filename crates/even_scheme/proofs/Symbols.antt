@@ -12,8 +12,7 @@ use Rattle.lists.specs.Distinct.{isPermutation}
 use Rattle.lists.specs.Parts.{cut}
 use Rattle.lists.proofs.Arranged.{Permutation, permutation-facts}
 use Rattle.lists.proofs.Below.{below-take, below-drop}
-use Rattle.lists.proofs.Parts.{cut-length}
-use Rattle.lists.proofs.PartsAt.{cut-cut}
+use Rattle.lists.proofs.Cuts.{cut-length, cut-cut}
 use Rattle.lists.proofs.Every.{every-at}
 use Rattle.symbol.specs.Sum.{Symbol, Sum}
 use Rattle.even_scheme.specs.Even.{permutation, numberAt, evenKeyGood, symbolAt}

@@ -11,8 +11,8 @@ use lib.Dec.{eqb}
 use lib.ListN.{length, getD, set, length-replicate}
 use Rattle.lists.specs.Parts.{cut, put}
 use Rattle.lists.specs.Sums.{All}
-use Rattle.lists.proofs.Parts.{cut-length}
-use Rattle.lists.proofs.Ranges.{map-range-at}
+use Rattle.lists.proofs.Cuts.{cut-length}
+use Rattle.lists.proofs.Mapped.{mapped-at}
 use Rattle.parameters.specs.Bounds.{evenFits}
 use Rattle.parameters.specs.Measures.{evenSizes, evenRows}
 use Rattle.parameters.proofs.Bounds.{EvenBounds, even-bounds}
@@ -22,10 +22,11 @@ use Rattle.scheme.specs.Scheme.{Valid, answersIn}
 use Rattle.even_places.specs.Sets.{ones}
 use Rattle.even_places.specs.Rule.{others, firstRow, layout}
 use Rattle.even_places.proofs.Counts.{rows-length}
-use Rattle.even_places.proofs.RowNumbers.{Good, row-number}
+use Rattle.even_places.proofs.RowNumbers.{row-number}
 use Rattle.even_places.proofs.SourceRows.{source-row}
+use Rattle.even_places.proofs.AllSets.{IsSet}
 use Rattle.even_scheme.specs.Even.{assemble, answeredRow, sourceServer, sourceRow, recoveredSymbol, recoveredParts, evenScheme}
-use Rattle.even_scheme.proofs.Assembled.{Within, assemble-length, assemble-anywhere}
+use Rattle.even_scheme.proofs.Assembled.{Within, assemble-anywhere}
 use Rattle.even_scheme.proofs.Covers.{Whole, parts-within, parts-cover}
 use Rattle.even_scheme.proofs.Measures.{rows-counted}
 
@@ -35,7 +36,7 @@ FullAnswers N K S answers = (n : ℕ) → n < N → length (getD answers n []) �
 
 module _ (sum : Sum) (N K S k : ℕ) (keeps : KeepsLength (sum .minus) S) (wide : 1 < N) (known : k < K) (answers : List (List ℕ)) (long : FullAnswers N K S answers) where
   -- row i of set A lies whole in a server's answer
-  answered-long : (n : ℕ) → n < N → (A : List Bool) → Good K A → (i : ℕ) → i < (N - 1) ^ (ones A - 1)
+  answered-long : (n : ℕ) → n < N → (A : List Bool) → IsSet K A → (i : ℕ) → i < (N - 1) ^ (ones A - 1)
       → length (answeredRow sum N K S k answers n (firstRow A (layout N K) + i)) ≡ S
   unfolding answeredRow
   answered-long n l A good i h =
@@ -66,7 +67,7 @@ module _ (sum : Sum) (N K S k : ℕ) (keeps : KeepsLength (sum .minus) S) (wide 
       go : (t : Bool) → eqb (ones A) 1 ≡ t → length (cond t here (sum .minus here there)) ≡ S
       go true e = here-long
       go false e =
-          let many : 1 < ones A = omega (arith, eqb-false (ones A) 1 e, wanted .set-good .some-ones) in
+          let many : 1 < ones A = omega (arith, eqb-false (ones A) 1 e, wanted .set-good .some) in
           let source = source-row N K k wide known n (wanted .server-below) A i (wanted .set-good) (wanted .in-set) many (wanted .row-below) in
           keeps here there here-long (answered-long m (source .server-below) (set A k false) (source .set-good) j (source .row-below))
 
@@ -82,14 +83,8 @@ module _ (sum : Sum) (N K S : ℕ) (keeps : KeepsLength (sum .minus) S) (fits : 
     within : All (Within (N ^ K * S)) (recoveredParts sum N K S wanted key answers)
     within = parts-within sum N K S wanted key answers (bounds .servers-low) known valid whole
 
-    pub recover-length : length (evenScheme sum N K S .recover wanted key answers) ≡ evenScheme sum N K S .sizes .message
-    unfolding evenSizes
-    recover-length =
-        let blank : length (zeros (N ^ K * S)) ≡ N ^ K * S = length-replicate (N ^ K * S) 0 in
-        assemble-length (N ^ K * S) within (zeros (N ^ K * S)) (omega arith) ∙ blank
-
     -- the parts written into a buffer are the recovered message at its start
-    pub recover-written : (buffer : List ℕ) → evenScheme sum N K S .sizes .message ≤ length buffer
+    recover-written : (buffer : List ℕ) → evenScheme sum N K S .sizes .message ≤ length buffer
         → assemble (recoveredParts sum N K S wanted key answers) buffer ≡ put 0 (evenScheme sum N K S .recover wanted key answers) buffer
     unfolding evenSizes
     recover-written buffer room =
@@ -104,13 +99,10 @@ module _ (sum : Sum) (N K S : ℕ) (keeps : KeepsLength (sum .minus) S) (fits : 
     unfolding answersIn evenSizes
     slots-long n l =
         let slot = evenRows N K * S in
-        ap length (map-range-at (λ server. cut (server * slot) slot slots) N n [] l)
+        ap length (mapped-at (λ server. cut (server * slot) slot slots) [] N n l)
         ∙ cut-length (n * slot) slot slots (omega (arith, suc-mul n slot, mul-le-mul-right slot l))
 
     pub slots-written : (buffer : List ℕ) → evenScheme sum N K S .sizes .message ≤ length buffer
         → assemble (recoveredParts sum N K S wanted key (answersIn (evenScheme sum N K S) N wanted key slots)) buffer
         ≡ put 0 (evenScheme sum N K S .recover wanted key (answersIn (evenScheme sum N K S) N wanted key slots)) buffer
     slots-written buffer room = recover-written (answersIn (evenScheme sum N K S) N wanted key slots) slots-long buffer room
-
-    pub slots-recover-length : length (evenScheme sum N K S .recover wanted key (answersIn (evenScheme sum N K S) N wanted key slots)) ≡ evenScheme sum N K S .sizes .message
-    slots-recover-length = recover-length (answersIn (evenScheme sum N K S) N wanted key slots) slots-long

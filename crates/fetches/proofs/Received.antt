@@ -36,11 +36,6 @@ taken : ℕ → List ℕ → ℕ
 taken zero got = 0
 taken (suc n) got = taken n got + one (has n got)
 
-taken-none : (n : ℕ) → taken n [] ≡ 0
-unfolding taken one
-taken-none zero = refl
-taken-none (suc n) = omega (arith, taken-none n)
-
 taken-most : (n : ℕ) (got : List ℕ) → taken n got ≤ n
 unfolding taken one
 taken-most zero got = omega arith

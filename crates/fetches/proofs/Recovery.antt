@@ -10,7 +10,7 @@ use lib.ListN.{length}
 use Rattle.lists.specs.Parts.{put}
 use Rattle.lists.specs.Below.{Below}
 use Rattle.lists.proofs.Every.{every-true, every-false}
-use Rattle.lists.proofs.Ranges.{map-range}
+use Rattle.lists.proofs.Mapped.{map-range}
 use Rattle.refusal.specs.declared.Refusal.the-variants.{Room, Missing}
 use Rattle.refusal.specs.declared.Verdict.{Verdict}
 use Rattle.refusal.specs.declared.Verdict.the-variants.{Accepted, Refused}

@@ -10,8 +10,7 @@ use lib.Dec.{eqb}
 use lib.ListN.{length, replicate, length-replicate}
 use lib.Seq.{take-all}
 use Rattle.lists.specs.Ranges.{range}
-use Rattle.lists.proofs.Parts.{cut-length}
-use Rattle.lists.proofs.Slots.{slot-end}
+use Rattle.lists.proofs.Cuts.{cut-length, slot-end}
 use Rattle.refusal.specs.declared.Verdict.the-variants.{Accepted}
 use Rattle.refusal.specs.declared.Outcome.the-variants.{Value}
 use Rattle.scheme.specs.Scheme.{Scheme, Valid, messageOf}

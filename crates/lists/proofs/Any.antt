@@ -1,26 +1,14 @@
--- Laws of `Any`: an element with a property by its place, in joined lists, and in a range; and `All` of a range.
-use mathlib.Core.Path.{sym, subst, _∙_}
-use mathlib.Core.List.{List, [], _∷_, _++_, flatMap}
+-- Laws of `Any`: an element with a property, by its place, under a weaker property, and in a sum that is not 0.
+use mathlib.Core.List.{List, [], _∷_}
 use Prim.Native.Nat.{ℕ, zero, suc, _<_}
-use native.Mathlib.Nat.{zero-add, not-suc-le-zero}
+use native.Mathlib.Nat.{not-suc-le-zero}
 use native.Mathlib.Decide.{decLt}
 use native.Mathlib.Omega.{arith}
 use lib.ListN.{length, getD}
 use Rattle.lists.specs.Any.{Any, anyHere, anyLater}
-use Rattle.lists.specs.Ranges.{range}
-use Rattle.lists.specs.Sums.{All, sum}
-use Rattle.lists.proofs.Ranges.{range-length, range-at, range-below}
-use Rattle.lists.proofs.Sums.{All-imp}
+use Rattle.lists.specs.Sums.{sum}
 
 module _ {A : Type 0} where
-  Any-left : {P : A → Type 0} {xs : List A} (ys : List A) → Any P xs → Any P (xs ++ ys)
-  Any-left ys (anyHere p) = anyHere p
-  Any-left ys (anyLater a) = anyLater (Any-left ys a)
-
-  Any-right : {P : A → Type 0} (xs : List A) {ys : List A} → Any P ys → Any P (xs ++ ys)
-  Any-right [] a = a
-  Any-right (x ∷ xs) a = anyLater (Any-right xs a)
-
   pub Any-imp : {P Q : A → Type 0} → ((x : A) → P x → Q x) → {xs : List A} → Any P xs → Any Q xs
   Any-imp h (anyHere {x = x} p) = anyHere (h x p)
   Any-imp h (anyLater a) = anyLater (Any-imp h a)
@@ -39,16 +27,3 @@ module _ {A : Type 0} where
       go : Dec (0 < w x) → (0 < sum w xs → Any (λ y. 0 < w y) xs) → Any (λ y. 0 < w y) (x ∷ xs)
       go (yes p) f = anyHere p
       go (no p) f = anyLater (f (omega arith))
-
-module _ {A B : Type 0} where
-  pub Any-flatMap : {P : A → Type 0} (g : B → List A) {xs : List B} → Any (λ x. Any P (g x)) xs → Any P (flatMap g xs)
-  unfolding flatMap
-  Any-flatMap g (anyHere {x = x} {xs = xs} a) = Any-left (flatMap g xs) a
-  Any-flatMap g (anyLater {x = x} a) = Any-right (g x) (Any-flatMap g a)
-
-module _ {P : ℕ → Type 0} where
-  pub Any-range : (count i : ℕ) → i < count → P i → Any P (range 0 count)
-  Any-range count i h p = Any-at 0 (range 0 count) i (omega (arith, range-length 0 count)) (subst P (sym (range-at 0 count i 0 h ∙ zero-add i)) p)
-
-  pub All-range : (count : ℕ) → ((i : ℕ) → i < count → P i) → All P (range 0 count)
-  All-range count h = All-imp h (range-below count 0 count (omega arith))

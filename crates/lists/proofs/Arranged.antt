@@ -16,8 +16,10 @@ use Rattle.lists.specs.Distinct.{stands, distinct, isPermutation}
 use Rattle.lists.specs.Ranges.{range}
 use Rattle.lists.specs.Sums.{bit, sum}
 use Rattle.lists.proofs.Below.{allBelow-below, below-allBelow}
-use Rattle.lists.proofs.Distinct.{bit-small, and-both, place-of, distinct-apart, apart-distinct, stands-count}
-use Rattle.lists.proofs.Ranges.{map-range-length, map-range-at}
+use Rattle.lists.proofs.Bits.{bit-small, bit-one}
+use Rattle.lists.proofs.Both.{both-true}
+use Rattle.lists.proofs.Distinct.{place-of, distinct-apart, apart-distinct, stands-count}
+use Rattle.lists.proofs.Mapped.{map-at, mapped-length, mapped-at}
 use Rattle.lists.proofs.Sums.{sum-next}
 
 -- every number below the size, each at one place
@@ -29,8 +31,8 @@ pub record Permutation (size : ℕ) (l : List ℕ) : Type 0 where
 pub permutation-facts : (size : ℕ) (l : List ℕ) → isPermutation size l ≡ true → Permutation size l
 unfolding isPermutation
 permutation-facts size l e =
-    let p = and-both (eqb (length l) size) (allBelow size l && distinct l) e in
-    let q = and-both (allBelow size l) (distinct l) (p .1) in
+    let p = both-true (eqb (length l) size) (allBelow size l && distinct l) e in
+    let q = both-true (allBelow size l) (distinct l) (p .1) in
     let long : length l ≡ size = eqb-true (length l) size (p .0) in
     record {
       long = long;
@@ -47,11 +49,6 @@ unfolding isPermutation
 facts-permutation size l p =
     let t = permutation-tests size l p in
     rw (eq-eqb (length l) size (p .long), below-allBelow size l (t .0), t .1)
-
-bit-one : (t : Bool) → bit t ≡ 1 → t ≡ true
-unfolding bit
-bit-one true e = refl
-bit-one false e = absurd (let w : ⊥ = omega arith in w)
 
 -- as many terms as their sum, none above 1: all are 1
 few : (f : ℕ → ℕ) → ((v : ℕ) → f v ≤ 1) → (m : ℕ) → sum f (range 0 m) ≤ m
@@ -77,16 +74,16 @@ covers size l p v h = let c = place-of v l (bit-one (stands v l) here) in let lo
     here : bit (stands v l) ≡ 1
     here =
         let t = permutation-tests size l p in
-        all-one (λ u. bit (stands u l)) (λ u. bit-small (stands u l)) size (stands-count size l (t .0) (t .1) ∙ p .long) v h
+        all-one (λ u. bit (stands u l)) (λ u. omega (arith, bit-small (stands u l))) size (stands-count size l (t .0) (t .1) ∙ p .long) v h
 
 module _ (size : ℕ) (A B : List ℕ) (a : Permutation size A) where
-  pub arranged-length : length (arranged A B) ≡ size
+  arranged-length : length (arranged A B) ≡ size
   unfolding arranged
-  arranged-length = map-range-length (λ place. getD B (placeIn place A) 0) (length A) ∙ a .long
+  arranged-length = mapped-length (λ place. getD B (placeIn place A) 0) 0 (length A) ∙ a .long
 
   entry : (v : ℕ) → v < size → getD (arranged A B) v 0 ≡ getD B (placeIn v A) 0
   unfolding arranged
-  entry v h = let long = a .long in map-range-at (λ place. getD B (placeIn place A) 0) (length A) v 0 (omega arith)
+  entry v h = let long = a .long in mapped-at (λ place. getD B (placeIn place A) 0) 0 (length A) v (omega arith)
 
   pub arranged-at : (i : ℕ) → i < size → getD (arranged A B) (getD A i 0) 0 ≡ getD B i 0
   arranged-at i h =
@@ -94,7 +91,7 @@ module _ (size : ℕ) (A B : List ℕ) (a : Permutation size A) where
       entry (getD A i 0) (a .low i h) ∙ ap (λ j. getD B j 0) (a .apart (placeIn (getD A i 0) A) i (c .0) h (c .1))
 
   -- and it is the only list that has these entries there
-  pub arranged-only : (L : List ℕ) → length L ≡ size → ((i : ℕ) → i < size → getD L (getD A i 0) 0 ≡ getD B i 0) → L ≡ arranged A B
+  arranged-only : (L : List ℕ) → length L ≡ size → ((i : ℕ) → i < size → getD L (getD A i 0) 0 ≡ getD B i 0) → L ≡ arranged A B
   arranged-only L long at =
       ext-getD 0 L (arranged A B) (long ∙ sym arranged-length) (λ v h.
       let low : v < size = omega arith in
@@ -114,9 +111,7 @@ module _ (size : ℕ) (A B : List ℕ) (a : Permutation size A) where
 
 pub picked-at : (list places : List ℕ) (i : ℕ) → i < length places → getD (picked list places) i 0 ≡ getD list (getD places i 0) 0
 unfolding picked
-picked-at list [] i h = absurd (not-suc-le-zero h)
-picked-at list (x ∷ places) zero h = refl
-picked-at list (x ∷ places) (suc i) h = picked-at list places i (omega arith)
+picked-at list places i h = map-at (λ place. getD list place 0) 0 0 places i h
 
 pub picked-length : (list places : List ℕ) → length (picked list places) ≡ length places
 unfolding picked
@@ -131,7 +126,7 @@ picked-picked list middle (x ∷ places) b =
 
 -- different places of a permutation hold different entries
 module _ (size : ℕ) (l places : List ℕ) (p : Permutation size l) (b : Below size places) where
-  pub picked-below : Below size (picked l places)
+  picked-below : Below size (picked l places)
   picked-below i h = let e = picked-length l places in subst (λ (x : ℕ). x < size) (sym (picked-at l places i (omega arith))) (p .low (getD places i 0) (b i (omega arith)))
 
   pub picked-distinct : distinct places ≡ true → distinct (picked l places) ≡ true

@@ -1,24 +1,29 @@
--- The test `allBelow` and the fact `Below` say the same, and `Below` is kept by parts and joined lists.
-use mathlib.Core.Path.{_≡_, refl}
-use mathlib.Core.Bool.{Bool, true, false, cond}
+-- The test `allBelow` and the fact `Below` say the same; `Below` of parts and joined lists; and the test from place to place, where what
+-- is left of the list decides.
+use mathlib.Core.Path.{_≡_, refl, _∙_}
+use mathlib.Core.Bool.{Bool, true, false, cond, _&&_}
 use mathlib.Core.List.{List, [], _∷_, _++_}
-use Prim.Native.Nat.{ℕ, zero, suc, _<_}
+use Prim.Native.Nat.{ℕ, zero, suc, _+_, _≤_, _<_}
 use native.Mathlib.Nat.{not-suc-le-zero, le-of-suc-le-suc}
+use native.Mathlib.Numerals.{add-one}
 use native.Mathlib.Omega.{arith}
-use borrow.Author.Tests.{ltb-true, lt-ltb}
+use borrow.Author.Tests.{ltb-true, lt-ltb, le-ltb}
 use lib.Dec.{ltb}
-use lib.ListN.{take, drop, replicate}
+use lib.ListN.{length, getD, take, drop, replicate, length-append, List·getD-append}
+use lib.Seq.{drop-cons, getD-append-add}
 use Rattle.lists.specs.Below.{allBelow, Below}
+use Rattle.lists.proofs.Both.{both-true}
 
-both : (t u : Bool) → cond t u false ≡ true → (t ≡ true) × (u ≡ true)
-both true u e = (refl, e)
-both false u e = let z : _≡_ {A = ℕ} 0 1 = cc in absurd (let w : ⊥ = omega arith in w)
+-- the test's step as `&&`
+step-and : (t u : Bool) → t && u ≡ cond t u false
+step-and true u = refl
+step-and false u = refl
 
 pub allBelow-below : (n : ℕ) (l : List ℕ) → allBelow n l ≡ true → Below n l
 unfolding allBelow
 allBelow-below n [] e i h = absurd (not-suc-le-zero h)
-allBelow-below n (x ∷ l) e zero h = ltb-true x n (both (ltb x n) (allBelow n l) e .0)
-allBelow-below n (x ∷ l) e (suc i) h = allBelow-below n l (both (ltb x n) (allBelow n l) e .1) i (le-of-suc-le-suc h)
+allBelow-below n (x ∷ l) e zero h = ltb-true x n (both-true (ltb x n) (allBelow n l) (step-and (ltb x n) (allBelow n l) ∙ e) .0)
+allBelow-below n (x ∷ l) e (suc i) h = allBelow-below n l (both-true (ltb x n) (allBelow n l) (step-and (ltb x n) (allBelow n l) ∙ e) .1) i (le-of-suc-le-suc h)
 
 pub below-allBelow : (n : ℕ) (l : List ℕ) → Below n l → allBelow n l ≡ true
 unfolding allBelow
@@ -48,3 +53,33 @@ below-append n (x ∷ l) m b d = below-cons n x (l ++ m) (b 0 (omega arith)) (be
 pub below-zeros : (n count : ℕ) → 0 < n → Below n (replicate count 0)
 below-zeros n zero h = λ i k. absurd (not-suc-le-zero k)
 below-zeros n (suc count) h = below-cons n 0 (replicate count 0) h (below-zeros n count h)
+
+module _ (n : ℕ) (front back : List ℕ) (small : Below n (front ++ back)) where
+  pub below-front : Below n front
+  below-front i h =
+      rw (List·getD-append front back 0 i h) at (small i (let e = length-append front back in omega arith))
+
+  pub below-back : Below n back
+  below-back i h =
+      rw (getD-append-add front back i 0) at (small (length front + i) (let e = length-append front back in omega arith))
+
+-- the element at place i passes: the rest decides
+pub below-next : (n : ℕ) (l : List ℕ) (i : ℕ) → i < length l → getD l i 0 < n → allBelow n (drop i l) ≡ allBelow n (drop (i + 1) l)
+unfolding allBelow
+below-next n l i h k = rw (add-one, drop-cons l i 0, lt-ltb (getD l i 0) n k)
+
+-- it does not pass
+pub below-stops : (n : ℕ) (l : List ℕ) (i : ℕ) → i < length l → n ≤ getD l i 0 → allBelow n (drop i l) ≡ false
+unfolding allBelow
+below-stops n l i h k = rw (drop-cons l i 0, le-ltb (getD l i 0) n k)
+
+-- joined lists are tested one after the other
+pub below-joined : (n : ℕ) (l m : List ℕ) → allBelow n (l ++ m) ≡ cond (allBelow n l) (allBelow n m) false
+unfolding allBelow
+below-joined n [] m = refl
+below-joined n (x ∷ l) m = go (ltb x n) (below-joined n l m)
+  where
+    go : (t : Bool) → allBelow n (l ++ m) ≡ cond (allBelow n l) (allBelow n m) false
+        → cond t (allBelow n (l ++ m)) false ≡ cond (cond t (allBelow n l) false) (allBelow n m) false
+    go true e = e
+    go false e = refl

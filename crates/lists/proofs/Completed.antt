@@ -1,11 +1,11 @@
 -- Different numbers below a size, completed by those left, are a permutation (`completed-permutation`); and a list arranged by such a
 -- permutation has its first part at the numbers' places (`completed-shown`, `carried-shown`).
 use Prim.Native.Nat.{ℕ, _+_, _*_, _≤_}
-use native.Mathlib.Nat.{mul-zero, one-mul}
+use native.Mathlib.Nat.{mul-zero, mul-one, one-mul}
 use native.Mathlib.Omega.{arith}
 use mathlib.Core.Path.{_≡_, refl, sym, ap, _∙_}
 use mathlib.Core.Bool.{Bool, true, false, not}
-use mathlib.Core.List.{List, [], _∷_, _++_}
+use mathlib.Core.List.{List, _++_}
 use borrow.Author.Tests.{eqb-true, eq-eqb, ltb-false}
 use lib.Dec.{eqb, ltb}
 use lib.ListN.{length, getD, length-append, List·getD-append}
@@ -15,15 +15,12 @@ use Rattle.lists.specs.Below.{Below}
 use Rattle.lists.specs.Distinct.{stands, distinct, isPermutation}
 use Rattle.lists.specs.Ranges.{range}
 use Rattle.lists.specs.Sums.{bit, keep, sum}
-use Rattle.lists.proofs.Distinct.{bit-small, place-of, times, stands-times, times-distinct, times-below, range-times, stands-count}
+use Rattle.lists.proofs.Bits.{bit-small, bit-either}
+use Rattle.lists.proofs.Distinct.{place-of, times, stands-times, times-distinct, times-below, range-times, stands-count}
+use Rattle.lists.proofs.Mapped.{map-append}
 use Rattle.lists.proofs.Ranges.{range-length}
 use Rattle.lists.proofs.Sums.{sum-append, sum-keep, sum-mul, sum-ext, sum-add, sum-one}
 use Rattle.lists.proofs.Arranged.{Permutation, permutation-facts, arranged-at, picked-at, picked-length}
-
-either : (t : Bool) → bit (not t) * 1 + bit t ≡ 1
-unfolding bit
-either true = refl
-either false = refl
 
 module _ (size : ℕ) (xs : List ℕ) (b : Below size xs) (d : distinct xs ≡ true) where
   left : ℕ → Bool
@@ -35,7 +32,7 @@ module _ (size : ℕ) (xs : List ℕ) (b : Below size xs) (d : distinct xs ≡ t
       let rest : length (keep left (range 0 size)) ≡ sum (λ v. bit (left v) * 1) (range 0 size) =
       sym (sum-one (keep left (range 0 size))) ∙ sum-keep (λ v. 1) left (range 0 size) in
       let all : sum (λ v. bit (left v) * 1 + bit (stands v xs)) (range 0 size) ≡ sum (λ v. 1) (range 0 size) =
-      sum-ext (λ v. bit (left v) * 1 + bit (stands v xs)) (λ v. 1) (λ v. either (stands v xs)) (range 0 size) in
+      sum-ext (λ v. bit (left v) * 1 + bit (stands v xs)) (λ v. 1) (λ v. omega (arith, mul-one (bit (left v)), bit-either (stands v xs))) (range 0 size) in
       length-append xs (keep left (range 0 size))
       ∙ omega (
         arith,
@@ -91,8 +88,7 @@ module _ (size : ℕ) (xs : List ℕ) (b : Below size xs) (d : distinct xs ≡ t
 
 picked-append : (list xs ys : List ℕ) → picked list (xs ++ ys) ≡ picked list xs ++ picked list ys
 unfolding picked
-picked-append list [] ys = refl
-picked-append list (x ∷ xs) ys = ap (λ l. getD list x 0 ∷ l) (picked-append list xs ys)
+picked-append list xs ys = map-append (λ place. getD list place 0) xs ys
 
 -- the entries of B's first part stand at the places that A's first part names
 arranged-front : (size : ℕ) (A A′ B B′ : List ℕ) → Permutation size (A ++ A′) → length A ≡ length B → picked (arranged (A ++ A′) (B ++ B′)) A ≡ B

@@ -1,56 +1,77 @@
--- Parts of one size, joined: each is the cut at its own place (`cut-joined`), and a list is its cuts joined (`joined-cuts`).
-use Prim.Native.Nat.{ℕ, zero, suc, _+_, _*_, _<_}
-use native.Mathlib.Nat.{zero-add, add-zero, add-suc, suc-add, zero-mul, suc-mul, not-suc-le-zero}
+-- Parts that are read (`cut`): their length and elements, a part of a part, a part up to the end, and parts of one size side by side:
+-- each is the part at its own place (`flatMap-cut`), and a list is its parts joined (`joined-cuts`).
+use Prim.Native.Nat.{ℕ, zero, suc, _+_, _-_, _*_, _≤_, _<_}
+use native.Mathlib.Nat.{mul-le-mul-right, suc-mul, zero-mul, not-suc-le-zero, le-of-eq}
 use native.Mathlib.Omega.{arith}
-use mathlib.Core.Path.{_≡_, sym, ap, _∙_}
-use mathlib.Core.List.{List, _++_, flatMap}
-use lib.ListN.{length, take, drop, length-append}
-use lib.Seq.{take-at, drop-append-add, take-add, drop-drop, take-all}
+use mathlib.Core.Path.{_≡_, refl, sym, ap, _∙_}
+use mathlib.Core.List.{List, [], _∷_, _++_, flatMap}
+use lib.ListN.{length, getD, take, drop, length-append, length-drop}
+use lib.Seq.{length-take-le, take-all, take-at, take-add, take-take, drop-drop, drop-append-add, drop-append-seam, getD-take, getD-drop}
 use Rattle.lists.specs.Parts.{cut}
 use Rattle.lists.specs.Ranges.{range}
+use Rattle.lists.specs.Sums.{All, allNil, allCons}
 
-module _ (g : ℕ → List ℕ) (size : ℕ) where
-  length-from : (a n : ℕ) → ((i : ℕ) → i < n → length (g (a + i)) ≡ size) → length (flatMap g (range a n)) ≡ n * size
-  unfolding flatMap range
-  length-from a zero e = sym (zero-mul size)
-  length-from a (suc n) e =
-      length-append (g a) (flatMap g (range (suc a) n))
-      ∙ omega (arith, first, length-from (suc a) n (λ i h. ap (λ j. length (g j)) (suc-add a i ∙ sym (add-suc a i)) ∙ e (suc i) (omega arith)), suc-mul n size)
-    where
-      first : length (g a) ≡ size
-      first = ap (λ j. length (g j)) (sym (add-zero a)) ∙ e 0 (omega arith)
+pub cut-length : (at size : ℕ) (buffer : List ℕ) → at + size ≤ length buffer → length (cut at size buffer) ≡ size
+cut-length at size buffer h = length-take-le size (drop at buffer) (let e = length-drop at buffer in omega arith)
 
-  cut-from : (a n i : ℕ) → ((j : ℕ) → j < n → length (g (a + j)) ≡ size) → i < n → cut (i * size) size (flatMap g (range a n)) ≡ g (a + i)
-  unfolding flatMap range
-  cut-from a zero i e h = absurd (not-suc-le-zero h)
-  cut-from a (suc n) zero e h =
-      rw (zero-mul size) (take-at (g a) (flatMap g (range (suc a) n)) size (ap (λ j. length (g j)) (sym (add-zero a)) ∙ e 0 (omega arith))) ∙ ap g (sym (add-zero a))
-  cut-from a (suc n) (suc i) e h =
-      let skip : suc i * size ≡ length (g a) + i * size = omega (arith, suc-mul i size, first) in
-      ap (λ j. take size (drop j (g a ++ flatMap g (range (suc a) n)))) skip
-      ∙ ap (take size) (drop-append-add (g a) (flatMap g (range (suc a) n)) (i * size))
-      ∙ cut-from (suc a) n i (λ j l. ap (λ m. length (g m)) (suc-add a j ∙ sym (add-suc a j)) ∙ e (suc j) (omega arith)) (omega arith)
-      ∙ ap g (suc-add a i ∙ sym (add-suc a i))
-    where
-      first : length (g a) ≡ size
-      first = ap (λ j. length (g j)) (sym (add-zero a)) ∙ e 0 (omega arith)
+pub cut-at : (at size i : ℕ) (buffer : List ℕ) → i < size → getD (cut at size buffer) i 0 ≡ getD buffer (at + i) 0
+cut-at at size i buffer h = getD-take size (drop at buffer) i 0 h ∙ getD-drop at buffer i 0
 
-module _ (g : ℕ → List ℕ) (size n : ℕ) (each : (i : ℕ) → i < n → length (g i) ≡ size) where
-  pub joined-length : length (flatMap g (range 0 n)) ≡ n * size
-  joined-length = length-from g size 0 n (λ i h. ap (λ j. length (g j)) (zero-add i) ∙ each i h)
+cut-front : (at size whole : ℕ) (buffer : List ℕ) → at + size ≤ whole → cut at size (take whole buffer) ≡ cut at size buffer
+cut-front zero size whole buffer h = take-take size whole buffer (omega arith)
+cut-front (suc at) size zero buffer h = absurd (let w : ⊥ = omega arith in w)
+cut-front (suc at) size (suc whole) [] h = refl
+cut-front (suc at) size (suc whole) (x ∷ buffer) h = cut-front at size whole buffer (omega arith)
 
-  pub cut-joined : (i : ℕ) → i < n → cut (i * size) size (flatMap g (range 0 n)) ≡ g i
-  cut-joined i h = cut-from g size 0 n i (λ j l. ap (λ m. length (g m)) (zero-add j) ∙ each j l) h ∙ ap g (zero-add i)
+-- a part of a part
+pub cut-cut : (at size from whole : ℕ) (buffer : List ℕ) → at + size ≤ whole → cut at size (cut from whole buffer) ≡ cut (from + at) size buffer
+cut-cut at size from whole buffer h = cut-front at size whole (drop from buffer) h ∙ ap (take size) (drop-drop at from buffer)
 
--- the list's cuts from number a on
-cuts-from : (size a n : ℕ) (l : List ℕ) → flatMap (λ i. cut (i * size) size l) (range a n) ≡ cut (a * size) (n * size) l
+-- a part that goes to the list's end
+pub to-end : (list : List ℕ) (at : ℕ) → take (length list - at) (drop at list) ≡ drop at list
+to-end list at = take-all (length list - at) (drop at list) (le-of-eq (length-drop at list))
+
+-- where a part stands at a place, the rest stands after it
+pub drop-after : (list part rest : List ℕ) (at : ℕ) → drop at list ≡ part ++ rest → drop (at + length part) list ≡ rest
+drop-after list part rest at e =
+    sym (drop-drop (length part) at list) ∙ ap (drop (length part)) e ∙ drop-append-seam part rest
+
+-- a table that begins with a list
+pub front-is : (count : ℕ) (table front more : List ℕ) → table ≡ front ++ more → length front ≡ count → take count table ≡ front
+front-is count table front more e long = rw e (take-at front more count long)
+
+pub front-fits : (count : ℕ) (table front more : List ℕ) → table ≡ front ++ more → length front ≡ count → count ≤ length table
+front-fits count table front more e long = omega (arith, ap length e, length-append front more)
+
+-- of parts of one size, one ends where the next begins, or before
+pub slot-end : (i j size : ℕ) → i < j → i * size + size ≤ j * size
+slot-end i j size h = omega (arith, mul-le-mul-right size h, suc-mul i size)
+
+-- lists of bytes of one size: each is its part of them joined
+module _ {A : Type 0} (f : A → List ℕ) (size : ℕ) where
+  pub flatMap-cut : (d : A) {xs : List A} → All (λ x. length (f x) ≡ size) xs → (i : ℕ) → i < length xs
+      → cut (i * size) size (flatMap f xs) ≡ f (getD xs i d)
+  unfolding flatMap
+  flatMap-cut d allNil i h = absurd (not-suc-le-zero h)
+  flatMap-cut d (allCons {x = x} {xs = xs} e a) zero h =
+      ap (λ (n : ℕ). cut n size (f x ++ flatMap f xs)) (zero-mul size) ∙ take-at (f x) (flatMap f xs) size e
+  flatMap-cut d (allCons {x = x} {xs = xs} e a) (suc i) h =
+      ap (λ (n : ℕ). cut n size (f x ++ flatMap f xs)) (let s : suc i * size ≡ length (f x) + i * size = omega (arith, suc-mul i size) in s)
+      ∙ ap (λ (l : List ℕ). cut 0 size l) (drop-append-add (f x) (flatMap f xs) (i * size))
+      ∙ flatMap-cut d a i (omega arith)
+
+-- parts of one size, side by side, are one part
+pub cut-join : (size from count : ℕ) (buffer : List ℕ)
+    → flatMap (λ (i : ℕ). cut (i * size) size buffer) (range from count) ≡ cut (from * size) (count * size) buffer
 unfolding flatMap range
-cuts-from size a zero l = rw (zero-mul size)
-cuts-from size a (suc n) l =
-    let all : size + n * size ≡ suc n * size = omega (arith, suc-mul n size) in
-    ap (λ s. cut (a * size) size l ++ s) (cuts-from size (suc a) n l ∙ ap (λ j. take (n * size) (drop j l)) (suc-mul a size) ∙ ap (take (n * size)) (sym (drop-drop size (a * size) l)))
-    ∙ sym (take-add size (n * size) (drop (a * size) l))
-    ∙ ap (λ j. take j (drop (a * size) l)) all
+cut-join size from zero buffer = ap (λ (n : ℕ). cut (from * size) n buffer) (sym (zero-mul size))
+cut-join size from (suc count) buffer =
+    let next : drop (suc from * size) buffer ≡ drop size (drop (from * size) buffer) =
+    ap (λ (n : ℕ). drop n buffer) (suc-mul from size) ∙ sym (drop-drop size (from * size) buffer) in
+    ap (λ (x : List ℕ). cut (from * size) size buffer ++ x)
+    (cut-join size (suc from) count buffer ∙ ap (take (count * size)) next)
+    ∙ sym (take-add size (count * size) (drop (from * size) buffer))
+    ∙ ap (λ (n : ℕ). cut (from * size) n buffer) (let e : size + count * size ≡ suc count * size = omega (arith, suc-mul count size) in e)
 
 pub joined-cuts : (size n : ℕ) (l : List ℕ) → length l ≡ n * size → flatMap (λ i. cut (i * size) size l) (range 0 n) ≡ l
-joined-cuts size n l e = cuts-from size 0 n l ∙ rw (zero-mul size) (take-all (n * size) l (omega arith))
+joined-cuts size n l e = cut-join size 0 n l ∙ rw (zero-mul size) (take-all (n * size) l (omega arith))

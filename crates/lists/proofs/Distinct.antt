@@ -6,7 +6,7 @@ use native.Mathlib.Omega.{arith}
 use mathlib.Core.Path.{_≡_, refl, sym, ap, _∙_}
 use mathlib.Core.Bool.{Bool, true, false, cond, not, _&&_, _||_, true≢false, false≢true}
 use mathlib.Core.List.{List, [], _∷_}
-use borrow.Author.Tests.{eqb-true, eqb-false, eq-eqb, ne-eqb, not-true, ltb-true, ltb-false, lt-ltb, le-ltb}
+use borrow.Author.Tests.{eqb-true, eqb-false, eq-eqb, ne-eqb, not-true, lt-ltb, le-ltb}
 use lib.Dec.{eqb, ltb}
 use lib.ListN.{length, getD}
 use Rattle.lists.specs.Arranged.{placeIn}
@@ -14,18 +14,16 @@ use Rattle.lists.specs.Below.{allBelow, Below}
 use Rattle.lists.specs.Distinct.{stands, distinct}
 use Rattle.lists.specs.Ranges.{range}
 use Rattle.lists.specs.Sums.{bit, sum}
-use Rattle.lists.proofs.Each.{All-at}
-use Rattle.lists.proofs.Sums.{sum-all, sum-ext, sum-one, sum-next, sum-swap, All-imp}
+use Rattle.lists.proofs.Bits.{bit-zero, bit-step}
+use Rattle.lists.proofs.Both.{both-true}
+use Rattle.lists.proofs.Each.{All-at, All-imp}
+use Rattle.lists.proofs.Sums.{sum-all, sum-ext, sum-one, sum-next, sum-swap}
 
 -- no two places hold one number
 abbrev pub Apart : List ℕ → Type 0
 Apart l = (i j : ℕ) → i < length l → j < length l → getD l i 0 ≡ getD l j 0 → i ≡ j
 
-pub and-both : (t u : Bool) → t && u ≡ true → (t ≡ true) × (u ≡ true)
-and-both true u e = (refl, e)
-and-both false u e = absurd (false≢true e)
-
-pub stands-at : (l : List ℕ) (i : ℕ) → i < length l → stands (getD l i 0) l ≡ true
+stands-at : (l : List ℕ) (i : ℕ) → i < length l → stands (getD l i 0) l ≡ true
 unfolding stands
 stands-at [] i h = absurd (not-suc-le-zero h)
 stands-at (x ∷ l) zero h = rw (eq-eqb x x refl)
@@ -51,11 +49,11 @@ unfolding distinct
 distinct-apart [] e i j h k q = absurd (not-suc-le-zero h)
 distinct-apart (x ∷ l) e zero zero h k q = refl
 distinct-apart (x ∷ l) e zero (suc j) h k q =
-    absurd (true≢false (sym (stands-at l j (omega arith)) ∙ ap (λ y. stands y l) (sym q) ∙ not-true (stands x l) (and-both (not (stands x l)) (distinct l) e .0)))
+    absurd (true≢false (sym (stands-at l j (omega arith)) ∙ ap (λ y. stands y l) (sym q) ∙ not-true (stands x l) (both-true (not (stands x l)) (distinct l) e .0)))
 distinct-apart (x ∷ l) e (suc i) zero h k q =
-    absurd (true≢false (sym (stands-at l i (omega arith)) ∙ ap (λ y. stands y l) q ∙ not-true (stands x l) (and-both (not (stands x l)) (distinct l) e .0)))
+    absurd (true≢false (sym (stands-at l i (omega arith)) ∙ ap (λ y. stands y l) q ∙ not-true (stands x l) (both-true (not (stands x l)) (distinct l) e .0)))
 distinct-apart (x ∷ l) e (suc i) (suc j) h k q =
-    ap suc (distinct-apart l (and-both (not (stands x l)) (distinct l) e .1) i j (omega arith) (omega arith) q)
+    ap suc (distinct-apart l (both-true (not (stands x l)) (distinct l) e .1) i j (omega arith) (omega arith) q)
 
 pub apart-distinct : (l : List ℕ) → Apart l → distinct l ≡ true
 unfolding distinct
@@ -83,22 +81,12 @@ eqb-comm m n = go (eqb m n) refl
 unfoldable pub times : ℕ → List ℕ → ℕ
 times v l = sum (λ x. bit (eqb x v)) l
 
-bit-zero : (t : Bool) → bit t ≡ 0 → t ≡ false
-unfolding bit
-bit-zero true e = absurd (let w : ⊥ = omega arith in w)
-bit-zero false e = refl
-
-pub bit-small : (t : Bool) → bit t ≤ 1
-unfolding bit
-bit-small true = omega arith
-bit-small false = omega arith
-
 pub stands-times : (v : ℕ) (l : List ℕ) → distinct l ≡ true → times v l ≡ bit (stands v l)
 unfolding distinct stands times sum bit
 stands-times v [] d = refl
 stands-times v (x ∷ l) d =
-    let new = not-true (stands x l) (and-both (not (stands x l)) (distinct l) d .0) in
-    rw (eqb-comm x v) (go (eqb v x) refl new (stands-times v l (and-both (not (stands x l)) (distinct l) d .1)))
+    let new = not-true (stands x l) (both-true (not (stands x l)) (distinct l) d .0) in
+    rw (eqb-comm x v) (go (eqb v x) refl new (stands-times v l (both-true (not (stands x l)) (distinct l) d .1)))
   where
     go : (t : Bool) → eqb v x ≡ t → stands x l ≡ false → times v l ≡ bit (stands v l) → bit t + times v l ≡ bit (t || stands v l)
     go true e new ih = omega (arith, ih, ap bit (ap (λ y. stands y l) (eqb-true v x e) ∙ new))
@@ -126,18 +114,7 @@ times-below size (x ∷ l) h = go (ltb x size) refl (times-below size l (λ v. o
 pub range-times : (x size : ℕ) → times x (range 0 size) ≡ bit (ltb x size)
 unfolding times sum range bit
 range-times x zero = rw (le-ltb x 0 (omega arith))
-range-times x (suc size) = sum-next (λ v. bit (eqb v x)) size ∙ go (eqb size x) refl (range-times x size)
-  where
-    go : (t : Bool) → eqb size x ≡ t → times x (range 0 size) ≡ bit (ltb x size) → times x (range 0 size) + bit t ≡ bit (ltb x (suc size))
-    go true e ih = let same : size ≡ x = eqb-true size x e in
-        rw (lt-ltb x (suc size) (omega arith)) (omega (arith, ih, ap bit (le-ltb x size (omega arith))))
-    go false e ih = omega (arith, ih, ap bit (same (ltb x size) refl))
-      where
-        same : (t : Bool) → ltb x size ≡ t → ltb x size ≡ ltb x (suc size)
-        same true l = l ∙ sym (lt-ltb x (suc size) (omega (arith, ltb-true x size l)))
-        same false l =
-            let d : size ≡ x → ⊥ = eqb-false size x e in
-            l ∙ sym (le-ltb x (suc size) (omega (arith, ltb-false x size l)))
+range-times x (suc size) = sum-next (λ v. bit (eqb v x)) size ∙ omega (arith, range-times x size, bit-step x size)
 
 -- different numbers below a size: as many of the numbers below it stand in the list as it is long
 pub stands-count : (size : ℕ) (l : List ℕ) → Below size l → distinct l ≡ true → sum (λ v. bit (stands v l)) (range 0 size) ≡ length l

@@ -1,16 +1,19 @@
--- What a test keeps of a list: all of it, what two tests keep, and its sums; and what holds of the parts of a list.
-use Prim.Native.Nat.{ℕ, _≤_}
-use native.Mathlib.Omega.{arith}
-use mathlib.Core.Path.{_≡_, refl}
-use mathlib.Core.List.{List, [], _∷_, _++_, flatMap}
+-- What a test keeps of a list: all or nothing of it, what two tests keep, and what is kept of joined and mapped lists.
+use mathlib.Core.Path.{_≡_, refl, ap, _∙_}
+use mathlib.Core.List.{List, [], _∷_, _++_, map, flatMap}
 use mathlib.Core.Bool.{Bool, true, false, _&&_}
-use Rattle.lists.specs.Sums.{keep, keepIf, sum, All, allNil, allCons}
+use Rattle.lists.specs.Sums.{keep, keepIf, All, allNil, allCons}
 
 module _ {A : Type 0} where
   pub keep-all : (t : A → Bool) {xs : List A} → All (λ x. t x ≡ true) xs → keep t xs ≡ xs
   unfolding keep keepIf
   keep-all t allNil = refl
   keep-all t (allCons {x = x} {xs = xs} e a) = rw (e, keep-all t a)
+
+  pub keep-nothing : (t : A → Bool) {xs : List A} → All (λ x. t x ≡ false) xs → keep t xs ≡ []
+  unfolding keep keepIf
+  keep-nothing t allNil = refl
+  keep-nothing t (allCons {x = x} {xs = xs} e a) = rw e (keep-nothing t a)
 
   -- by two tests is by one after the other
   pub keep-and : (s t : A → Bool) (xs : List A) → keep (λ x. s x && t x) xs ≡ keep s (keep t xs)
@@ -25,30 +28,26 @@ module _ {A : Type 0} where
       go false true e ih = rw (e, ih)
       go false false e ih = ih
 
-  pub sum-keep-most : (f : A → ℕ) (t : A → Bool) (xs : List A) → sum f (keep t xs) ≤ sum f xs
-  unfolding keep keepIf sum
-  sum-keep-most f t [] = omega arith
-  sum-keep-most f t (x ∷ xs) = go (t x) (sum-keep-most f t xs)
+  pub keep-append : (t : A → Bool) (xs ys : List A) → keep t (xs ++ ys) ≡ keep t xs ++ keep t ys
+  unfolding keep keepIf
+  keep-append t [] ys = refl
+  keep-append t (x ∷ xs) ys = go (t x) (keep-append t xs ys)
     where
-      go : (b : Bool) → sum f (keep t xs) ≤ sum f xs → sum f (keepIf b x (keep t xs)) ≤ sum f (x ∷ xs)
-      go true ih = omega arith
-      go false ih = omega arith
+      go : (b : Bool) → keep t (xs ++ ys) ≡ keep t xs ++ keep t ys → keepIf b x (keep t (xs ++ ys)) ≡ keepIf b x (keep t xs) ++ keep t ys
+      go true e = ap (λ l. x ∷ l) e
+      go false e = e
 
 module _ {A B : Type 0} where
-  pub flatMap-nothing : (g : A → List B) {xs : List A} → All (λ x. g x ≡ []) xs → flatMap g xs ≡ []
-  unfolding flatMap
-  flatMap-nothing g allNil = refl
-  flatMap-nothing g (allCons {x = x} {xs = xs} e a) = rw (e, flatMap-nothing g a)
+  pub keep-map : (t : B → Bool) (f : A → B) (xs : List A) → keep t (map f xs) ≡ map f (keep (λ x. t (f x)) xs)
+  unfolding keep keepIf
+  keep-map t f [] = refl
+  keep-map t f (x ∷ xs) = go (t (f x)) (keep-map t f xs)
+    where
+      go : (b : Bool) → keep t (map f xs) ≡ map f (keep (λ y. t (f y)) xs) → keepIf b (f x) (keep t (map f xs)) ≡ map f (keepIf b x (keep (λ y. t (f y)) xs))
+      go true e = ap (λ l. f x ∷ l) e
+      go false e = e
 
--- what holds of each element of two lists joined
-module _ {A : Type 0} {P : A → Type 0} where
-  pub All-front : (xs ys : List A) → All P (xs ++ ys) → All P xs
-  All-front [] ys a = allNil
-  All-front (x ∷ xs) ys (allCons h a) = allCons h (All-front xs ys a)
-
-  pub All-back : (xs ys : List A) → All P (xs ++ ys) → All P ys
-  All-back [] ys a = a
-  All-back (x ∷ xs) ys (allCons h a) = All-back xs ys a
-
-  pub All-head : {x : A} {xs : List A} → All P (x ∷ xs) → P x
-  All-head (allCons h a) = h
+  pub keep-flatMap : (t : A → Bool) (g : B → List A) (xs : List B) → keep t (flatMap g xs) ≡ flatMap (λ x. keep t (g x)) xs
+  unfolding keep flatMap
+  keep-flatMap t g [] = refl
+  keep-flatMap t g (x ∷ xs) = keep-append t (g x) (flatMap g xs) ∙ ap (λ l. keep t (g x) ++ l) (keep-flatMap t g xs)

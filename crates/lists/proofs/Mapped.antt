@@ -1,30 +1,35 @@
--- Lists made by a function over a range: what stands where, and when two are equal.
-use mathlib.Core.Path.{_≡_, refl, sym, ap, ap₂, _∙_}
-use mathlib.Core.List.{List, _++_, map, flatMap}
-use Prim.Native.Nat.{ℕ, zero, suc, _+_, _<_}
+-- Lists made by a function from a list or from a range: what stands where, their length, and when two are equal.
+use Prim.Native.Nat.{ℕ, zero, suc, _+_, _≤_, _<_}
 use native.Mathlib.Nat.{not-suc-le-zero, le-of-suc-le-suc, zero-add}
 use native.Mathlib.Omega.{arith}
-use lib.ListN.{getD}
+use mathlib.Core.Path.{_≡_, refl, ap, ap₂, _∙_}
+use mathlib.Core.List.{List, [], _∷_, _++_, map}
+use lib.ListN.{length, getD, length-map}
 use Rattle.lists.specs.Ranges.{range}
+use Rattle.lists.specs.Sums.{All, allNil, allCons}
+use Rattle.lists.proofs.Ranges.{range-length, range-at, All-from}
+
+module _ {A B : Type 0} where
+  pub map-append : (f : A → B) (xs ys : List A) → map f (xs ++ ys) ≡ map f xs ++ map f ys
+  map-append f [] ys = refl
+  map-append f (x ∷ xs) ys = ap (λ l. f x ∷ l) (map-append f xs ys)
+
+  pub map-at : (f : A → B) (d : A) (e : B) (xs : List A) (i : ℕ) → i < length xs → getD (map f xs) i e ≡ f (getD xs i d)
+  map-at f d e [] i h = absurd (not-suc-le-zero h)
+  map-at f d e (x ∷ xs) zero h = refl
+  map-at f d e (x ∷ xs) (suc i) h = map-at f d e xs i (le-of-suc-le-suc h)
+
+  pub map-all : (f g : A → B) {xs : List A} → All (λ x. f x ≡ g x) xs → map f xs ≡ map g xs
+  map-all f g allNil = refl
+  map-all f g (allCons e a) = ap₂ (λ (y : B) (ys : List B). y ∷ ys) e (map-all f g a)
 
 module _ {A : Type 0} where
-  mapped-from : (f : ℕ → A) (d : A) (from count i : ℕ) → i < count → getD (map f (range from count)) i d ≡ f (from + i)
-  unfolding range
-  mapped-from f d from zero i h = absurd (not-suc-le-zero h)
-  mapped-from f d from (suc count) zero h = ap f (let e : from ≡ from + 0 = omega arith in e)
-  mapped-from f d from (suc count) (suc i) h =
-      mapped-from f d (suc from) count i (le-of-suc-le-suc h) ∙ ap f (let e : suc from + i ≡ from + suc i = omega arith in e)
+  pub mapped-length : (f : ℕ → A) (from count : ℕ) → length (map f (range from count)) ≡ count
+  mapped-length f from count = length-map (range from count) f ∙ range-length from count
 
   pub mapped-at : (f : ℕ → A) (d : A) (count i : ℕ) → i < count → getD (map f (range 0 count)) i d ≡ f i
-  mapped-at f d count i h = mapped-from f d 0 count i h ∙ ap f (zero-add i)
+  mapped-at f d count i h = map-at f 0 d (range 0 count) i (omega (arith, range-length 0 count)) ∙ ap f (range-at 0 count i 0 h ∙ zero-add i)
 
-  -- joined lists over two ranges of one length are equal if they are place by place
-  pub joined-equal : (f g : ℕ → List A) (from other count : ℕ) → ((i : ℕ) → i < count → f (i + from) ≡ g (i + other))
-      → flatMap f (range from count) ≡ flatMap g (range other count)
-  unfolding range flatMap
-  joined-equal f g from other zero e = refl
-  joined-equal f g from other (suc count) e =
-      ap₂ (λ (a b : List A). a ++ b)
-      (ap f (sym (zero-add from)) ∙ e 0 (omega arith) ∙ ap g (zero-add other))
-      (joined-equal f g (suc from) (suc other) count
-      (λ i h. ap f (let l : i + suc from ≡ suc i + from = omega arith in l) ∙ e (suc i) (omega arith) ∙ ap g (let r : suc i + other ≡ i + suc other = omega arith in r)))
+  pub map-range : (from count : ℕ) (f g : ℕ → A) → ((i : ℕ) → from ≤ i → i < from + count → f i ≡ g i)
+      → map f (range from count) ≡ map g (range from count)
+  map-range from count f g h = map-all f g (All-from from count h)

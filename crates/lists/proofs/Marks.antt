@@ -2,27 +2,23 @@
 use mathlib.Core.Path.{_≡_, refl, sym}
 use mathlib.Core.Bool.{Bool, true, false, not, _&&_, _||_}
 use mathlib.Core.List.{List, [], _∷_}
-use Prim.Native.Nat.{ℕ, zero, suc, _<_}
+use Prim.Native.Nat.{ℕ, _<_}
 use borrow.Author.Tests.{eqb-true, eqb-false}
 use lib.Dec.{eqb}
 use lib.ListN.{length, getD, set, replicate}
 use lib.Seq.{getD-set-same, getD-set-other}
 use Rattle.lists.specs.Distinct.{stands, distinct}
+use Rattle.lists.proofs.Replicate.{getD-replicate-same}
 
 -- the numbers are distinct, and none is marked
 unfoldable pub unmarked : List Bool → List ℕ → Bool
 unmarked marks [] = true
 unmarked marks (x ∷ xs) = not (getD marks x false) && (not (stands x xs) && unmarked marks xs)
 
-blank : (size x : ℕ) → getD (replicate size false) x false ≡ false
-blank zero x = refl
-blank (suc size) zero = refl
-blank (suc size) (suc x) = blank size x
-
 pub unmarked-blank : (size : ℕ) (xs : List ℕ) → unmarked (replicate size false) xs ≡ distinct xs
 unfolding unmarked distinct
 unmarked-blank size [] = refl
-unmarked-blank size (x ∷ xs) = rw (blank size x, unmarked-blank size xs)
+unmarked-blank size (x ∷ xs) = rw (getD-replicate-same size x false, unmarked-blank size xs)
 
 pub unmarked-set : (marks : List Bool) (x : ℕ) (ys : List ℕ) → x < length marks → unmarked (set marks x true) ys ≡ not (stands x ys) && unmarked marks ys
 unfolding unmarked stands

@@ -10,8 +10,7 @@ use lib.ListN.{length}
 use Rattle.lists.specs.Below.{Below}
 use Rattle.lists.specs.Pairs.{under}
 use Rattle.lists.specs.Sums.{keep, keepIf, All, allNil, allCons}
-use Rattle.lists.proofs.Each.{All-at, All-get}
-use Rattle.lists.proofs.Sums.{All-imp, All-keep, All-map}
+use Rattle.lists.proofs.Each.{All-at, All-get, All-imp, All-keep, All-map, All-head, All-tail}
 
 pub under-cons : (p q x : ℕ) (cs : List (ℕ × ℕ)) → under p ((q, x) ∷ cs) ≡ cond (eqb q p) (x ∷ under p cs) (under p cs)
 unfolding under keep keepIf
@@ -92,20 +91,14 @@ pub under-all : {P : ℕ → Type 0} (K : ℕ) {cs : List (ℕ × ℕ)} → All 
 under-all K allNil h = allNil
 under-all {P} K (allCons {x = (q, x)} {xs = cs} low a) h = allCons (first (h q low)) (under-all K a (λ p l. rest p (h p l)))
   where
-    head : {y : ℕ} {ys : List ℕ} → All P (y ∷ ys) → P y
-    head (allCons k b) = k
-
-    tail : {y : ℕ} {ys : List ℕ} → All P (y ∷ ys) → All P ys
-    tail (allCons k b) = b
-
     first : All P (under q ((q, x) ∷ cs)) → P x
-    first b = head (rw (under-cons q q x cs, eq-eqb q q refl) at b)
+    first b = All-head (rw (under-cons q q x cs, eq-eqb q q refl) at b)
 
     rest : (p : ℕ) → All P (under p ((q, x) ∷ cs)) → All P (under p cs)
     rest p b = go (eqb q p) (rw (under-cons p q x cs) at b)
       where
         go : (t : Bool) → All P (cond t (x ∷ under p cs) (under p cs)) → All P (under p cs)
-        go true c = tail c
+        go true c = All-tail c
         go false c = c
 
 -- the entries under a label are among all entries

@@ -1,11 +1,46 @@
--- Parts that are written one after another: `put` after `put`, and one byte before a part.
-use mathlib.Core.Path.{_≡_, sym, ap, ap₂, _∙_}
-use mathlib.Core.List.{List, _∷_, _++_, append-assoc}
-use Prim.Native.Nat.{ℕ, suc, _+_, _≤_, _<_}
+-- Parts that are written (`put`): nothing, one byte, one part after, before or over another, over zeros; and what a part that was lent
+-- and written leaves in its buffer.
+use mathlib.Core.Path.{_≡_, refl, sym, ap, ap₂, _∙_}
+use mathlib.Core.List.{List, [], _∷_, _++_, append-assoc, append-nil}
+use Prim.Native.Nat.{ℕ, zero, suc, _+_, _-_, _≤_, _<_}
+use native.Mathlib.Nat.{zero-add, sub-zero, zero-sub, suc-sub-suc, add-sub-cancel-left, not-suc-le-zero, le-of-suc-le-suc, le-of-eq}
+use native.Mathlib.Numerals.{add-one}
 use native.Mathlib.Omega.{arith}
-use lib.ListN.{length, take, drop, set, getD, length-append}
-use lib.Seq.{length-take-le, take-at, drop-at, drop-drop, drop-cons, take-suc, append-snoc, set-at}
+use lib.ListN.{length, take, drop, set, getD, replicate, length-append, length-drop, drop-of-length-le, take-append-drop}
+use lib.Seq.{length-take-le, take-at, drop-at, drop-drop, drop-cons, take-suc, take-suc-set, append-snoc, set-at, paste-suc}
+use Rattle.lists.specs.Padded.{padded}
 use Rattle.lists.specs.Parts.{put}
+use Rattle.lists.proofs.ReadBack.{cut-put}
+
+pub put-length : (at : ℕ) (bytes buffer : List ℕ) → at + length bytes ≤ length buffer → length (put at bytes buffer) ≡ length buffer
+put-length at bytes buffer h =
+    let rest = drop (length bytes) (drop at buffer) in
+    let e = length-append (take at buffer) (bytes ++ rest) in
+    let f = length-append bytes rest in
+    let g = length-take-le at buffer (omega arith) in
+    let d = length-drop (length bytes) (drop at buffer) in
+    let k = length-drop at buffer in
+    omega arith
+
+-- writing nothing
+pub put-nil : (at : ℕ) (buffer : List ℕ) → put at [] buffer ≡ buffer
+put-nil at buffer = take-append-drop at buffer
+
+-- one byte, then the others
+pub put-cons : (at x : ℕ) (bytes buffer : List ℕ) → at < length buffer → put at (x ∷ bytes) buffer ≡ put (suc at) bytes (set buffer at x)
+put-cons at x bytes [] h = absurd (not-suc-le-zero h)
+put-cons zero x bytes (y ∷ buffer) h = refl
+put-cons (suc at) x bytes (y ∷ buffer) h = ap (λ (l : List ℕ). y ∷ l) (put-cons at x bytes buffer (le-of-suc-le-suc h))
+
+-- a byte written before a part is the part's first
+pub put-before : (at byte : ℕ) (bytes buffer : List ℕ) → at < length buffer
+    → set (put (suc at) bytes buffer) at byte ≡ put at (byte ∷ bytes) buffer
+put-before at byte bytes buffer h =
+    let rest = bytes ++ drop (length bytes) (drop (suc at) buffer) in
+    ap (λ (l : List ℕ). set l at byte)
+    (ap (λ (l : List ℕ). l ++ rest) (take-suc buffer at 0 h) ∙ append-snoc (take at buffer) (getD buffer at 0) rest)
+    ∙ set-at (take at buffer) (getD buffer at 0) rest byte at (length-take-le at buffer (omega arith))
+    ∙ ap (λ (l : List ℕ). take at buffer ++ (byte ∷ (bytes ++ drop (suc (length bytes)) l))) (sym (drop-cons buffer at 0 h))
 
 -- two parts side by side are one
 pub put-put : (at : ℕ) (a b buffer : List ℕ) → at ≤ length buffer → put (at + length a) b (put at a buffer) ≡ put at (a ++ b) buffer
@@ -23,17 +58,75 @@ put-put at a b buffer h =
     ∙ ap (λ (l : List ℕ). (a ++ b) ++ l)
     (drop-drop (length b) (length a) (drop at buffer) ∙ ap (λ (n : ℕ). drop n (drop at buffer)) (sym (length-append a b))))
 
--- a byte written before a part is the part's first
-pub put-before : (at byte : ℕ) (bytes buffer : List ℕ) → at < length buffer
-    → set (put (suc at) bytes buffer) at byte ≡ put at (byte ∷ bytes) buffer
-put-before at byte bytes buffer h =
-    let rest = bytes ++ drop (length bytes) (drop (suc at) buffer) in
-    ap (λ (l : List ℕ). set l at byte)
-    (ap (λ (l : List ℕ). l ++ rest) (take-suc buffer at 0 h) ∙ append-snoc (take at buffer) (getD buffer at 0) rest)
-    ∙ set-at (take at buffer) (getD buffer at 0) rest byte at (length-take-le at buffer (omega arith))
-    ∙ ap (λ (l : List ℕ). take at buffer ++ (byte ∷ (bytes ++ drop (suc (length bytes)) l))) (sym (drop-cons buffer at 0 h))
-
 -- a part that is written where the last one ended
 pub put-next : (base at : ℕ) (a b buffer out : List ℕ) → base ≤ length buffer → at ≡ base + length a → out ≡ put base a buffer
     → put at b out ≡ put base (a ++ b) buffer
 put-next base at a b buffer out h e f = ap₂ (λ (m : ℕ) (o : List ℕ). put m b o) e f ∙ put-put base a b buffer h
+
+-- one part over another of the same length
+pub put-over : (at : ℕ) (a b buffer : List ℕ) → at ≤ length buffer → length a ≡ length b → put at b (put at a buffer) ≡ put at b buffer
+put-over at a b buffer h e =
+    let front = take at buffer in
+    let rest = drop (length a) (drop at buffer) in
+    let long = length-take-le at buffer h in
+    ap₂ (λ (x y : List ℕ). x ++ (b ++ drop (length b) y)) (take-at front (a ++ rest) at long) (drop-at front (a ++ rest) at long)
+    ∙ ap (λ (x : List ℕ). front ++ (b ++ x)) (drop-at a rest (length b) e ∙ ap (λ (n : ℕ). drop n (drop at buffer)) e)
+
+-- the part from `at` to `at + size`, lent and left as `bytes`
+pub put-part : (at size : ℕ) (bytes buffer : List ℕ) → length bytes ≡ size
+    → take at buffer ++ (bytes ++ drop (at + size - at) (drop at buffer)) ≡ put at bytes buffer
+put-part at size bytes buffer e =
+    ap (λ (n : ℕ). take at buffer ++ (bytes ++ drop n (drop at buffer))) (add-sub-cancel-left at size ∙ sym e)
+
+-- the buffer after the part from `at` to `at + size` was lent and left as `bytes`
+abbrev left : ℕ → ℕ → List ℕ → List ℕ → List ℕ
+left at size buffer bytes = take at buffer ++ (bytes ++ drop (at + size - at) (drop at buffer))
+
+-- a part that is lent twice: left as x at first, and then as f of what it held
+pub put-twice : (at size : ℕ) (x buffer : List ℕ) (f : List ℕ → List ℕ) {first last : List ℕ} → at + size ≤ length buffer
+    → length x ≡ size → length (f x) ≡ size → first ≡ x → last ≡ f (take (at + size - at) (drop at (left at size buffer first)))
+    → left at size (left at size buffer first) last ≡ put at (f x) buffer
+put-twice at size x buffer f {first} {last} fits long kept e m =
+    let held : left at size buffer first ≡ put at x buffer =
+    put-part at size first buffer (ap length e ∙ long) ∙ ap (λ (l : List ℕ). put at l buffer) e in
+    let made : last ≡ f x =
+    m ∙ ap₂ (λ (l : List ℕ) (n : ℕ). f (take n (drop at l))) held (add-sub-cancel-left at size ∙ sym long)
+    ∙ ap f (cut-put at x buffer (omega arith)) in
+    let whole : length last ≡ size = ap length made ∙ kept in
+    ap (λ (l : List ℕ). left at size l last) held
+    ∙ put-part at size last (put at x buffer) whole
+    ∙ put-over at x last buffer (omega arith) (long ∙ sym whole)
+    ∙ ap (λ (l : List ℕ). put at l buffer) made
+
+-- the rest of a buffer from a place on, lent as a part and written at its front
+pub rest-written : (at : ℕ) (bytes buffer : List ℕ) → take at buffer ++ (put 0 bytes (drop at buffer) ++ drop (length buffer - at) (drop at buffer)) ≡ put at bytes buffer
+rest-written at bytes buffer =
+    ap (λ (l : List ℕ). take at buffer ++ (put 0 bytes (drop at buffer) ++ l)) (drop-of-length-le (drop at buffer) (le-of-eq (length-drop at buffer)))
+    ∙ ap (λ (l : List ℕ). take at buffer ++ l) (append-nil (put 0 bytes (drop at buffer)))
+
+drop-zeros : (j n : ℕ) → drop j (replicate {A = ℕ} n 0) ≡ replicate (n - j) 0
+drop-zeros zero n = rw (sub-zero n)
+drop-zeros (suc j) zero = rw (zero-sub (suc j))
+drop-zeros (suc j) (suc n) = drop-zeros j n ∙ rw (suc-sub-suc n j)
+
+-- written over zeros
+pub put-padded : (bytes : List ℕ) (size : ℕ) → put 0 bytes (replicate size 0) ≡ padded size bytes
+put-padded bytes size = ap (λ (l : List ℕ). bytes ++ l) (drop-zeros (length bytes) size)
+
+pub put-two : (front back : List ℕ) (at size : ℕ) → length front ≡ at → put at back (put 0 front (replicate size 0)) ≡ padded size (front ++ back)
+put-two front back at size e =
+    ap (λ (n : ℕ). put n back (put 0 front (replicate size 0))) (sym e ∙ sym (zero-add (length front)))
+    ∙ put-put 0 front back (replicate size 0) (omega arith) ∙ put-padded (front ++ back) size
+
+-- a copy by one byte more
+pub copy-more : (from into : List ℕ) (i : ℕ) → i < length from → i < length into
+    → set (take i from ++ drop i into) i (getD from i 0) ≡ take (i + 1) from ++ drop (i + 1) into
+copy-more from into i h k =
+    let within : 0 + i < length into = omega arith in
+    let step : set (take i from ++ drop (0 + i) into) (0 + i) (getD from i 0) ≡ take (suc i) from ++ drop (0 + suc i) into =
+    paste-suc into 0 from i 0 within h in
+    simp (add-one) (simp (zero-add) at step)
+
+-- an element written after the first i
+pub write-more : (i x : ℕ) (buffer rest : List ℕ) → i < length buffer → take (i + 1) (set buffer i x) ++ rest ≡ take i buffer ++ (x ∷ rest)
+write-more i x buffer rest h = rw (add-one i, take-suc-set buffer i x h) (append-assoc (take i buffer) (x ∷ []) rest)

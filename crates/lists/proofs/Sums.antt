@@ -1,13 +1,15 @@
--- Laws of sums over lists.
-use Prim.Native.Nat.{ℕ, zero, suc, _+_, _*_, _<_}
-use native.Mathlib.Nat.{zero-add, add-zero, mul-add, mul-zero, zero-mul, one-mul, add-suc, suc-mul, suc-add}
+-- Laws of sums: over joined, mapped, repeated and kept lists, of equal terms, of bits, and over ranges.
+use Prim.Native.Nat.{ℕ, zero, suc, _+_, _*_, _≤_, _<_}
+use native.Mathlib.Nat.{mul-add, mul-zero, mul-one, zero-mul, one-mul, suc-mul}
 use native.Mathlib.Omega.{arith}
 use mathlib.Core.Path.{_≡_, refl, sym, ap, _∙_, fun-ext}
 use mathlib.Core.List.{List, [], _∷_, _++_, map, flatMap}
 use mathlib.Core.Bool.{Bool, true, false}
-use lib.ListN.{length, replicate}
+use lib.ListN.{length, getD, replicate}
 use Rattle.lists.specs.Sums.{All, allNil, allCons, bit, keep, keepIf, sum}
 use Rattle.lists.specs.Ranges.{range}
+use Rattle.lists.proofs.Bits.{bit-zero}
+use Rattle.lists.proofs.Ranges.{range-length, range-next, All-range}
 
 module _ {A : Type 0} where
   pub sum-append : (f : A → ℕ) (xs ys : List A) → sum f (xs ++ ys) ≡ sum f xs + sum f ys
@@ -33,15 +35,16 @@ module _ {A : Type 0} where
   sum-all f g allNil = refl
   sum-all f g (allCons e a) = omega (arith, e, sum-all f g a)
 
-  pub sum-zero : (xs : List A) → sum (λ x. 0) xs ≡ 0
+  sum-const : (c : ℕ) (xs : List A) → sum (λ x. c) xs ≡ length xs * c
   unfolding sum
-  sum-zero [] = refl
-  sum-zero (x ∷ xs) = omega (arith, sum-zero xs)
+  sum-const c [] = sym (zero-mul c)
+  sum-const c (x ∷ xs) = omega (arith, sum-const c xs, suc-mul (length xs) c)
+
+  pub sum-zero : (xs : List A) → sum (λ x. 0) xs ≡ 0
+  sum-zero xs = sum-const 0 xs ∙ mul-zero (length xs)
 
   pub sum-one : (xs : List A) → sum (λ x. 1) xs ≡ length xs
-  unfolding sum
-  sum-one [] = refl
-  sum-one (x ∷ xs) = omega (arith, sum-one xs)
+  sum-one xs = sum-const 1 xs ∙ mul-one (length xs)
 
   pub sum-keep : (f : A → ℕ) (t : A → Bool) (xs : List A) → sum f (keep t xs) ≡ sum (λ x. bit (t x) * f x) xs
   unfolding sum keep keepIf bit
@@ -52,36 +55,25 @@ module _ {A : Type 0} where
       go true e = omega (arith, one-mul (f x))
       go false e = omega (arith, zero-mul (f x))
 
+  pub sum-keep-most : (f : A → ℕ) (t : A → Bool) (xs : List A) → sum f (keep t xs) ≤ sum f xs
+  unfolding keep keepIf sum
+  sum-keep-most f t [] = omega arith
+  sum-keep-most f t (x ∷ xs) = go (t x) (sum-keep-most f t xs)
+    where
+      go : (b : Bool) → sum f (keep t xs) ≤ sum f xs → sum f (keepIf b x (keep t xs)) ≤ sum f (x ∷ xs)
+      go true ih = omega arith
+      go false ih = omega arith
+
   pub sum-replicate : (f : A → ℕ) (n : ℕ) (x : A) → sum f (replicate n x) ≡ n * f x
   unfolding sum
   sum-replicate f zero x = sym (zero-mul (f x))
   sum-replicate f (suc n) x = omega (arith, sum-replicate f n x, suc-mul n (f x))
 
-  pub All-append : {P : A → Type 0} {xs ys : List A} → All P xs → All P ys → All P (xs ++ ys)
-  All-append allNil b = b
-  All-append (allCons h a) b = allCons h (All-append a b)
-
-  pub All-every : {P : A → Type 0} → ((x : A) → P x) → (xs : List A) → All P xs
-  All-every h [] = allNil
-  All-every h (x ∷ xs) = allCons (h x) (All-every h xs)
-
-  pub All-imp : {P Q : A → Type 0} → ((x : A) → P x → Q x) → {xs : List A} → All P xs → All Q xs
-  All-imp h allNil = allNil
-  All-imp h (allCons p a) = allCons (h _ p) (All-imp h a)
-
-  pub All-replicate : {P : A → Type 0} (n : ℕ) (x : A) → P x → All P (replicate n x)
-  All-replicate zero x h = allNil
-  All-replicate (suc n) x h = allCons h (All-replicate n x h)
-
-  -- what is kept has the property, and passes the test
-  pub All-keep : {P : A → Type 0} (t : A → Bool) {xs : List A} → All P xs → All (λ x. P x × (t x ≡ true)) (keep t xs)
-  unfolding keep keepIf
-  All-keep t allNil = allNil
-  All-keep {P} t (allCons {x = x} {xs = xs} h a) = go (t x) refl (All-keep t a)
-    where
-      go : (b : Bool) → t x ≡ b → All (λ y. P y × (t y ≡ true)) (keep t xs) → All (λ y. P y × (t y ≡ true)) (keepIf b x (keep t xs))
-      go true e r = allCons (h, e) r
-      go false e r = r
+  -- where a sum of bits is 0, no test holds
+  pub sum-none : (t : A → Bool) (xs : List A) → sum (λ x. bit (t x)) xs ≡ 0 → All (λ x. t x ≡ false) xs
+  unfolding sum
+  sum-none t [] e = allNil
+  sum-none t (x ∷ xs) e = allCons (bit-zero (t x) (omega arith)) (sum-none t xs (omega arith))
 
 module _ {A B : Type 0} where
   pub sum-flatMap : (f : A → ℕ) (g : B → List A) (xs : List B) → sum f (flatMap g xs) ≡ sum (λ x. sum f (g x)) xs
@@ -99,31 +91,25 @@ module _ {A B : Type 0} where
   sum-swap f [] ys = sym (sum-zero ys)
   sum-swap f (x ∷ xs) ys = ap (λ s. sum (f x) ys + s) (sum-swap f xs ys) ∙ sym (sum-add (f x) (λ y. sum (λ z. f z y) xs) ys)
 
-  pub All-flatMap : {P : A → Type 0} (g : B → List A) {xs : List B} → All (λ x. All P (g x)) xs → All P (flatMap g xs)
-  unfolding flatMap
-  All-flatMap g allNil = allNil
-  All-flatMap g (allCons h a) = All-append h (All-flatMap g a)
-
-  pub All-map : {P : A → Type 0} (g : B → A) {xs : List B} → All (λ x. P (g x)) xs → All P (map g xs)
-  All-map g allNil = allNil
-  All-map g (allCons h a) = allCons h (All-map g a)
-
--- the last number of a range
-pub sum-last : (f : ℕ → ℕ) (a n : ℕ) → sum f (range a (suc n)) ≡ sum f (range a n) + f (a + n)
-unfolding sum range
-sum-last f a zero = omega (arith, ap f (add-zero a))
-sum-last f a (suc n) = omega (arith, sum-last f (suc a) n, ap f (suc-add a n), ap f (add-suc a n))
-
 pub sum-first : (f : ℕ → ℕ) (a n : ℕ) → sum f (range (suc a) n) ≡ sum (λ i. f (suc i)) (range a n)
 unfolding sum range
 sum-first f a zero = refl
 sum-first f a (suc n) = omega (arith, sum-first f (suc a) n)
 
 pub sum-next : (f : ℕ → ℕ) (n : ℕ) → sum f (range 0 (suc n)) ≡ sum f (range 0 n) + f n
-sum-next f n = sum-last f 0 n ∙ ap (λ i. sum f (range 0 n) + f i) (zero-add n)
+unfolding sum
+sum-next f n = omega (arith, ap (sum f) (range-next n), sum-append f (range 0 n) (n ∷ []))
+
+-- the same term for each number
+pub sum-same : (c n : ℕ) → sum (λ i. c) (range 0 n) ≡ n * c
+sum-same c n = sum-const c (range 0 n) ∙ ap (λ m. m * c) (range-length 0 n)
 
 -- two sums over a range are equal where their terms are
 pub sum-range : (f g : ℕ → ℕ) (n : ℕ) → ((i : ℕ) → i < n → f i ≡ g i) → sum f (range 0 n) ≡ sum g (range 0 n)
+sum-range f g n h = sum-all f g (All-range n h)
+
+-- a sum over a list, place by place
+pub sum-at : {A : Type 0} (w : A → ℕ) (d : A) (l : List A) → sum w l ≡ sum (λ i. w (getD l i d)) (range 0 (length l))
 unfolding sum range
-sum-range f g zero h = refl
-sum-range f g (suc n) h = omega (arith, sum-next f n, sum-next g n, h n (omega arith), sum-range f g n (λ i l. h i (omega arith)))
+sum-at w d [] = refl
+sum-at w d (x ∷ l) = omega (arith, sum-at w d l, sum-first (λ i. w (getD (x ∷ l) i d)) 0 (length l))

@@ -8,7 +8,7 @@ use native.Mathlib.Omega.{arith}
 use lib.ListN.{length, getD, take}
 use lib.Seq.{take-suc}
 use Rattle.lists.specs.Ranges.{range}
-use Rattle.lists.proofs.Flat.{flatMap-append}
+use Rattle.lists.proofs.Joined.{flatMap-append}
 
 module _ {B : Type 0} (f : ℕ → List B) where
   flatMap-last : (xs : List ℕ) (x : ℕ) → flatMap f (xs ++ (x ∷ [])) ≡ flatMap f xs ++ f x

@@ -9,7 +9,7 @@ use native.Mathlib.Omega.{arith}
 use borrow.Author.Tests.{leb-true}
 use lib.Dec.{leb, eqb}
 use lib.ListN.{length, take, drop, getD, length-drop, drop-of-length-le}
-use Rattle.lists.proofs.Every.{both-true}
+use Rattle.lists.proofs.Both.{both-true}
 use Rattle.text_lines.specs.declared.Line.{Line}
 use Rattle.text_lines.specs.declared.Line.the-variants.{Value, Refused}
 use Rattle.text_lines.specs.Decimal.{digitCount, valueFrom}

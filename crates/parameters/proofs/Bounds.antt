@@ -6,6 +6,7 @@ use native.Mathlib.Nat.{pow-le-pow-left, pow-le-pow-right}
 use native.Mathlib.Omega.{arith}
 use borrow.Author.Tests.{leb-true, leb-false}
 use lib.Dec.{leb}
+use Rattle.lists.proofs.Both.{both-true}
 use Rattle.parameters.specs.Bounds.{serversFit, symbolFits, shortMessagesFit, evenMessagesFit, shortFits, evenFits}
 
 pub record ShortBounds (N K S : ℕ) : Type 0 where
@@ -25,19 +26,15 @@ pub record EvenBounds (N K S : ℕ) : Type 0 where
   pub messages-high : K ≤ 8
   pub symbols-high : N ^ K ≤ 256
 
-both : (t u : Bool) → t && u ≡ true → (t ≡ true) × (u ≡ true)
-both true u e = (refl, e)
-both false u e = let z : _≡_ {A = ℕ} 0 1 = cc in absurd (let w : ⊥ = omega arith in w)
-
 -- a test of two orders
 within : (a n b : ℕ) → leb a n && leb n b ≡ true → (a ≤ n) × (n ≤ b)
-within a n b e = let p = both (leb a n) (leb n b) e in (leb-true a n (p .0), leb-true n b (p .1))
+within a n b e = let p = both-true (leb a n) (leb n b) e in (leb-true a n (p .0), leb-true n b (p .1))
 
 pub short-bounds : (N K S : ℕ) → shortFits N K S ≡ true → ShortBounds N K S
 unfolding shortFits
 short-bounds N K S e =
-    let p = both (serversFit N) (symbolFits S && shortMessagesFit K) e in
-    let q = both (symbolFits S) (shortMessagesFit K) (p .1) in
+    let p = both-true (serversFit N) (symbolFits S && shortMessagesFit K) e in
+    let q = both-true (symbolFits S) (shortMessagesFit K) (p .1) in
     let n = within 2 N 16 (p .0) in
     let s = within 1 S 4096 (q .0) in
     let k = within 1 K 32 (q .1) in
@@ -64,11 +61,11 @@ few-messages N K h e = go (leb K 8) refl
 pub even-bounds : (N K S : ℕ) → evenFits N K S ≡ true → EvenBounds N K S
 unfolding evenFits
 even-bounds N K S e =
-    let p = both (serversFit N) (symbolFits S && evenMessagesFit N K) e in
-    let q = both (symbolFits S) (evenMessagesFit N K) (p .1) in
+    let p = both-true (serversFit N) (symbolFits S && evenMessagesFit N K) e in
+    let q = both-true (symbolFits S) (evenMessagesFit N K) (p .1) in
     let n = within 2 N 16 (p .0) in
     let s = within 1 S 4096 (q .0) in
-    let k = both (leb 1 K) (leb (N ^ K) 256) (q .1) in
+    let k = both-true (leb 1 K) (leb (N ^ K) 256) (q .1) in
     record {
       servers-low = n .0;
       servers-high = n .1;

@@ -14,7 +14,7 @@ use lib.ListN.{length, take, drop, getD, drop-of-length-le, List·getD-eq-defaul
 use lib.Seq.{drop-cons, drop-drop}
 use Rattle.lists.specs.Below.{Below}
 use Rattle.lists.proofs.Below.{below-cons}
-use Rattle.lists.proofs.Every.{both-true}
+use Rattle.lists.proofs.Both.{both-true}
 use Rattle.text_lines.specs.declared.Line.{Line}
 use Rattle.text_lines.specs.declared.Line.the-variants.{Value, Refused}
 use Rattle.text_lines.specs.Decimal.{decimal, digitCount, valueFrom}

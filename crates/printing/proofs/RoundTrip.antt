@@ -12,7 +12,7 @@ use lib.ListN.{length, drop, getD, length-append, length-drop, List·getD-append
 use lib.Seq.{getD-drop, take-append-seam, drop-append-seam}
 use Rattle.lists.specs.Ascii.{ascii}
 use Rattle.lists.specs.Below.{Below}
-use Rattle.lists.proofs.Rests.{drop-after}
+use Rattle.lists.proofs.Cuts.{drop-after}
 use Rattle.text_lines.specs.declared.Line.the-variants.{Value}
 use Rattle.text_lines.specs.Decimal.{decimal, isDigit, digitCount}
 use Rattle.text_lines.specs.Lines.{numberText, begins, isNumeral}

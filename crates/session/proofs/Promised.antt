@@ -8,8 +8,9 @@ use native.Mathlib.Omega.{arith}
 use lib.ListN.{length, take}
 use lib.Seq.{length-take-le}
 use Rattle.lists.specs.Parts.{put}
-use Rattle.lists.proofs.Parts.{put-length}
-use Rattle.lists.proofs.Slots.{slot-end, cut-put}
+use Rattle.lists.proofs.Puts.{put-length}
+use Rattle.lists.proofs.Cuts.{slot-end}
+use Rattle.lists.proofs.ReadBack.{cut-put}
 use Rattle.parameters.specs.declared.Sizes.{Sizes}
 use Rattle.parameters.specs.Measures.{keyPlaces}
 use Rattle.scheme.specs.Scheme.{Valid}

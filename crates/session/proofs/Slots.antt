@@ -9,9 +9,10 @@ use borrow.Author.Tests.{ltb-true, ltb-false}
 use lib.Dec.{ltb}
 use lib.ListN.{length, take-append-drop}
 use Rattle.lists.specs.Parts.{cut}
-use Rattle.lists.proofs.Parts.{put-length}
-use Rattle.lists.proofs.Slots.{slot-end, cut-put, cut-put-before, cut-put-after}
-use Rattle.lists.proofs.Ranges.{map-range}
+use Rattle.lists.proofs.Puts.{put-length}
+use Rattle.lists.proofs.Cuts.{slot-end}
+use Rattle.lists.proofs.ReadBack.{cut-put, cut-put-before, cut-put-after}
+use Rattle.lists.proofs.Mapped.{map-range}
 use Rattle.refusal.specs.declared.Verdict.{Verdict}
 use Rattle.refusal.specs.declared.Verdict.the-variants.{Accepted, Refused}
 use Rattle.scheme.specs.Scheme.{Scheme, answersIn}

@@ -5,7 +5,7 @@ use Prim.Native.Nat.{ℕ, suc, _+_, _-_, _*_, _≤_, _<_}
 use native.Mathlib.Nat.{suc-mul, mul-assoc, mul-le-mul-right, le-mul-of-pos-right, le-of-eq, le-trans}
 use native.Mathlib.Omega.{arith}
 use lib.ListN.{length}
-use Rattle.lists.proofs.Parts.{cut-length}
+use Rattle.lists.proofs.Cuts.{cut-length}
 use Rattle.short_code.specs.Short.{symbolAt}
 
 -- the symbol that ends at a + d, and how large the numbers are that lead there

@@ -12,8 +12,9 @@ use Rattle.lists.specs.Parts.{cut}
 use Rattle.lists.specs.Below.{allBelow, Below}
 use Rattle.lists.specs.Inserts.{insertAt}
 use Rattle.lists.proofs.Below.{allBelow-below, below-take, below-drop}
-use Rattle.lists.proofs.Mapped.{mapped-at, joined-equal}
-use Rattle.lists.proofs.Writes.{cut-join}
+use Rattle.lists.proofs.Mapped.{mapped-at}
+use Rattle.lists.proofs.Joined.{joined-equal}
+use Rattle.lists.proofs.Cuts.{cut-join}
 use Rattle.symbol.specs.Sum.{Sum, total}
 use Rattle.symbol.specs.Group.{AbelianGroup, Symbols, more}
 use Rattle.symbol.proofs.Totals.{total-symbol, total-found, symbols-append}

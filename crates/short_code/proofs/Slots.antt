@@ -12,11 +12,10 @@ use Rattle.lists.specs.Ranges.{range}
 use Rattle.lists.specs.Below.{Below}
 use Rattle.lists.specs.Inserts.{insertAt}
 use Rattle.lists.proofs.Below.{below-take, below-drop}
-use Rattle.lists.proofs.Parts.{cut-length}
-use Rattle.lists.proofs.Slots.{slot-end}
-use Rattle.lists.proofs.Puts.{put-put}
-use Rattle.lists.proofs.Writes.{put-nil}
-use Rattle.lists.proofs.Mapped.{mapped-at, joined-equal}
+use Rattle.lists.proofs.Cuts.{cut-length, slot-end}
+use Rattle.lists.proofs.Puts.{put-put, put-nil}
+use Rattle.lists.proofs.Mapped.{mapped-at}
+use Rattle.lists.proofs.Joined.{joined-equal}
 use Rattle.parameters.specs.Measures.{shortSizes}
 use Rattle.symbol.specs.Sum.{Symbol}
 use Rattle.symbol.specs.Xor.{xor}

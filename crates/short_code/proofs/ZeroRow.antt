@@ -8,8 +8,7 @@ use borrow.Author.Tests.{le-ltb}
 use lib.ListN.{take, drop, take-append-drop}
 use Rattle.lists.specs.Below.{allBelow}
 use Rattle.lists.specs.Inserts.{insertAt}
-use Rattle.lists.proofs.Below.{allBelow-below}
-use Rattle.lists.proofs.Scans.{below-joined}
+use Rattle.lists.proofs.Below.{allBelow-below, below-joined}
 use Rattle.symbol.specs.Sum.{Sum, total}
 use Rattle.short_code.specs.Short.{allZero, named, shortAnswerLength, shortAnswer}
 

@@ -8,7 +8,7 @@ use borrow.Author.Tests.{eq-eqb, ne-eqb, eqb-true}
 use lib.Dec.{eqb}
 use lib.ListN.{length, getD, drop}
 use lib.Seq.{drop-length}
-use Rattle.lists.proofs.Every.{both-true}
+use Rattle.lists.proofs.Both.{both-true}
 use Rattle.text_lines.specs.Lines.{begins}
 use Rattle.text_lines.proofs.DigitTexts.{step}
 

@@ -10,7 +10,7 @@ use borrow.Author.Tests.{leb-true, le-leb, lt-leb}
 use lib.Dec.{leb}
 use lib.ListN.{length, getD, take, drop}
 use lib.Seq.{drop-cons, drop-length, take-length}
-use Rattle.lists.proofs.Every.{both-true}
+use Rattle.lists.proofs.Both.{both-true}
 use Rattle.text_lines.specs.Decimal.{digit, isDigit, digitCount, valueFrom}
 
 -- ---- one digit

@@ -10,7 +10,7 @@ use borrow.Author.Tests.{leb-true, ltb-true, ltb-false, lt-ltb, le-ltb, ne-eqb, 
 use lib.Dec.{leb, ltb, eqb}
 use lib.ListN.{length, take, drop, getD, take-append-drop, List·getD-append}
 use lib.Seq.{length-take-le, getD-take}
-use Rattle.lists.proofs.Every.{both-true}
+use Rattle.lists.proofs.Both.{both-true}
 use Rattle.text_lines.specs.Decimal.{digit, decimal, digitCount, valueFrom}
 use Rattle.text_lines.specs.Lines.{leadingZero, isNumeral}
 use Rattle.text_lines.proofs.DigitTexts.{Digits, none, more, digit-range, digits-first, count-within}

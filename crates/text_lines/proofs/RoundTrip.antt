@@ -9,8 +9,8 @@ use borrow.Author.Tests.{le-leb, eqb-true, ltb-true, ltb-false}
 use lib.Dec.{ltb, eqb}
 use lib.ListN.{length, take, drop, getD, List·getD-eq-default}
 use lib.Seq.{take-append-seam, getD-append-seam, drop-cons, drop-drop}
-use Rattle.lists.proofs.Every.{both-true}
-use Rattle.lists.proofs.Rests.{drop-after}
+use Rattle.lists.proofs.Both.{both-true}
+use Rattle.lists.proofs.Cuts.{drop-after}
 use Rattle.text_lines.specs.declared.Line.the-variants.{Value, Refused}
 use Rattle.text_lines.specs.Decimal.{decimal, digitCount, valueFrom}
 use Rattle.text_lines.specs.Lines.{numberText, begins, isNumeral, numberAt, numberLine}

@@ -5,7 +5,7 @@ use Prim.Native.Nat.{_^_, _≤_}
 use borrow.Author.Needs.{needs}
 use borrow.Author.Tests.{le-leb, lt-leb, leb-true, not-true, not-false}
 use lib.Dec.{leb}
-use Rattle.lists.proofs.Every.{both-true}
+use Rattle.lists.proofs.Both.{both-true}
 use Rattle.parameters.specs.Bounds.{serversFit, symbolFits, evenMessagesFit, evenFits}
 use Rattle.catalogue.proofs.Common.{common-fails, common-holds}
 use Rattle.catalogue.proofs.Table.{most-decides}

@@ -11,8 +11,8 @@ use Rattle.lists.specs.Below.{allBelow}
 use Rattle.lists.specs.Distinct.{distinct}
 use Rattle.even_answer.specs.Answering.{cellOf}
 use Rattle.even_places.specs.Rule.{positions}
+use Rattle.even_places.proofs.Positions.{positions-length}
 use Rattle.even_scheme.specs.Even.{evenAdmits}
-use Rattle.even_layout.proofs.Tables.{positions-length}
 use Rattle.even_answer.proofs.Admission.{positions-below, positions-front, positions-fit, admits-pass, power-less}
 use borrow.Author.Needs.{needs}
 use Rattle.even_answer.proofs.admits.Statement.{statement}

@@ -8,21 +8,24 @@ use lib.Count.{ones-le}
 use lib.ListN.{length, getD, take, drop, replicate, length-drop}
 use Rattle.lists.specs.Below.{Below}
 use Rattle.lists.specs.Parts.{put}
-use Rattle.lists.proofs.Writing.{Pending, rest-part, rest-written, pending-start, pending-as, pending-done}
+use Rattle.lists.proofs.Writing.{Pending, pending-start, pending-as, pending-done}
+use Rattle.lists.proofs.Cuts.{to-end}
+use Rattle.lists.proofs.Puts.{rest-written}
 use Rattle.parameters.specs.Measures.{evenSizes}
 use Rattle.parameters.proofs.Bounds.{even-bounds}
 use Rattle.symbol.specs.Xor.{xor}
 use Rattle.even_places.specs.Sets.{allSets}
 use Rattle.even_places.specs.Rule.{layout}
+use Rattle.even_places.proofs.AllSets.{layout-long}
 use Rattle.even_scheme.specs.Even.{rowAnswers, evenAnswer}
+use Rattle.even_scheme.proofs.Answers.{layout-length}
 use Rattle.even_layout.specs.Layout.{setIn}
 use Rattle.even_layout.proofs.Blocks.{subsets-few, all-length}
 use Rattle.even_layout.proofs.Fits.{layout-fits}
 use Rattle.even_layout.proofs.Tables.{byte-at, positionsFrom}
-use Rattle.even_answer.proofs.Admission.{layout-long}
 use Rattle.even_answer.proofs.RowLaws.{answers-length}
-use Rattle.even_answer.proofs.SetRows.{rowsFrom, rows-all, rows-none, layout-length, numbers-all}
-use Rattle.even_answer.proofs.Turns.{set-turn}
+use Rattle.even_answer.proofs.SetRows.{rowsFrom, rows-all, rows-none, numbers-all}
+use Rattle.even_answer.proofs.Turns.{SetTurn, set-turn}
 use Rattle.even_answer.proofs.answer.Statement.{statement}
 use Rattle.even_answer.proofs.answer.Tie as tie
 
@@ -68,7 +71,7 @@ loop-holds c =
     let bytes : Below 256 store = λ j l. c .before .before .before .before .before .shared-slice-known .given j .fits in
     let long = answers-length n k s store (given .whole) bytes query (layout-long n k) (given .named) in
     let room : 0 + length (rowAnswers xor n k s store (layout n k) query) ≤ length (start .args .out .now) =
-    omega (arith, ap (λ (m : ℕ). m * s) (layout-length n k bounds), given .room) in (
+    omega (arith, ap (λ (m : ℕ). m * s) (layout-length n k (bounds .servers-low) (bounds .messages-low)), given .room) in (
       omega arith,
       zero-add (length (positionsFrom n k 0)) ∙ numbers-all n k bounds ∙ sym (given .long),
       rw (rows-all n k) (pending-start room),
@@ -92,69 +95,44 @@ rows-of-requires c κs =
     let b = byte-at n k (at .loop .i) (at .before .before .ordered-sets .result) (replicate (256 - length (allSets k)) 0) bounds (at .before .before .ordered-sets .ensures) inside in
     (omega (arith, bounds .servers-low), b .some, omega (arith, b .rows, b .high))
 
-sub-answer-set : tie.Need-sub-answer-set Inv-loop μ-loop
-sub-answer-set c =
+-- the turn of the set at hand
+turn-of : (c : tie.After-rows-of Inv-loop μ-loop)
+    → let at = c .before .before in
+    let args = at .before .before .before .before .before .before .before .args in
+    SetTurn (args .n) (args .k) (args .s) (args .store .now) (args .query .now) (args .out .now)
+    (at .loop .i) (at .loop .at) (at .loop .end) (getD (at .before .before .ordered-sets .result) (at .loop .i) 0) (c .rows-of .result) (at .loop .out)
+turn-of c =
     let at = c .before .before in
     let start = at .before .before .before .before .before .before .before in
     let inside : at .loop .i < length (allSets (start .args .k)) = omega (arith, at .before .power2 .ensures, all-length (start .args .k)) in
-    let turn = set-turn (at .loop .i) (at .loop .at) (start .pre) (λ j l. at .before .before .before .before .before .before .shared-slice-known .given j .fits)
-    (at .before .before .ordered-sets .ensures) inside (c .rows-of .ensures) (at .loop .inv .1) (at .loop .inv .2) in
-    omega (arith, turn .read, turn .written)
+    set-turn (at .loop .i) (at .loop .at) (start .pre) (λ j l. at .before .before .before .before .before .before .shared-slice-known .given j .fits)
+    (at .before .before .ordered-sets .ensures) inside (c .rows-of .ensures) (at .loop .inv .1) (at .loop .inv .2)
+
+sub-answer-set : tie.Need-sub-answer-set Inv-loop μ-loop
+sub-answer-set c = let turn = turn-of c in omega (arith, turn .read, turn .written)
 
 part-answer-set-start : tie.Need-part-answer-set-start Inv-loop μ-loop
-part-answer-set-start c =
-    let at = c .before .before in
-    let start = at .before .before .before .before .before .before .before in
-    let inside : at .loop .i < length (allSets (start .args .k)) = omega (arith, at .before .power2 .ensures, all-length (start .args .k)) in
-    let turn = set-turn (at .loop .i) (at .loop .at) (start .pre) (λ j l. at .before .before .before .before .before .before .shared-slice-known .given j .fits)
-    (at .before .before .ordered-sets .ensures) inside (c .rows-of .ensures) (at .loop .inv .1) (at .loop .inv .2) in
-    omega (arith, turn .read, turn .written)
+part-answer-set-start c = let turn = turn-of c in omega (arith, turn .read, turn .written)
 
 part-answer-set-end : tie.Need-part-answer-set-end Inv-loop μ-loop
-part-answer-set-end c =
-    let at = c .before .before in
-    let start = at .before .before .before .before .before .before .before in
-    let inside : at .loop .i < length (allSets (start .args .k)) = omega (arith, at .before .power2 .ensures, all-length (start .args .k)) in
-    let turn = set-turn (at .loop .i) (at .loop .at) (start .pre) (λ j l. at .before .before .before .before .before .before .shared-slice-known .given j .fits)
-    (at .before .before .ordered-sets .ensures) inside (c .rows-of .ensures) (at .loop .inv .1) (at .loop .inv .2) in
-    omega (arith, turn .read, turn .written)
+part-answer-set-end c = let turn = turn-of c in omega (arith, turn .read, turn .written)
 
 sub-answer-set-2 : tie.Need-sub-answer-set-2 Inv-loop μ-loop
-sub-answer-set-2 c =
-    let at = c .before .before .before in
-    let start = at .before .before .before .before .before .before .before in
-    let inside : at .loop .i < length (allSets (start .args .k)) = omega (arith, at .before .power2 .ensures, all-length (start .args .k)) in
-    let turn = set-turn (at .loop .i) (at .loop .at) (start .pre) (λ j l. at .before .before .before .before .before .before .shared-slice-known .given j .fits)
-    (at .before .before .ordered-sets .ensures) inside (c .before .rows-of .ensures) (at .loop .inv .1) (at .loop .inv .2) in
-    omega (arith, turn .read, turn .written)
+sub-answer-set-2 c = let turn = turn-of (c .before) in omega (arith, turn .read, turn .written)
 
 part-answer-set-start-2 : tie.Need-part-answer-set-start-2 Inv-loop μ-loop
-part-answer-set-start-2 c =
-    let at = c .before .before .before in
-    let start = at .before .before .before .before .before .before .before in
-    let inside : at .loop .i < length (allSets (start .args .k)) = omega (arith, at .before .power2 .ensures, all-length (start .args .k)) in
-    let turn = set-turn (at .loop .i) (at .loop .at) (start .pre) (λ j l. at .before .before .before .before .before .before .shared-slice-known .given j .fits)
-    (at .before .before .ordered-sets .ensures) inside (c .before .rows-of .ensures) (at .loop .inv .1) (at .loop .inv .2) in
-    omega (arith, turn .read, turn .written)
+part-answer-set-start-2 c = let turn = turn-of (c .before) in omega (arith, turn .read, turn .written)
 
 part-answer-set-end-2 : tie.Need-part-answer-set-end-2 Inv-loop μ-loop
-part-answer-set-end-2 c =
-    let at = c .before .before .before in
-    let start = at .before .before .before .before .before .before .before in
-    let inside : at .loop .i < length (allSets (start .args .k)) = omega (arith, at .before .power2 .ensures, all-length (start .args .k)) in
-    let turn = set-turn (at .loop .i) (at .loop .at) (start .pre) (λ j l. at .before .before .before .before .before .before .shared-slice-known .given j .fits)
-    (at .before .before .ordered-sets .ensures) inside (c .before .rows-of .ensures) (at .loop .inv .1) (at .loop .inv .2) in
-    omega (arith, turn .read, turn .written)
+part-answer-set-end-2 c = let turn = turn-of (c .before) in omega (arith, turn .read, turn .written)
 
 answer-set-requires : tie.Need-answer-set-requires Inv-loop μ-loop
 answer-set-requires c κs =
     let at = c .before .before .before .before in
     let start = at .before .before .before .before .before .before .before in
-    let inside : at .loop .i < length (allSets (start .args .k)) = omega (arith, at .before .power2 .ensures, all-length (start .args .k)) in
-    let turn = set-turn (at .loop .i) (at .loop .at) (start .pre) (λ j l. at .before .before .before .before .before .before .shared-slice-known .given j .fits)
-    (at .before .before .ordered-sets .ensures) inside (c .before .before .rows-of .ensures) (at .loop .inv .1) (at .loop .inv .2) in (
-      rw (rest-part (at .loop .at) (start .args .query .now)) (turn .given),
-      rw (rest-part (at .loop .end) (at .loop .out)) (omega (arith, length-drop (at .loop .end) (at .loop .out), turn .written)),
+    let turn = turn-of (c .before .before) in (
+      rw (to-end (start .args .query .now) (at .loop .at)) (turn .given),
+      rw (to-end (at .loop .out) (at .loop .end)) (omega (arith, length-drop (at .loop .end) (at .loop .out), turn .written)),
       at .before .before .before .power .ensures,
     )
 
@@ -162,46 +140,20 @@ cast-at : tie.Need-cast-at Inv-loop μ-loop
 cast-at c =
     let at = c .before .before .before .before .before .before .before in
     let start = at .before .before .before .before .before .before .before in
-    let inside : at .loop .i < length (allSets (start .args .k)) = omega (arith, at .before .power2 .ensures, all-length (start .args .k)) in
-    let turn = set-turn (at .loop .i) (at .loop .at) (start .pre) (λ j l. at .before .before .before .before .before .before .shared-slice-known .given j .fits)
-    (at .before .before .ordered-sets .ensures) inside (c .before .before .before .before .before .rows-of .ensures) (at .loop .inv .1) (at .loop .inv .2) in
+    let turn = turn-of (c .before .before .before .before .before) in
     omega (arith, ones-le 8 (getD (at .before .before .ordered-sets .result) (at .loop .i) 0) (turn .small))
 
 mul-at : tie.Need-mul-at Inv-loop μ-loop
-mul-at c =
-    let at = c .before .before .before .before .before .before .before in
-    let start = at .before .before .before .before .before .before .before in
-    let inside : at .loop .i < length (allSets (start .args .k)) = omega (arith, at .before .power2 .ensures, all-length (start .args .k)) in
-    let turn = set-turn (at .loop .i) (at .loop .at) (start .pre) (λ j l. at .before .before .before .before .before .before .shared-slice-known .given j .fits)
-    (at .before .before .ordered-sets .ensures) inside (c .before .before .before .before .before .rows-of .ensures) (at .loop .inv .1) (at .loop .inv .2) in
-    omega (arith, turn .read, turn .written)
+mul-at c = let turn = turn-of (c .before .before .before .before .before) in omega (arith, turn .read, turn .written)
 
 add-at : tie.Need-add-at Inv-loop μ-loop
-add-at c =
-    let at = c .before .before .before .before .before .before .before in
-    let start = at .before .before .before .before .before .before .before in
-    let inside : at .loop .i < length (allSets (start .args .k)) = omega (arith, at .before .power2 .ensures, all-length (start .args .k)) in
-    let turn = set-turn (at .loop .i) (at .loop .at) (start .pre) (λ j l. at .before .before .before .before .before .before .shared-slice-known .given j .fits)
-    (at .before .before .ordered-sets .ensures) inside (c .before .before .before .before .before .rows-of .ensures) (at .loop .inv .1) (at .loop .inv .2) in
-    omega (arith, turn .read, turn .written)
+add-at c = let turn = turn-of (c .before .before .before .before .before) in omega (arith, turn .read, turn .written)
 
 mul-end : tie.Need-mul-end Inv-loop μ-loop
-mul-end c =
-    let at = c .before .before .before .before .before .before .before in
-    let start = at .before .before .before .before .before .before .before in
-    let inside : at .loop .i < length (allSets (start .args .k)) = omega (arith, at .before .power2 .ensures, all-length (start .args .k)) in
-    let turn = set-turn (at .loop .i) (at .loop .at) (start .pre) (λ j l. at .before .before .before .before .before .before .shared-slice-known .given j .fits)
-    (at .before .before .ordered-sets .ensures) inside (c .before .before .before .before .before .rows-of .ensures) (at .loop .inv .1) (at .loop .inv .2) in
-    omega (arith, turn .read, turn .written)
+mul-end c = let turn = turn-of (c .before .before .before .before .before) in omega (arith, turn .read, turn .written)
 
 add-end : tie.Need-add-end Inv-loop μ-loop
-add-end c =
-    let at = c .before .before .before .before .before .before .before in
-    let start = at .before .before .before .before .before .before .before in
-    let inside : at .loop .i < length (allSets (start .args .k)) = omega (arith, at .before .power2 .ensures, all-length (start .args .k)) in
-    let turn = set-turn (at .loop .i) (at .loop .at) (start .pre) (λ j l. at .before .before .before .before .before .before .shared-slice-known .given j .fits)
-    (at .before .before .ordered-sets .ensures) inside (c .before .before .before .before .before .rows-of .ensures) (at .loop .inv .1) (at .loop .inv .2) in
-    omega (arith, turn .read, turn .written)
+add-end c = let turn = turn-of (c .before .before .before .before .before) in omega (arith, turn .read, turn .written)
 
 add-i : tie.Need-add-i Inv-loop μ-loop
 add-i c = omega arith
@@ -213,15 +165,13 @@ loop-again : tie.Need-loop-again Inv-loop μ-loop
 loop-again c =
     let at = c .before .before .before .before .before .before .before in
     let start = at .before .before .before .before .before .before .before in
-    let inside : at .loop .i < length (allSets (start .args .k)) = omega (arith, at .before .power2 .ensures, all-length (start .args .k)) in
-    let turn = set-turn (at .loop .i) (at .loop .at) (start .pre) (λ j l. at .before .before .before .before .before .before .shared-slice-known .given j .fits)
-    (at .before .before .ordered-sets .ensures) inside (c .before .before .before .before .before .rows-of .ensures) (at .loop .inv .1) (at .loop .inv .2) in
+    let turn = turn-of (c .before .before .before .before .before) in
     let end = at .loop .end in
     let out = at .loop .out in
     let numbers = drop (at .loop .at) (start .args .query .now) in
     let answered = rowAnswers xor (start .args .n) (start .args .k) (start .args .s) (start .args .store .now)
     (replicate (c .before .before .before .before .before .rows-of .result) (setIn (start .args .k) (getD (at .before .before .ordered-sets .result) (at .loop .i) 0))) in
-    let made = c .before .before .answer-set .ensures ∙ ap₂ (λ (l m : List ℕ). put 0 (answered l) m) (rest-part (at .loop .at) (start .args .query .now)) (rest-part end out) in (
+    let made = c .before .before .answer-set .ensures ∙ ap₂ (λ (l m : List ℕ). put 0 (answered l) m) (to-end (start .args .query .now) (at .loop .at)) (to-end out end) in (
       omega arith,
       turn .read,
       pending-as refl refl

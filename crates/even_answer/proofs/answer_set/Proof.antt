@@ -8,9 +8,10 @@ use borrow.Author.Needs.{needs}
 use lib.Count.{ones as count, ones-le}
 use lib.ListN.{length, take, drop, replicate, length-replicate}
 use Rattle.lists.specs.Below.{Below}
-use Rattle.lists.proofs.Parts.{cut-length, put-part}
-use Rattle.lists.proofs.Sums.{All-replicate}
-use Rattle.lists.proofs.Writing.{Pending, rest-part, pending-start, pending-as, pending-done}
+use Rattle.lists.proofs.Cuts.{cut-length, to-end}
+use Rattle.lists.proofs.Puts.{put-part}
+use Rattle.lists.proofs.Each.{All-replicate}
+use Rattle.lists.proofs.Writing.{Pending, pending-start, pending-as, pending-done}
 use Rattle.symbol.specs.Xor.{xor}
 use Rattle.even_scheme.specs.Even.{rowAnswer, rowAnswers}
 use Rattle.even_layout.specs.Layout.{setIn}
@@ -114,7 +115,7 @@ answer-row-requires c κs =
     let start = at .before .before .before .before in
     let turn = row-turn (at .loop .row) (start .pre .0) (start .pre .1) (omega arith) in
     let from = at .loop .row * start .args .s in (
-      rw (rest-part (at .loop .row * count (start .args .set)) (start .args .numbers .now)) (row-given (start .pre .0) turn),
+      rw (to-end (start .args .numbers .now) (at .loop .row * count (start .args .set))) (row-given (start .pre .0) turn),
       rw (add-sub-cancel-left from (start .args .s)) (cut-length from (start .args .s) (at .loop .out) (omega (arith, turn .written, at .loop .inv .1 .long))),
       start .pre .2,
     )
@@ -136,7 +137,7 @@ loop-again c =
     let read = at .loop .row * count (start .args .set) in
     let answered = rowAnswer xor (start .args .n) (start .args .k) s (start .args .store .now) (setIn (start .args .k) (start .args .set)) in
     let bytes : Below 256 (start .args .store .now) = λ i l. at .before .before .before .shared-slice-known .given i .fits in
-    let made = c .before .before .answer-row .ensures ∙ ap answered (rest-part read numbers) in (
+    let made = c .before .before .answer-row .ensures ∙ ap answered (to-end numbers read) in (
       omega arith,
       pending-as refl refl
           (ap (λ (l : List ℕ). take from out ++ (l ++ drop (from + s - from) (drop from out))) made

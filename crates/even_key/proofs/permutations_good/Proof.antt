@@ -10,8 +10,7 @@ use lib.ListN.{length, take, drop}
 use Rattle.lists.specs.Distinct.{isPermutation}
 use Rattle.lists.specs.Parts.{cut}
 use Rattle.lists.specs.Ranges.{every}
-use Rattle.lists.proofs.Slots.{slot-end}
-use Rattle.lists.proofs.Parts.{cut-length}
+use Rattle.lists.proofs.Cuts.{slot-end, cut-length}
 use Rattle.lists.proofs.Every.{every-more, every-false}
 use Rattle.even_key.proofs.permutations_good.Statement.{statement}
 use Rattle.even_key.proofs.permutations_good.Tie as tie

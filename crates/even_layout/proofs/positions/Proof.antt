@@ -4,7 +4,8 @@ use mathlib.Core.List.{[]}
 use Prim.Native.Nat.{ℕ, _+_, _-_, _≤_, _<_}
 use native.Mathlib.Omega.{arith}
 use lib.ListN.{length, getD, replicate, length-append}
-use Rattle.lists.proofs.Writing.{Pending, pending-start, pending-part, pending-as, pending-done, put-padded}
+use Rattle.lists.proofs.Writing.{Pending, pending-start, pending-part, pending-as, pending-done}
+use Rattle.lists.proofs.Puts.{put-padded}
 use Rattle.even_places.specs.Sets.{allSets}
 use Rattle.even_places.specs.Rule.{positions}
 use Rattle.even_layout.proofs.Blocks.{subsets-few, all-length}

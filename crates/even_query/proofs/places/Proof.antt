@@ -6,12 +6,13 @@ use native.Mathlib.Omega.{arith}
 use borrow.Author.Needs.{needs}
 use lib.ListN.{length, take, replicate}
 use Rattle.lists.specs.Parts.{put}
-use Rattle.lists.proofs.Writing.{put-padded}
+use Rattle.lists.proofs.Puts.{put-padded}
+use Rattle.lists.proofs.Cuts.{front-is, front-fits}
 use Rattle.even_places.specs.Sets.{byteOf, allSets}
 use Rattle.even_places.specs.Rule.{queryCells}
-use Rattle.even_layout.proofs.Blocks.{all-length, subsets-few}
+use Rattle.even_layout.proofs.Blocks.{all-length, subsets-few, all-bytes}
 use Rattle.even_ranks.proofs.Steps.{totals-length, totals-below}
-use Rattle.even_query.proofs.Whole.{places-are, places-below, places-length, query-room, front-is, front-fits, sets-length}
+use Rattle.even_query.proofs.Whole.{places-are, places-below, places-length, query-room}
 use Rattle.even_query.proofs.places.Statement.{statement}
 use Rattle.even_query.proofs.places.Tie as tie
 
@@ -24,7 +25,7 @@ moreOf c = replicate (256 - length (allSets (c .before .before .args .k))) 0
 
 sets-many : (c : tie.After-power) → length (bytesOf c) ≡ c .power .result - 1
 unfolding bytesOf
-sets-many c = sets-length (c .before .before .args .k) (c .power .result) (c .power .ensures)
+sets-many c = all-bytes (c .before .before .args .k) (c .power .result) (c .power .ensures)
 
 sets-front : (c : tie.After-power) → take (c .power .result - 1) (c .before .ordered-sets .result) ≡ map byteOf (allSets (c .before .before .args .k))
 unfolding bytesOf moreOf

@@ -7,8 +7,9 @@ use native.Mathlib.Omega.{arith}
 use borrow.Author.Needs.{needs}
 use lib.ListN.{length, take, replicate}
 use Rattle.lists.specs.Parts.{put}
+use Rattle.lists.proofs.Cuts.{front-is, front-fits}
 use Rattle.even_places.specs.Rule.{queryCells, positions}
-use Rattle.even_query.proofs.Whole.{places-length, messages-length, query-room, keyed, entries-are, front-is, front-fits}
+use Rattle.even_query.proofs.Whole.{places-length, messages-length, query-room, keyed, entries-are}
 use Rattle.even_query.proofs.query.Statement.{statement}
 use Rattle.even_query.proofs.query.Tie as tie
 

@@ -7,7 +7,7 @@ use native.Mathlib.Omega.{arith}
 use borrow.Author.Needs.{needs}
 use lib.ListN.{length, take, drop}
 use Rattle.lists.proofs.Below.{below-take, below-drop}
-use Rattle.lists.proofs.Parts.{cut-length}
+use Rattle.lists.proofs.Cuts.{cut-length}
 use Rattle.even_ranks.proofs.Steps.{stands-count, lent, counted-part}
 use Rattle.even_ranks.proofs.count_set.Statement.{statement}
 use Rattle.even_ranks.proofs.count_set.Tie as tie

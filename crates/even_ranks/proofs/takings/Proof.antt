@@ -6,7 +6,7 @@ use native.Mathlib.Nat.{mod-lt, div-lt-iff-lt-mul}
 use native.Mathlib.Omega.{arith}
 use lib.ListN.{length, take, length-set}
 use lib.Seq.{take-all}
-use Rattle.lists.proofs.Reading.{write-more}
+use Rattle.lists.proofs.Puts.{write-more}
 use Rattle.even_ranks.specs.Counts.{takenTable}
 use Rattle.even_ranks.proofs.Steps.{takenFrom, table-start, table-more, table-done}
 use Rattle.even_ranks.proofs.takings.Statement.{statement}

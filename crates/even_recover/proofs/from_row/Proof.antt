@@ -6,7 +6,7 @@ use Prim.Native.Nat.{ℕ, _+_, _*_, _/_, _%_}
 use native.Mathlib.Omega.{arith}
 use lib.ListN.{getD}
 use Rattle.lists.specs.Parts.{cut, put}
-use Rattle.lists.proofs.Parts.{cut-length}
+use Rattle.lists.proofs.Cuts.{cut-length}
 use Rattle.even_places.specs.Rule.{others}
 use Rattle.even_recover.proofs.Held.{own-row, source-row}
 use Rattle.even_recover.proofs.RowSymbol.{symbol-alone, symbol-joined, copied-combined}
@@ -35,14 +35,14 @@ copy-row-requires c κs =
     let own = own-row (at .here) (at .group) (at .answers .now) (at .i) (c .before .before .before .before .before .pre .0) (c .before .before .before .before .before .pre .1 .0) (c .before .before .before .before .before .pre .1 .1 .0) in
     (own .inside, c .before .before .before .before .before .pre .1 .1 .1)
 
-div-other : tie.Need-div-other
-div-other c =
+div-other-server : tie.Need-div-other-server
+div-other-server c =
     let at = c .before .before .before .before .before .before .before .before .before .before .before .args in
     let source = source-row (at .here) (at .group) (at .answers .now) (at .i) (c .before .before .before .before .before .before .before .before .before .before .before .pre .0) (c .before .before .before .before .before .before .before .before .before .before .before .pre .1 .0) (c .before .before .before .before .before .before .before .before .before .before .before .pre .1 .1 .0) (c .before .if1 .taken) in
     source .some-each
 
-other-requires : tie.Need-other-requires
-other-requires c κs =
+other-server-requires : tie.Need-other-server-requires
+other-server-requires c κs =
     let at = c .before .before .before .before .before .before .before .before .before .before .before .args in
     let source = source-row (at .here) (at .group) (at .answers .now) (at .i) (c .before .before .before .before .before .before .before .before .before .before .before .pre .0) (c .before .before .before .before .before .before .before .before .before .before .before .pre .1 .0) (c .before .before .before .before .before .before .before .before .before .before .before .pre .1 .1 .0) (c .before .if1 .taken) in
     omega (arith, source .turn, c .before .before .before .before .before .before .before .before .before .before .before .pre .0 .few)
@@ -51,7 +51,7 @@ mul-source : tie.Need-mul-source
 mul-source c =
     let at = c .before .before .before .before .before .before .before .before .before .before .before .before .before .args in
     let source = source-row (at .here) (at .group) (at .answers .now) (at .i) (c .before .before .before .before .before .before .before .before .before .before .before .before .before .pre .0) (c .before .before .before .before .before .before .before .before .before .before .before .before .before .pre .1 .0) (c .before .before .before .before .before .before .before .before .before .before .before .before .before .pre .1 .1 .0) (c .before .before .before .if1 .taken) in
-    let other = ap (λ (m : ℕ). m * at .here .rows) (c .before .other .ensures (at .here .servers) (c .before .before .before .before .before .before .before .before .before .before .before .before .before .pre .0 .known) (source .turn)) in
+    let other = ap (λ (m : ℕ). m * at .here .rows) (c .before .other-server .ensures (at .here .servers) (c .before .before .before .before .before .before .before .before .before .before .before .before .before .pre .0 .known) (source .turn)) in
     omega (arith, source .source .small)
 
 rem-source : tie.Need-rem-source
@@ -70,14 +70,14 @@ add-source-2 : tie.Need-add-source-2
 add-source-2 c =
     let at = c .before .before .before .before .before .before .before .before .before .before .before .before .before .before .before .args in
     let source = source-row (at .here) (at .group) (at .answers .now) (at .i) (c .before .before .before .before .before .before .before .before .before .before .before .before .before .before .before .pre .0) (c .before .before .before .before .before .before .before .before .before .before .before .before .before .before .before .pre .1 .0) (c .before .before .before .before .before .before .before .before .before .before .before .before .before .before .before .pre .1 .1 .0) (c .before .before .before .before .before .if1 .taken) in
-    let other = ap (λ (m : ℕ). m * at .here .rows) (c .before .before .before .other .ensures (at .here .servers) (c .before .before .before .before .before .before .before .before .before .before .before .before .before .before .before .pre .0 .known) (source .turn)) in
+    let other = ap (λ (m : ℕ). m * at .here .rows) (c .before .before .before .other-server .ensures (at .here .servers) (c .before .before .before .before .before .before .before .before .before .before .before .before .before .before .before .pre .0 .known) (source .turn)) in
     omega (arith, source .source .small)
 
 combine-row-requires : tie.Need-combine-row-requires
 combine-row-requires c κs =
     let at = c .before .before .before .before .before .before .before .before .before .before .before .before .before .before .before .before .args in
     let source = source-row (at .here) (at .group) (at .answers .now) (at .i) (c .before .before .before .before .before .before .before .before .before .before .before .before .before .before .before .before .pre .0) (c .before .before .before .before .before .before .before .before .before .before .before .before .before .before .before .before .pre .1 .0) (c .before .before .before .before .before .before .before .before .before .before .before .before .before .before .before .before .pre .1 .1 .0) (c .before .before .before .before .before .before .if1 .taken) in
-    let other = c .before .before .before .before .other .ensures (at .here .servers) (c .before .before .before .before .before .before .before .before .before .before .before .before .before .before .before .before .pre .0 .known) (source .turn) in
+    let other = c .before .before .before .before .other-server .ensures (at .here .servers) (c .before .before .before .before .before .before .before .before .before .before .before .before .before .before .before .before .pre .0 .known) (source .turn) in
     let long = c .before .before .before .before .before .before .before .before .before .before .copy-row .kept .1 .1 .1 .1 .0 in
     (rw other (source .source .inside), omega (arith, c .before .before .before .before .before .before .before .before .before .before .before .before .before .before .before .before .pre .1 .1 .1))
 
@@ -97,7 +97,7 @@ returns c =
     (cut-length ((at .here .server * at .here .rows + (at .group .first + at .i)) * size) size answers (own .inside))
     (c .before .before .before .before .before .before .before .before .before .before .before .before .before .before .before .before .before .before .before .pre .1 .1 .1)
     (c .before .before .before .before .before .before .before .before .before .before .before .before .before .copy-row .ensures)
-    (rw (c .before .before .before .before .before .before .before .other .ensures (at .here .servers) (c .before .before .before .before .before .before .before .before .before .before .before .before .before .before .before .before .before .before .before .pre .0 .known) (source .turn)) at (c .before .before .combine-row .ensures))
+    (rw (c .before .before .before .before .before .before .before .other-server .ensures (at .here .servers) (c .before .before .before .before .before .before .before .before .before .before .before .before .before .before .before .before .before .before .before .pre .0 .known) (source .turn)) at (c .before .before .combine-row .ensures))
     ∙ ap (λ (l : List ℕ). put (at .number * size) l (at .message .now)) (sym (symbol-joined (at .here) (at .group) answers (at .i) (c .before .before .before .before .before .before .before .before .before .if1 .taken)))
 
 same-length-2 : tie.Need-same-length-2
@@ -117,8 +117,8 @@ from-row-spec =
     add-row
     add-row-2
     copy-row-requires
-    div-other
-    other-requires
+    div-other-server
+    other-server-requires
     mul-source
     rem-source
     add-source

@@ -12,7 +12,7 @@ use Rattle.even_scheme.specs.Even.{assemble}
 use Rattle.even_layout.specs.Layout.{firstRows}
 use Rattle.even_layout.proofs.Blocks.{subsets-few}
 use Rattle.even_layout.proofs.Fits.{layout-fits}
-use Rattle.even_recover.proofs.Servers.{Front, front-is, partsBefore, before-none, before-more, before-all}
+use Rattle.even_recover.proofs.Servers.{Front, sets-front, partsBefore, before-none, before-more, before-all}
 use Rattle.even_recover.proofs.Started.{firsts-length}
 use Rattle.even_recover.proofs.recover.Statement.{statement}
 use Rattle.even_recover.proofs.recover.Tie as tie
@@ -47,7 +47,7 @@ loop-holds c =
     let at = c .before .before .before .before .before .before .args in (
       omega arith,
       refl,
-      front-is (at .k) (c .before .power .result) (c .before .before .ordered-sets .result) (replicate (256 - length (allSets (at .k))) 0) (c .before .power .ensures) (c .before .before .ordered-sets .ensures),
+      sets-front (at .k) (c .before .power .result) (c .before .before .ordered-sets .result) (replicate (256 - length (allSets (at .k))) 0) (c .before .power .ensures) (c .before .before .ordered-sets .ensures),
       c .first-rows .ensures,
       before-none (at .n) (at .k) (at .s) (at .wanted) (at .key .now) (at .answers .now) (at .message .now),
     )

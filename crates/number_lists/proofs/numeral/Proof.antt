@@ -6,7 +6,7 @@ use borrow.Author.Tests.{leb-true, not-true, not-false}
 use lib.Dec.{leb}
 use lib.ListN.{length, take, length-take}
 use lib.Seq.{length-take-le}
-use Rattle.lists.proofs.Every.{both-true}
+use Rattle.lists.proofs.Both.{both-true}
 use Rattle.text_lines.specs.Decimal.{digitCount}
 use Rattle.text_lines.specs.Lines.{isNumeral}
 use Rattle.text_lines.proofs.DigitTexts.{digits-first, count-all}

@@ -6,8 +6,7 @@ use native.Mathlib.Omega.{arith}
 use lib.ListN.{length, take, getD, length-append}
 use lib.Seq.{take-all}
 use Rattle.lists.specs.Parts.{put}
-use Rattle.lists.proofs.Puts.{put-next}
-use Rattle.lists.proofs.Writes.{put-nil}
+use Rattle.lists.proofs.Puts.{put-next, put-nil}
 use Rattle.number_lists.specs.NumberLists.{afterSpace, afterSpaces}
 use Rattle.number_lists.proofs.Spaced.{byte-length, after-none, after-more}
 use Rattle.number_lists.proofs.put_after_spaces.Statement.{statement}

@@ -8,7 +8,7 @@ use borrow.Author.Needs.{needs}
 use lib.ListN.{length, take, drop, set, getD, length-set, drop-of-length-le}
 use lib.Seq.{take-all}
 use Rattle.lists.proofs.Below.{allBelow-below}
-use Rattle.lists.proofs.Parts.{copy-more}
+use Rattle.lists.proofs.Puts.{copy-more}
 use Rattle.number_lists.specs.NumberLists.{numbersAt, listOf}
 use Rattle.number_lists.proofs.Reading.{numeral-within}
 use Rattle.number_lists.proofs.Scanning.{scanned-list}

@@ -5,9 +5,8 @@ use Prim.Native.Nat.{ℕ, _+_}
 use native.Mathlib.Omega.{arith}
 use lib.ListN.{length, drop, getD, length-append, length-take, length-drop}
 use Rattle.lists.specs.Parts.{put}
-use Rattle.lists.proofs.Rests.{to-end}
-use Rattle.lists.proofs.Puts.{put-next}
-use Rattle.lists.proofs.Writes.{put-nil}
+use Rattle.lists.proofs.Cuts.{to-end}
+use Rattle.lists.proofs.Puts.{put-next, put-nil}
 use Rattle.text_lines.specs.Decimal.{decimal}
 use Rattle.number_lists.specs.NumberLists.{afterSpaces, spaced}
 use Rattle.number_lists.proofs.Spaced.{byte-length, spaced-none, spaced-some}

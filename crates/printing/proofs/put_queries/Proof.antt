@@ -8,9 +8,8 @@ use native.Mathlib.Numerals.{add-one}
 use native.Mathlib.Omega.{arith}
 use lib.ListN.{length, length-append}
 use Rattle.lists.specs.Parts.{put}
-use Rattle.lists.proofs.Puts.{put-next}
-use Rattle.lists.proofs.Slots.{slot-end}
-use Rattle.lists.proofs.Writes.{put-nil}
+use Rattle.lists.proofs.Puts.{put-next, put-nil}
+use Rattle.lists.proofs.Cuts.{slot-end}
 use Rattle.catalogue.specs.declared.Catalogue.{Catalogue}
 use Rattle.catalogue.specs.Catalogue.{Admitted}
 use Rattle.codes.specs.Codes.{schemeOf}

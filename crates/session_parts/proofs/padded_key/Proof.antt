@@ -4,7 +4,7 @@ use mathlib.Core.List.{List, _++_}
 use Prim.Native.Nat.{ℕ, _≤_, _-_}
 use native.Mathlib.Omega.{arith}
 use lib.ListN.{length, take, drop, set, getD}
-use Rattle.lists.proofs.Parts.{copy-more}
+use Rattle.lists.proofs.Puts.{copy-more}
 use Rattle.session_parts.proofs.Padding.{padded-copy}
 use Rattle.session_parts.proofs.padded_key.Statement.{statement}
 use Rattle.session_parts.proofs.padded_key.Tie as tie

@@ -4,7 +4,7 @@ use mathlib.Core.List.{List, _++_}
 use Prim.Native.Nat.{ℕ, _+_, _-_}
 use borrow.Author.Needs.{needs}
 use lib.ListN.{length, take, drop}
-use Rattle.lists.proofs.Parts.{put-part}
+use Rattle.lists.proofs.Puts.{put-part}
 use Rattle.session_parts.proofs.put_answer.Statement.{statement}
 use Rattle.session_parts.proofs.put_answer.Tie as tie
 

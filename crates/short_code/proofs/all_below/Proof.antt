@@ -4,7 +4,7 @@ use Prim.Native.Nat.{_-_, _≤_}
 use native.Mathlib.Omega.{arith}
 use lib.ListN.{length, drop, drop-of-length-le}
 use Rattle.lists.specs.Below.{allBelow}
-use Rattle.lists.proofs.Scans.{below-next, below-stops}
+use Rattle.lists.proofs.Below.{below-next, below-stops}
 use Rattle.short_code.proofs.all_below.Statement.{statement}
 use Rattle.short_code.proofs.all_below.Tie as tie
 

@@ -7,7 +7,7 @@ use lib.ListN.{length, take, drop, set, length-set}
 use lib.Seq.{take-all}
 use Rattle.lists.specs.Inserts.{insertAt}
 use Rattle.lists.proofs.Inserts.{insert-length}
-use Rattle.lists.proofs.Parts.{copy-more}
+use Rattle.lists.proofs.Puts.{copy-more}
 use Rattle.short_code.proofs.insert.Statement.{statement}
 use Rattle.short_code.proofs.insert.Tie as tie
 

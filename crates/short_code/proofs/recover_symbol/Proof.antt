@@ -8,9 +8,8 @@ use native.Mathlib.Omega.{arith}
 use lib.ListN.{length, take, drop}
 use Rattle.lists.specs.Parts.{cut, put}
 use Rattle.lists.specs.Below.{Below}
-use Rattle.lists.proofs.Parts.{put-part}
-use Rattle.lists.proofs.Slots.{slot-end}
-use Rattle.lists.proofs.Writes.{put-twice}
+use Rattle.lists.proofs.Puts.{put-part, put-twice}
+use Rattle.lists.proofs.Cuts.{slot-end}
 use Rattle.symbol.specs.Xor.{xor}
 use Rattle.short_code.specs.Steps.{fromSlots}
 use Rattle.short_code.proofs.Slots.{turn-end, slot-copied, part-fits, first-symbol, from-one, from-two, from-length}

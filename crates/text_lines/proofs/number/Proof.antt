@@ -7,7 +7,7 @@ use borrow.Author.Tests.{leb-true, eq-eqb, ne-eqb, not-true, not-false}
 use lib.Dec.{leb}
 use lib.ListN.{length, take, length-take, List·getD-eq-default}
 use lib.Seq.{length-take-le}
-use Rattle.lists.proofs.Every.{both-true}
+use Rattle.lists.proofs.Both.{both-true}
 use Rattle.text_lines.specs.Decimal.{digitCount}
 use Rattle.text_lines.specs.Lines.{isNumeral, numberAt}
 use Rattle.text_lines.proofs.DigitTexts.{digits-first, count-all}

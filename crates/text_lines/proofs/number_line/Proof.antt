@@ -6,7 +6,7 @@ use native.Mathlib.Omega.{arith}
 use borrow.Author.Needs.{needs}
 use borrow.Author.Tests.{not-true, not-false}
 use lib.ListN.{length, drop, length-take, length-drop}
-use Rattle.lists.proofs.Rests.{to-end}
+use Rattle.lists.proofs.Cuts.{to-end}
 use Rattle.text_lines.specs.Lines.{begins, numberAt, numberLine}
 use Rattle.text_lines.proofs.NumberLines.{past-end, name-within}
 use Rattle.text_lines.proofs.number_line.Statement.{statement}

@@ -6,7 +6,7 @@ use native.Mathlib.Omega.{arith}
 use borrow.Author.Needs.{needs}
 use lib.ListN.{length, take, drop, length-take, length-drop, drop-of-length-le}
 use lib.Seq.{take-length}
-use Rattle.lists.proofs.Parts.{put-part}
+use Rattle.lists.proofs.Puts.{put-part}
 use Rattle.text_lines.proofs.put_bytes.Statement.{statement}
 use Rattle.text_lines.proofs.put_bytes.Tie as tie
 

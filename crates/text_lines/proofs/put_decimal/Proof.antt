@@ -6,8 +6,7 @@ use native.Mathlib.Omega.{arith}
 use borrow.Author.Needs.{needs}
 use lib.ListN.{length, set, length-append, length-set, take-append-drop}
 use Rattle.lists.specs.Parts.{put}
-use Rattle.lists.proofs.Parts.{put-length}
-use Rattle.lists.proofs.Puts.{put-before}
+use Rattle.lists.proofs.Puts.{put-length, put-before}
 use Rattle.text_lines.specs.Decimal.{digit, decimal}
 use Rattle.text_lines.proofs.Decimal.{decimal-small, decimal-large, length-small, length-large, some-digits}
 use Rattle.text_lines.proofs.put_decimal.Statement.{statement}

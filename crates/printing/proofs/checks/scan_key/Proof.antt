@@ -3,7 +3,7 @@ use mathlib.Core.Path.{sym, ap, _∙_}
 use native.Mathlib.Omega.{arith}
 use borrow.Author.Tests.{not-true, not-false}
 use lib.ListN.{drop-of-length-le}
-use Rattle.lists.proofs.Rests.{to-end}
+use Rattle.lists.proofs.Cuts.{to-end}
 use Rattle.text_lines.specs.Lines.{begins}
 use Rattle.printing.specs.Input.{keyName, keyLine}
 use borrow.Author.Needs.{needs}

@@ -4,7 +4,7 @@ use mathlib.Core.Path.{sym, ap, _∙_}
 use Prim.Native.Nat.{_*_}
 use lib.ListN.{length}
 use Rattle.lists.specs.Parts.{put}
-use Rattle.lists.proofs.Slots.{slot-end}
+use Rattle.lists.proofs.Cuts.{slot-end}
 use Rattle.parameters.specs.declared.Sizes.{Sizes}
 use Rattle.codes.specs.Codes.{schemeOf}
 use Rattle.session.proofs.Take.{take-passed, take-refused, take-done}
