@@ -27,7 +27,7 @@ pub struct Reading {
 }
 
 // The first line of a catalogue: 0 for the short code, 1 for the even one.
-pub fn code_line(text: &[u8]) -> Line
+fn code_line(text: &[u8]) -> Line
     ensures { λ r. ⌜ r ≡ codeLine (now (text .entry)) ⌝ }
 {
     if text_lines::starts(b"code=short\n", text) {
