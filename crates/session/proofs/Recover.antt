@@ -6,7 +6,7 @@ use mathlib.Core.List.{List}
 use Prim.Native.Nat.{ℕ, _≤_}
 use lib.Dec.{leb, ltb}
 use lib.ListN.{length}
-use borrow.Author.Tests.{leb-false, lt-leb, ltb-false, le-ltb, not-false}
+use borrow.Author.Tests.{leb-false, lt-leb, ltb-false, not-false}
 use Rattle.lists.specs.Parts.{put}
 use Rattle.refusal.specs.declared.Refusal.{Refusal}
 use Rattle.refusal.specs.declared.Refusal.the-variants.{Room, Missing}
@@ -59,15 +59,6 @@ module _ (schemeOf : Catalogue → Scheme) (s : Session) where
       (refuseIf (ltb room (codeOf schemeOf s .sizes .message)) Room (refuseIf (not (allTaken (s .catalogue .servers) (s .taken))) Missing Accepted))
   unfolding recoverVerdict
   recover-verdict sound answersRoom room = rw (sound .admitted, lt-leb (s .catalogue .messages) (s .wanted) (sound .inside), sound .good, sound .marks)
-
-  pub recover-accepted : (answersRoom room : ℕ) → Recovers answersRoom room → recoverVerdict schemeOf s answersRoom room ≡ Accepted
-  recover-accepted answersRoom room r =
-      rw (
-        recover-verdict (r .sound) answersRoom room,
-        le-ltb answersRoom (slotsOf schemeOf (s .catalogue)) (r .slots-fit),
-        le-ltb room (codeOf schemeOf s .sizes .message) (r .roomy),
-        r .all-taken,
-      )
 
   module _ (answers buffer : List ℕ) where
     abbrev verdict : Verdict
