@@ -32,7 +32,7 @@ use Rattle.catalogue_text.proofs.RoundTrip.{text-or-refused, text-verdi
 
 module _ (numbers : List ℕ) (text-named : OneOf numbers Text) where
   text-within : (v : Verdict) → v ≡ Refused Text → Within numbers v
-  unfolding smallest
+  unfolding smallest OneOf
   text-within v e = faults-within numbers (fault Text true ∷ []) v (rw text-named) e
 
   four-within : (text : List ℕ) → Within numbers (fourLines text .verdict)
@@ -44,6 +44,7 @@ module _ (numbers : List ℕ) (text-named : OneOf numbers Text) where
 
   module _ (bounds-named : OneOf numbers Bounds) where
     value-judged : (c : Catalogue) (v : Verdict) → v ≡ catalogueVerdict c → Within numbers v
+    unfolding OneOf
     value-judged c v e = faults-within numbers (unfit c ∷ []) v (rw bounds-named) (e ∙ catalogue-smallest c)
 
     pub read-within : (text : List ℕ) → Within numbers (readOf text .verdict)
@@ -63,13 +64,13 @@ module _ (numbers : List ℕ) (text-named : OneOf numbers Text) where
 write-within : (c : Catalogue) (buffer after : List ℕ) (outcome : Outcome) → Wrote c buffer outcome after → ValueWithin (2 ∷ 9 ∷ []) outcome
 unfolding stands
 write-within c buffer after outcome wrote refusal e =
-    value-within (2 ∷ 9 ∷ []) (λ (v : Verdict). outcomeBy v (textOf c)) (length (textOf c)) refl (λ other. refl)
+    value-within _ (λ (v : Verdict). outcomeBy v (textOf c)) (length (textOf c)) refl (λ other. refl)
     (writeVerdict c (length buffer))
-    (faults-within (2 ∷ 9 ∷ []) (writeFaults c (length buffer)) _ refl (write-smallest c (length buffer)))
+    (faults-within _ (writeFaults c (length buffer)) _ refl (write-smallest c (length buffer)))
     refusal (sym (wrote .outcome-is) ∙ e)
 
 pub text-numbers : TextNumbers
-unfolding stands
+unfolding OneOf stands
 text-numbers = record {
   reads = read-within (1 ∷ 2 ∷ []) refl refl;
   lines = lines-within (1 ∷ 2 ∷ []) refl refl;

@@ -5,7 +5,7 @@ use Prim.Native.Nat.{ℕ}
 use Rattle.lists.specs.Distinct.{stands}
 use Rattle.refusal.specs.declared.Verdict.{Verdict}
 use Rattle.refusal.specs.declared.Verdict.the-variants.{Accepted, Refused}
-use Rattle.refusal.specs.Within.{Within, ValueWithin}
+use Rattle.refusal.specs.Within.{OneOf, Within, ValueWithin}
 use Rattle.refusal.proofs.Within.{refused-within, value-within}
 use Rattle.catalogue_text.specs.Parsing.{readOf}
 use Rattle.catalogue_text.proofs.Numbers.{read-within}
@@ -21,7 +21,7 @@ numbers = 1 ∷ 2 ∷ 3 ∷ 7 ∷ 8 ∷ 9 ∷ []
 module _ (text : List ℕ) where
   answer-numbers : (server : ℕ) (store query buffer : List ℕ)
       → ValueWithin numbers (answeringText text server store query buffer .outcome)
-  unfolding answeringText stands
+  unfolding answeringText OneOf stands
   answer-numbers server store query buffer = go (readOf text .verdict) (read-within numbers refl refl text)
     where
       go : (v : Verdict) → Within numbers v → ValueWithin numbers (answeringBy v (readOf text .catalogue) server store query buffer .outcome)
@@ -29,7 +29,7 @@ module _ (text : List ℕ) where
       go (Refused refusal) w = refused-within numbers refusal w
 
   longest-numbers : ValueWithin (1 ∷ 2 ∷ []) (longestAnswer text)
-  unfolding longestAnswer stands
+  unfolding longestAnswer OneOf stands
   longest-numbers =
       value-within (1 ∷ 2 ∷ []) (λ (v : Verdict). longestBy v (readOf text .catalogue)) (schemeOf (readOf text .catalogue) .sizes .slot)
       refl (λ refusal. refl) (readOf text .verdict) (read-within (1 ∷ 2 ∷ []) refl refl text)

@@ -1,5 +1,5 @@
 -- A call gives only numbers of its faults: its verdict is the smallest of them (`faults-within`), and an outcome goes by a verdict (`value-within`).
-use mathlib.Core.Path.{_≡_, refl, sym, ap, _∙_}
+use mathlib.Core.Path.{_≡_, sym, ap, _∙_}
 use mathlib.Core.Bool.{Bool, true}
 use mathlib.Core.List.{List}
 use Prim.Native.Nat.{ℕ}
@@ -12,7 +12,7 @@ use Rattle.refusal.specs.declared.Outcome.{Outcome}
 use Rattle.refusal.specs.declared.Outcome.the-variants.{Value, Refused as NoValue}
 use Rattle.refusal.specs.Numbers.{numberOf}
 use Rattle.refusal.specs.Smallest.{Fault, smallest}
-use Rattle.refusal.specs.Within.{Within, ValueWithin}
+use Rattle.refusal.specs.Within.{OneOf, Within, ValueWithin}
 use Rattle.refusal.proofs.Smallest.{ofFaults, ofVerdict, of-smallest}
 
 not-value : {A : Type 0} {size : ℕ} {refusal : Refusal} → Value size ≡ NoValue refusal → A
@@ -30,6 +30,7 @@ module _ (numbers : List ℕ) where
   faultsNamed = ofFaults named
 
   pub faults-within : (faults : List Fault) (v : Verdict) → faultsNamed faults ≡ true → v ≡ smallest faults → Within numbers v
+  unfolding OneOf
   faults-within faults v e s refusal r = ap (ofVerdict named) (sym r ∙ s) ∙ of-smallest named faults e
 
   pub refused-within : (other : Refusal) → Within numbers (Refused other) → ValueWithin numbers (NoValue other)

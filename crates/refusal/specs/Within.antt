@@ -12,7 +12,7 @@ use Rattle.refusal.specs.declared.Outcome.the-variants.{Refused as NoVal
 use Rattle.refusal.specs.Numbers.{numberOf}
 
 -- the refusal has one of the numbers
-abbrev pub OneOf : List ℕ → Refusal → Type 0
+unfoldable pub OneOf : List ℕ → Refusal → Type 0
 OneOf numbers refusal = stands (numberOf refusal) numbers ≡ true
 
 -- of a verdict

@@ -7,7 +7,6 @@ use Prim.Native.Nat.{ℕ}
 use lib.ListN.{length}
 use Rattle.refusal.specs.declared.Refusal.the-variants.{Server, Query, StoreLength, Room}
 use Rattle.refusal.specs.declared.Verdict.{Verdict}
-use Rattle.refusal.specs.declared.Verdict.the-variants.{Accepted}
 use Rattle.refusal.specs.Smallest.{smallest}
 use Rattle.refusal.specs.Within.{ValueWithin}
 use Rattle.refusal.proofs.Smallest.{link, no-fault}

@@ -19,7 +19,7 @@ use Rattle.catalogue.specs.declared.Catalogue.{Catalogue}
 use Rattle.catalogue.specs.Catalogue.{catalogueVerdict}
 use Rattle.session.specs.declared.Session.{Session}
 use Rattle.session_parts.specs.Marks.{marksGood, allTaken}
-use Rattle.session.specs.Calls.{Out, Did, out, codeOf, keyOf, slotsOf, recovered, recoverVerdict, recoverBy, recover}
+use Rattle.session.specs.Calls.{Out, Did, out, codeOf, keyOf, slotsOf, recoveredMessage, recoverVerdict, recoverBy, recover}
 use Rattle.session.proofs.Sound.{Sound}
 
 module _ (schemeOf : Catalogue → Scheme) (s : Session) where
@@ -87,7 +87,7 @@ module _ (schemeOf : Catalogue → Scheme) (s : Session) where
     recover-refused v refusal e p = rw (recover-by v e, p) (record { handed = refl; buffer = refl })
 
     pub recover-done : (v : Verdict) (after : List ℕ) → v ≡ verdict → v ≡ Accepted
-        → after ≡ put 0 (recovered schemeOf s answers) buffer
+        → after ≡ put 0 (recoveredMessage schemeOf s answers) buffer
         → Did did (record { verdict = Accepted; session = s }) after
     recover-done v after e p a = rw (recover-by v e, p) (record { handed = refl; buffer = a })
 
