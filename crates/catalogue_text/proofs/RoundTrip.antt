@@ -35,7 +35,7 @@ text-judged c small =
     simp (found, eq-eqb (length (textOf c)) (length (textOf c)) refl)
 
 -- a text is the text of a value, or it is refused 1
-text-or-refused : (text : List ℕ) → ((c : Catalogue) × FiveDigits c × (textOf c ≡ text)) ⊎ (readOf text ≡ unread Text)
+pub text-or-refused : (text : List ℕ) → ((c : Catalogue) × FiveDigits c × (textOf c ≡ text)) ⊎ (readOf text ≡ unread Text)
 unfolding readOf
 text-or-refused text = ⊎-elim refused (λ r. go r (eqb (fourLines text .next) (length text)) refl) (four-lines-cases text)
   where
@@ -55,7 +55,7 @@ reading-verdict : (v : Verdict) (c : Catalogue) → readingBy v c .verdict ≡ v
 reading-verdict Accepted c = refl
 reading-verdict (Refused refusal) c = refl
 
-text-verdict : (c : Catalogue) (text : List ℕ) → FiveDigits c → textOf c ≡ text → readOf text .verdict ≡ catalogueVerdict c
+pub text-verdict : (c : Catalogue) (text : List ℕ) → FiveDigits c → textOf c ≡ text → readOf text .verdict ≡ catalogueVerdict c
 text-verdict c text small e =
     ap (λ (t : List ℕ). readOf t .verdict) (sym e) ∙ ap (λ (r : Reading). r .verdict) (text-judged c small) ∙ reading-verdict (catalogueVerdict c) c
 
@@ -138,7 +138,7 @@ lines-are-written text e = ⊎-elim refused found (four-lines-cases text)
         out-of-bounds b = not-refused Bounds (simp (r .accepted, b) at e)
 
 -- the text of a value is judged as the value is, whatever follows it
-lines-verdict : (c : Catalogue) (rest text : List ℕ) → FiveDigits c → textOf c ++ rest ≡ text → linesOf text .verdict ≡ catalogueVerdict c
+pub lines-verdict : (c : Catalogue) (rest text : List ℕ) → FiveDigits c → textOf c ++ rest ≡ text → linesOf text .verdict ≡ catalogueVerdict c
 unfolding linesOf
 lines-verdict c rest text small e =
     ap (λ (t : List ℕ). linesOf t .verdict) (sym e) ∙ simp (four-lines-written c rest small) (by-verdict (catalogueVerdict c))
@@ -148,7 +148,7 @@ lines-verdict c rest text small e =
     by-verdict (Refused refusal) = refl
 
 -- the text of a value stands at the start, or the lines are refused 1
-starts-or-refused : (text : List ℕ)
+pub starts-or-refused : (text : List ℕ)
     → ((c : Catalogue) × (rest : List ℕ) × FiveDigits c × (textOf c ++ rest ≡ text)) ⊎ (linesOf text ≡ refusedLines Text)
 unfolding linesOf
 starts-or-refused text =

@@ -1,3 +1,5 @@
 pub mod Text
 pub mod Parsing
 pub mod Writing
+pub mod Faults
+pub mod Numbers

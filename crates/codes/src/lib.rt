@@ -8,7 +8,7 @@ ghost use Prim.Native.Nat.{_*_, _≤_, _<_};
 ghost use lib.ListN.{length};
 ghost use Rattle.lists.specs.Parts.{put};
 ghost use Rattle.catalogue.specs.Catalogue.{Admitted};
-ghost use Rattle.scheme.specs.Scheme.{Valid, answersIn};
+ghost use Rattle.scheme.specs.Scheme.{Valid, recoverIn};
 ghost use Rattle.codes.specs.Codes.{schemeOf};
 
 // Whether a key of the right length has only entries that it may have.
@@ -88,7 +88,7 @@ pub fn recover(c: Catalogue, wanted: usize, key: &[u8], answers: &[u8], message:
     requires { ⌜ Valid (schemeOf c) (now key) ⌝ }
     requires { ⌜ c .servers * schemeOf c .sizes .slot ≤ length (now answers) ⌝ }
     requires { ⌜ schemeOf c .sizes .message ≤ length (now message) ⌝ }
-    ensures { λ _. ⌜ now (message .exit) ≡ put 0 (schemeOf c .recover wanted (now (key .entry)) (answersIn (schemeOf c) (c .servers) wanted (now (key .entry)) (now (answers .entry)))) (now (message .entry)) ⌝ }
+    ensures { λ _. ⌜ now (message .exit) ≡ put 0 (recoverIn (schemeOf c) (c .servers) wanted (now (key .entry)) (now (answers .entry))) (now (message .entry)) ⌝ }
 {
     let code = c.code;
     match code {

@@ -1,5 +1,5 @@
 -- A query as its cells, each a message and a place (003, Lemma 1). The places of one message, in query order, are different and below
--- N^K (`places-distinct`, `places-below`), and there are N^(K-1) (`places-many`); so a query has K N^(K-1) positions (`query-length`),
+-- N^K (`places-distinct`, `places-below`), and there are N^(K-1) (`gives-many`); so a query has K N^(K-1) positions (`query-length`),
 -- each with a message and a place in bounds (`cells-inside`).
 use Prim.Native.Nat.{ℕ, suc, zero, _+_, _*_, _-_, _^_, _≤_, _<_}
 use native.Mathlib.Nat.{zero-add, add-zero, pow-le-pow-right}
@@ -11,7 +11,7 @@ use mathlib.Core.List.{List, [], _∷_, map, flatMap}
 use mathlib.Core.Option.{Option, none, some}
 use borrow.Author.Tests.{eq-eqb, ne-eqb}
 use lib.Dec.{eqb, ltb}
-use lib.ListN.{length, getD, length-append}
+use lib.ListN.{length, getD}
 use Rattle.lists.specs.Below.{Below}
 use Rattle.lists.specs.Distinct.{distinct}
 use Rattle.lists.specs.Pairs.{under}
@@ -78,15 +78,6 @@ places-times p v (r ∷ rs) = sum-append (λ x. bit (eqb x v)) (held (getD r p n
     go none = refl
     go (some x) = omega arith
 
-places-length : (p : ℕ) (rs : List Row) → length (placesOf p rs) ≡ sum (gives p) rs
-unfolding placesOf sum gives isSome bit
-places-length p [] = refl
-places-length p (r ∷ rs) = length-append (held (getD r p none)) (placesOf p rs) ∙ omega (arith, go (getD r p none), places-length p rs)
-  where
-    go : (o : Option ℕ) → length (held o) ≡ bit (isSome o)
-    go none = refl
-    go (some x) = refl
-
 below-mono : (v m n : ℕ) → m ≤ n → below v m ≤ below v n
 below-mono v m n le = go (decLt v m)
   where
@@ -138,9 +129,6 @@ module _ (N K k : ℕ) (wide : 1 < N) (known : k < K) where
 
     pub places-distinct : (p : ℕ) → p < K → distinct (under p (queryCells N K k n)) ≡ true
     places-distinct p hp = times-distinct (under p (queryCells N K k n)) (λ v. omega (arith, at-most p v hp, below-one v (N ^ K)))
-
-    pub places-many : (p : ℕ) → p < K → length (under p (queryCells N K k n)) ≡ N ^ (K - 1)
-    places-many p hp = ap length (query-places p n) ∙ places-length p (rows N K k n) ∙ gives-many p n hp there
 
     cells-known : All (λ cell. cell .0 < K) (queryCells N K k n)
     unfolding queryCells

@@ -1,12 +1,12 @@
 -- The rows of the rule are those that the process of document 01 makes (`process-is`): at each turn the next place of a message is as many
--- as all servers took of it in the blocks before, and the servers before in this one.
+-- as all servers took of it in the blocks before, and the servers before in this one. So a query's rows are what it made (`rows-made`).
 use Prim.Native.Nat.{ℕ, zero, suc, _+_, _<_}
 use native.Mathlib.Nat.{zero-add, add-zero, zero-mul, mul-zero, suc-add, add-suc}
 use native.Mathlib.Omega.{arith}
 use native.Mathlib.Decide.{ℕ-discrete}
 use mathlib.Core.Path.{_≡_, refl, sym, ap, _∙_, subst}
 use mathlib.Core.Logic.{_≢_}
-use mathlib.Core.List.{List, [], _∷_, map}
+use mathlib.Core.List.{List, [], _∷_, _++_, map}
 use mathlib.Core.Bool.{Bool}
 use mathlib.Core.Option.{none}
 use lib.ListN.{length, getD, replicate, length-set, length-replicate, getD-replicate}
@@ -16,10 +16,11 @@ use Rattle.lists.specs.Sums.{bit, sum, All, allNil, allCons}
 use Rattle.lists.proofs.Joined.{flatMap-all}
 use Rattle.lists.proofs.Mapped.{mapped-at}
 use Rattle.lists.proofs.Each.{All-imp}
+use Rattle.lists.proofs.Ranges.{All-range}
 use Rattle.lists.proofs.Sums.{sum-all, sum-zero}
-use Rattle.even_places.specs.Process.{Made, afters, joinedFrom, turn, turned, turns, turnsDone, blocks, process}
-use Rattle.even_places.specs.Rule.{Row, give, next, after, number, join, used, sideSets, sideRows, sources, joins, wantedRows}
-use Rattle.even_places.specs.Sets.{has, with}
+use Rattle.even_places.specs.Process.{Made, idle, madeBy, rowsMade, afters, joinedFrom, turn, turned, turns, turnsDone, blocks, process}
+use Rattle.even_places.specs.Rule.{Row, give, next, after, number, join, used, sideSets, sideRows, sources, joins, wantedRows, bySet, block, rows}
+use Rattle.even_places.specs.Sets.{has, with, sets}
 use Rattle.even_places.proofs.Rows.{SetLacks, next-at, after-at, after-length, next-length, afters-length, afters-at}
 use Rattle.even_places.proofs.Counts.{fresh, starts, starts-length, starts-at, side-is, sideSets-lack, sources-length, used-next, used-over}
 use Rattle.even_places.proofs.Positions.{others-below}
@@ -76,9 +77,6 @@ module _ (N K k : ℕ) (wide : 1 < N) (known : k < K) where
   joined-from (suc b) n before e l =
       flatMap-all (λ m. getD before m idle .side) (sideRows N K k b)
       (All-imp (λ m h. ap (λ made. getD made m idle .side) e ∙ ap (λ made. made .side) (mapped-at (ruled b) idle N m h)) (others-below N n))
-    where
-      idle : Made
-      idle = record { side = []; wanted = [] }
 
   module _ (b n : ℕ) (before : List Made) (c : List ℕ) (earlier : Earlier b before) (there : n < N) (r : Ready b n c) where
     lacks : All (λ A. length A ≡ K) (sideSets N K k b)
@@ -171,3 +169,15 @@ module _ (N K k : ℕ) (wide : 1 < N) (known : k < K) where
   pub process-is : process N K k ≡ map (λ b. map (λ n. record { side = sideRows N K k b n; wanted = wantedRows N K k b n }) (range 0 N)) (range 0 K)
   unfolding process ruled Earlier
   process-is = blocks-are 0 K [] (replicate K 0) tt start
+
+  -- a query lists what the process made for its server
+  pub rows-made : (n : ℕ) → n < N → rows N K k n ≡ rowsMade N K k n
+  unfolding rows block rowsMade
+  rows-made n there = flatMap-all _ _ (All-range K (λ b h. ap (λ (made : Made). bySet (sets K (suc b)) (made .side ++ made .wanted)) (sym (made-at b h))))
+    where
+      made-at : (b : ℕ) → b < K → madeBy N K k b n ≡ record { side = sideRows N K k b n; wanted = wantedRows N K k b n }
+      made-at b h =
+          ap (λ (all : List (List Made)). getD (getD all b []) n idle) process-is
+          ∙ ap (λ (all : List Made). getD all n idle)
+          (mapped-at (λ b. map (λ n. record { side = sideRows N K k b n; wanted = wantedRows N K k b n }) (range 0 N)) [] K b h)
+          ∙ mapped-at (λ n. record { side = sideRows N K k b n; wanted = wantedRows N K k b n }) idle N n there

@@ -1,16 +1,23 @@
 -- The place rule as document 01 tells it: a process in which the servers take turns, block by block, and each message's places are used
--- up in ascending order. `process-is` shows that the rows it makes are those of the rule.
+-- up in ascending order. `process-is` shows that the rows it makes are those of the rule, and `rows-made` that they
+-- are a query's.
 use Prim.Native.Nat.{ℕ, zero, suc, _+_}
-use mathlib.Core.List.{List, [], _∷_, flatMap}
+use mathlib.Core.List.{List, [], _∷_, _++_, flatMap}
 use mathlib.Core.Bool.{Bool}
 use mathlib.Core.Option.{none}
 use lib.ListN.{length, getD, set, replicate}
-use Rattle.even_places.specs.Rule.{Row, after, number, join, others, sideSets}
+use Rattle.lists.specs.Ranges.{range}
+use Rattle.even_places.specs.Rule.{Row, after, number, join, bySet, others, sideSets}
+use Rattle.even_places.specs.Sets.{sets}
 
 -- what a server's turn makes
 pub record Made : Type 0 where
   pub side : List Row
   pub wanted : List Row
+
+-- nothing made
+abbrev pub idle : Made
+idle = record { side = []; wanted = [] }
 
 -- the next places after a row for each set, where c has the next place of each message
 unfoldable pub afters : List (List Bool) → List ℕ → List ℕ
@@ -22,7 +29,7 @@ module _ (N K k : ℕ) where
   -- single row with no message, then the side rows of each other server, ascending
   unfoldable pub joinedFrom : ℕ → List Made → ℕ → List Row
   joinedFrom zero before n = replicate K none ∷ []
-  joinedFrom (suc b) before n = flatMap (λ m. getD before m (record { side = []; wanted = [] }) .side) (others N n)
+  joinedFrom (suc b) before n = flatMap (λ m. getD before m idle .side) (others N n)
 
   -- Server n's turn in block b: side rows, each with the next place of every message in its set; then wanted rows, each joined with the
   -- next place of k
@@ -53,3 +60,11 @@ module _ (N K k : ℕ) where
   -- all blocks, from place 0 of every message
   unfoldable pub process : List (List Made)
   process = blocks 0 K [] (replicate K 0)
+
+  -- what server n makes in block b
+  abbrev pub madeBy : ℕ → ℕ → Made
+  madeBy b n = getD (getD process b []) n idle
+
+  -- all that server n makes: by block, then by set, then in the order made
+  unfoldable pub rowsMade : ℕ → List Row
+  rowsMade n = flatMap (λ b. bySet (sets K (suc b)) (madeBy b n .side ++ madeBy b n .wanted)) (range 0 K)

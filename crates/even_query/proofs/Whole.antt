@@ -11,7 +11,7 @@ use Rattle.even_places.specs.Sets.{allSets}
 use Rattle.even_places.specs.Rule.{queryCells, positions}
 use Rattle.even_places.proofs.Flat.{inside, query-length}
 use Rattle.even_places.proofs.Positions.{same-members, positions-length}
-use Rattle.even_scheme.specs.Even.{permutation, numberAt, evenQuery}
+use Rattle.even_scheme.specs.Even.{permutation, entryAt, evenQuery}
 use Rattle.even_layout.proofs.Tables.{positions-room}
 use Rattle.even_ranks.specs.Counts.{noCounts, totalsOf}
 use Rattle.even_ranks.specs.Walk.{setsPlaces, walked}
@@ -20,8 +20,8 @@ use Rattle.even_query.specs.Query.{Asks, Keyed, entries}
 
 -- the entries for cells are the numbers that they stand for
 entries-cells : (N K : ℕ) (key : List ℕ) (cells : List (ℕ × ℕ)) → ((i : ℕ) → i < length cells → getD cells i (0, 0) .1 < N ^ K)
-    → entries (N ^ K) key (map (λ cell. cell .0) cells) (map (λ cell. cell .1) cells) ≡ map (λ cell. numberAt N K key (cell .0) (cell .1)) cells
-unfolding entries zipWith numberAt permutation
+    → entries (N ^ K) key (map (λ cell. cell .0) cells) (map (λ cell. cell .1) cells) ≡ map (λ cell. entryAt N K key (cell .0) (cell .1)) cells
+unfolding entries zipWith entryAt permutation
 entries-cells N K key [] h = refl
 entries-cells N K key (cell ∷ cells) h =
     ap₂ (λ (x : ℕ) (l : List ℕ). x ∷ l) (sym (cut-at (cell .0 * N ^ K) (N ^ K) (cell .1) key (h 0 (omega arith)))) (entries-cells N K key cells (λ i l. h (suc i) (omega arith)))

@@ -16,7 +16,7 @@ use Rattle.scheme.specs.Scheme.{answersIn}
 use Rattle.even_places.specs.Sets.{ones, allSets, byteOf}
 use Rattle.even_places.specs.Rule.{queryCells}
 use Rattle.even_places.proofs.WantedCells.{cellsOf, WantedCell, wanted-cell}
-use Rattle.even_scheme.specs.Even.{numberAt, evenKeyGood, evenQuery, wantedPlace, recoveredPart, evenScheme}
+use Rattle.even_scheme.specs.Even.{entryAt, evenKeyGood, evenQuery, wantedPlace, recoveredPart, evenScheme}
 use Rattle.even_scheme.proofs.Symbols.{number-below}
 use Rattle.even_recover.specs.declared.Group.{Group}
 use Rattle.even_recover.specs.Rows.{readingOf, groupPart, groupParts, groupOf, Named}
@@ -52,15 +52,15 @@ module _ {N K S wanted server : ℕ} {firsts key query : List ℕ} (reads : Read
 
   position-inside : (i : ℕ) → i < (N - 1) ^ (ones A - 1) → position i < length (evenQuery N K wanted server key)
   unfolding evenQuery
-  position-inside i h = rw (length-map (queryCells N K wanted server) (λ cell. numberAt N K key (cell .0) (cell .1))) (at-position i h .inside)
+  position-inside i h = rw (length-map (queryCells N K wanted server) (λ cell. entryAt N K key (cell .0) (cell .1))) (at-position i h .inside)
 
   number-is : (i : ℕ) → i < (N - 1) ^ (ones A - 1)
-      → getD query (group .cell + i * group .messages) 0 ≡ numberAt N K key wanted (wantedPlace xor N K S wanted server A i)
+      → getD query (group .cell + i * group .messages) 0 ≡ entryAt N K key wanted (wantedPlace xor N K S wanted server A i)
   unfolding evenQuery wantedPlace
   number-is i h =
       ap (λ (c : ℕ). getD query c 0) (position-is i)
       ∙ asked .same (position i) (position-inside i h)
-      ∙ map-at (λ cell. numberAt N K key (cell .0) (cell .1)) (0, 0) 0 (queryCells N K wanted server) (position i) (at-position i h .inside)
+      ∙ map-at (λ cell. entryAt N K key (cell .0) (cell .1)) (0, 0) 0 (queryCells N K wanted server) (position i) (at-position i h .inside)
       ∙ rw (at-position i h .its-message, at-position i h .its-place)
 
   pub group-named : (message : List ℕ) → N ^ K * S ≤ length message → Named (readingOf N K S wanted server) group query message

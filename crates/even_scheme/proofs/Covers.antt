@@ -18,7 +18,7 @@ use Rattle.scheme.specs.Scheme.{Valid}
 use Rattle.even_places.specs.Sets.{has, ones}
 use Rattle.even_places.proofs.RowNumbers.{WantedRow}
 use Rattle.even_places.proofs.AllSets.{IsSet, all-sets}
-use Rattle.even_scheme.specs.Even.{numberAt, recoveredSymbol, wantedPlace, recoveredPart, serverParts, recoveredParts, evenScheme}
+use Rattle.even_scheme.specs.Even.{entryAt, recoveredSymbol, wantedPlace, recoveredPart, serverParts, recoveredParts, evenScheme}
 use Rattle.even_scheme.proofs.Assembled.{Part, Within, Covers}
 use Rattle.even_scheme.proofs.Once.{symbols-once}
 use Rattle.even_scheme.proofs.Symbols.{number-below}
@@ -50,7 +50,7 @@ module _ (sum : Sum) (N K S k : ℕ) (key : List ℕ) (answers : List (List ℕ)
   pub parts-within : All (Within (N ^ K * S)) (recoveredParts sum N K S k key answers)
   unfolding recoveredPart
   parts-within = each-part sum N K S k key answers (λ n A i wanted.
-      let number = numberAt N K key k (wantedPlace sum N K S k n A i) in
+      let number = entryAt N K key k (wantedPlace sum N K S k n A i) in
       let below : number < N ^ K = number-below N K key k (wantedPlace sum N K S k n A i) (valid .good) known (one-le-pow K N (omega arith)) in
       omega (arith, whole n A i wanted, suc-mul number S, mul-le-mul-right S below))
 

@@ -8,7 +8,7 @@ use Rattle.lists.specs.Sums.{All, allNil, allCons}
 use Rattle.symbol.specs.Xor.{xor}
 use Rattle.even_places.specs.Rule.{layout, positions, queryCells}
 use Rattle.even_places.specs.Sets.{members}
-use Rattle.even_scheme.specs.Even.{permutation, numberAt, evenQuery, evenScheme}
+use Rattle.even_scheme.specs.Even.{permutation, entryAt, evenQuery, evenScheme}
 use Rattle.even_scheme.proofs.Keys.{keyOf}
 
 pub data Example : Type 0 where
@@ -49,6 +49,6 @@ table =
     ∷ []
 
 pub examples : All Holds table
-unfolding Holds table evenQuery numberAt permutation queryCells keyOf range positions layout members
+unfolding Holds table evenQuery entryAt permutation queryCells keyOf range positions layout members
 examples =
     allCons refl (allCons refl (allCons refl (allCons refl (allCons refl (allCons refl (allCons refl (allCons refl (allCons refl (allCons refl (allCons refl (allCons refl (allCons refl (allCons refl (allCons refl allNil))))))))))))))

@@ -16,7 +16,7 @@ use Rattle.scheme.specs.Scheme.{Valid}
 use Rattle.symbol.specs.Sum.{Sum}
 use Rattle.even_places.specs.Rule.{queryCells}
 use Rattle.even_places.proofs.Flat.{cells-inside, places-below, places-distinct}
-use Rattle.even_scheme.specs.Even.{permutation, numberAt, evenQuery, evenScheme}
+use Rattle.even_scheme.specs.Even.{permutation, entryAt, evenQuery, evenScheme}
 use Rattle.even_scheme.proofs.Keys.{keyOf, key-permutation, key-whole, key-of, key-of-valid, key-same}
 use Rattle.even_scheme.proofs.Queries.{cells-labels}
 
@@ -68,8 +68,8 @@ module _ (sum : Sum) (N K S : ℕ) (fits : evenFits N K S ≡ true) (server want
 
   -- what the exchanged key has at message p's places for `other` is what the key has at those for `wanted`
   shown : (p : ℕ) → p < K
-      → map (numberAt N K (evenExchange N K server wanted other key) p) (under p (queryCells N K other server)) ≡ map (numberAt N K key p) (under p (queryCells N K wanted server))
-  unfolding numberAt exchanged order picked
+      → map (entryAt N K (evenExchange N K server wanted other key) p) (under p (queryCells N K other server)) ≡ map (entryAt N K key p) (under p (queryCells N K wanted server))
+  unfolding entryAt exchanged order picked
   shown p h =
       ap (λ l. picked l (under p (queryCells N K other server))) (exchange-at p h)
       ∙ carried-shown (N ^ K) (under p (queryCells N K other server)) (under p (queryCells N K wanted server)) (order-permutation N K server wide there other p known′ h)
@@ -82,5 +82,5 @@ module _ (sum : Sum) (N K S : ℕ) (fits : evenFits N K S ≡ true) (server want
   pub exchange-shown : evenScheme sum N K S .query other server (evenExchange N K server wanted other key) ≡ evenScheme sum N K S .query wanted server key
   unfolding evenQuery
   exchange-shown =
-      same-under (numberAt N K (evenExchange N K server wanted other key)) (numberAt N K key) K (queryCells N K wanted server)
+      same-under (entryAt N K (evenExchange N K server wanted other key)) (entryAt N K key) K (queryCells N K wanted server)
       (All-imp (λ cell h. h .0) (cells-inside N K other wide known′ server there)) same-labels shown

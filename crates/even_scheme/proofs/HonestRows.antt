@@ -25,13 +25,13 @@ use Rattle.even_places.proofs.Joined.{same-layout}
 use Rattle.even_places.proofs.RowNumbers.{setRows, row-number}
 use Rattle.even_places.proofs.SetLaws.{setOf, cells-length}
 use Rattle.even_places.proofs.AllSets.{IsSet}
-use Rattle.even_scheme.specs.Even.{numberAt, evenQuery, symbolAt, rowAnswer, rowAnswers, evenAnswer, answeredRow, evenScheme}
+use Rattle.even_scheme.specs.Even.{entryAt, evenQuery, symbolAt, rowAnswer, rowAnswers, evenAnswer, answeredRow, evenScheme}
 use Rattle.even_scheme.proofs.Symbols.{number-below, symbol-symbol}
 
 module _ (sum : Sum) (N K S : ℕ) (store key : List ℕ) where
   -- the number that a cell names, and the symbol
   unfoldable pub cellNumber : ℕ × ℕ → ℕ
-  cellNumber cell = numberAt N K key (cell .0) (cell .1)
+  cellNumber cell = entryAt N K key (cell .0) (cell .1)
 
   unfoldable pub cellSymbol : ℕ × ℕ → List ℕ
   cellSymbol cell = symbolAt sum N K S store (cell .0) (cellNumber cell)
@@ -77,7 +77,7 @@ pub record Retrieval (sum : Sum) (N K S k : ℕ) (store key : List ℕ) : Type 0
 
 module _ (sum : Sum) (N K S k : ℕ) (store key : List ℕ) (run : Retrieval sum N K S k store key) where
   -- the numbers of its queries name symbols
-  pub number-small : (p place : ℕ) → p < K → numberAt N K key p place < N ^ K
+  pub number-small : (p place : ℕ) → p < K → entryAt N K key p place < N ^ K
   number-small p place h = number-below N K key p place (run .valid .good) h (one-le-pow K N (let w : 0 < N = omega (arith, run .wide) in w))
 
   cell-symbols : {cs : List (ℕ × ℕ)} → All (λ cell. cell .0 < K) cs → Symbols S (map (cellSymbol sum N K S store key) cs)
@@ -85,7 +85,7 @@ module _ (sum : Sum) (N K S k : ℕ) (store key : List ℕ) (run : Retrieval sum
   cell-symbols allNil = none
   cell-symbols (allCons {x = cell} h a) =
       more
-      (symbol-symbol sum N K S store (run .long) (cell .0) (numberAt N K key (cell .0) (cell .1)) h (number-small (cell .0) (cell .1) h) (run .bytes))
+      (symbol-symbol sum N K S store (run .long) (cell .0) (entryAt N K key (cell .0) (cell .1)) h (number-small (cell .0) (cell .1) h) (run .bytes))
       (cell-symbols a)
 
   pub row-symbols : (r : Row) → length r ≡ K → Symbols S (map (cellSymbol sum N K S store key) (cells 0 r))

@@ -29,7 +29,7 @@ use Rattle.even_places.proofs.RowNumbers.{setRows, rows-by-set, setRows-length,
 use Rattle.even_places.proofs.Rows.{below, below-lt, hit, is}
 use Rattle.even_places.proofs.Totals.{wanted-once}
 use Rattle.even_places.proofs.AllSets.{IsSet, all-sets}
-use Rattle.even_scheme.specs.Even.{permutation, numberAt, wantedPlace, recoveredPart, serverParts, recoveredParts, evenScheme}
+use Rattle.even_scheme.specs.Even.{permutation, entryAt, wantedPlace, recoveredPart, serverParts, recoveredParts, evenScheme}
 use Rattle.even_scheme.proofs.Assembled.{Part}
 use Rattle.even_scheme.proofs.Keys.{key-permutation}
 use Rattle.even_scheme.proofs.Recovery.{wanted-place}
@@ -110,7 +110,7 @@ module _ (sums : Sum) (N K S k : ℕ) where
     start part = part .0
 
     offset : ℕ → ℕ
-    offset place = numberAt N K key k place * S
+    offset place = entryAt N K key k place * S
 
     parts-start : map start (recoveredParts sums N K S k key answers) ≡ map offset recoveredPlaces
     unfolding recoveredParts serverParts recoveredPart recoveredPlaces serverPlaces setPlaces start offset
@@ -133,11 +133,11 @@ module _ (sums : Sum) (N K S k : ℕ) where
 -- from answers of any contents: no symbol of the message is left out, and none is written twice
 pub symbols-once : (sums : Sum) (N K S wanted : ℕ) (key : List ℕ) (answers : List (List ℕ)) → 1 < N → wanted < K → Valid (evenScheme sums N K S) key
     → (numbers : List ℕ) × Permutation (N ^ K) numbers × (map (λ part. part .0) (recoveredParts sums N K S wanted key answers) ≡ map (λ number. number * S) numbers)
-unfolding picked numberAt start offset
+unfolding picked entryAt start offset
 symbols-once sums N K S wanted key answers wide known valid = (
   picked (permutation N K key wanted) places,
   picked-permutation (N ^ K) (permutation N K key wanted) places (key-permutation sums N K S key valid wanted known) (places-permutation sums N K S wanted wide known),
-  parts-start sums N K S wanted key answers ∙ sym (map-map (λ number. number * S) (numberAt N K key wanted) places),
+  parts-start sums N K S wanted key answers ∙ sym (map-map (λ number. number * S) (entryAt N K key wanted) places),
 )
   where
     places : List ℕ

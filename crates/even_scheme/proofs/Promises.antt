@@ -12,7 +12,7 @@ use Rattle.symbol.specs.Sum.{Sum}
 use Rattle.symbol.specs.Xor.{xor}
 use Rattle.symbol.proofs.XorGroup.{xor-group}
 use Rattle.scheme.specs.Laws.{Laws}
-use Rattle.scheme.specs.Scheme.{Valid, answersIn}
+use Rattle.scheme.specs.Scheme.{Valid, answersIn, recoverIn}
 use Rattle.even_scheme.specs.Even.{assemble, recoveredParts, evenScheme}
 use Rattle.even_scheme.proofs.Answers.{answer-length, answer-fits}
 use Rattle.even_scheme.proofs.Exchange.{evenExchange, exchange-valid, exchange-back, exchange-shown}
@@ -44,6 +44,6 @@ even-promises N K S fits = even-laws xor N K S (xor-group S) fits
 pub even-written : (N K S : ℕ) → evenFits N K S ≡ true → (wanted : ℕ) → wanted < K → (key : List ℕ) → Valid (evenScheme xor N K S) key
     → (slots : List ℕ) → N * evenScheme xor N K S .sizes .slot ≤ length slots → (buffer : List ℕ) → evenScheme xor N K S .sizes .message ≤ length buffer
     → assemble (recoveredParts xor N K S wanted key (answersIn (evenScheme xor N K S) N wanted key slots)) buffer
-    ≡ put 0 (evenScheme xor N K S .recover wanted key (answersIn (evenScheme xor N K S) N wanted key slots)) buffer
+    ≡ put 0 (recoverIn (evenScheme xor N K S) N wanted key slots) buffer
 even-written N K S fits wanted known key valid slots enough buffer room =
     slots-written xor N K S (xor-group S .minus-length) fits wanted known key valid slots enough buffer room

@@ -24,7 +24,7 @@ use Rattle.symbol.specs.Sum.{Sum}
 use Rattle.even_places.specs.Rule.{queryCells, positions}
 use Rattle.even_places.proofs.Flat.{cells-inside, places-below, places-distinct, query-length as cells-length}
 use Rattle.even_places.proofs.Positions.{same-members, positions-length}
-use Rattle.even_scheme.specs.Even.{permutation, numberAt, evenQuery, numbersOf, evenAdmits, evenScheme}
+use Rattle.even_scheme.specs.Even.{permutation, entryAt, evenQuery, numbersOf, evenAdmits, evenScheme}
 use Rattle.even_scheme.proofs.Keys.{key-permutation}
 
 module _ (N K wanted server : ℕ) (wide : 1 < N) (known : wanted < K) (there : server < N) where
@@ -34,11 +34,11 @@ module _ (N K wanted server : ℕ) (wide : 1 < N) (known : wanted < K) (there : 
 
   -- the numbers that a query names of a message are what the key has at the message's places
   pub query-numbers : (p : ℕ) (key : List ℕ) → numbersOf N K p (evenQuery N K wanted server key) ≡ picked (permutation N K key p) (under p (queryCells N K wanted server))
-  unfolding numbersOf evenQuery picked numberAt under
+  unfolding numbersOf evenQuery picked entryAt under
   query-numbers p key =
       ap (λ l. under p (zip l (evenQuery N K wanted server key))) (sym cells-labels)
-      ∙ ap (under p) (zip-map (λ cell. cell .0) (λ cell. numberAt N K key (cell .0) (cell .1)) (queryCells N K wanted server))
-      ∙ under-map (numberAt N K key) p (queryCells N K wanted server)
+      ∙ ap (under p) (zip-map (λ cell. cell .0) (λ cell. entryAt N K key (cell .0) (cell .1)) (queryCells N K wanted server))
+      ∙ under-map (entryAt N K key) p (queryCells N K wanted server)
 
   whole : (query : List ℕ) → length query ≡ K * N ^ (K - 1) → length (positions N K) ≡ length query
   whole query long = positions-length N K wide (omega arith) ∙ sym long
@@ -51,15 +51,15 @@ module _ (N K wanted server : ℕ) (wide : 1 < N) (known : wanted < K) (there : 
   -- and it is the query as soon as it names the numbers that the key has there
   pub query-is : (key query : List ℕ) → length query ≡ K * N ^ (K - 1)
       → ((p : ℕ) → p < K → picked (permutation N K key p) (under p (queryCells N K wanted server)) ≡ numbersOf N K p query) → evenQuery N K wanted server key ≡ query
-  unfolding evenQuery numberAt picked numbersOf under
+  unfolding evenQuery entryAt picked numbersOf under
   query-is key query long numbers =
-      same-under (numberAt N K key) (λ p v. v) K (zip (positions N K) query) (All-imp (λ cell h. h .0) (cells-inside N K wanted wide known server there))
+      same-under (entryAt N K key) (λ p v. v) K (zip (positions N K) query) (All-imp (λ cell h. h .0) (cells-inside N K wanted wide known server there))
       (cells-labels ∙ sym (zip-firsts (positions N K) query (whole query long))) (λ p h. numbers p h ∙ sym (map-id (numbersOf N K p query)))
       ∙ zip-seconds (positions N K) query (whole query long)
 
   query-size : (key : List ℕ) → length (evenQuery N K wanted server key) ≡ K * N ^ (K - 1)
   unfolding evenQuery
-  query-size key = length-map (queryCells N K wanted server) (λ cell. numberAt N K key (cell .0) (cell .1)) ∙ cells-length N K wanted wide known server there
+  query-size key = length-map (queryCells N K wanted server) (λ cell. entryAt N K key (cell .0) (cell .1)) ∙ cells-length N K wanted wide known server there
 
 module _ (sum : Sum) (N K S : ℕ) (fits : evenFits N K S ≡ true) (wanted server : ℕ) (key : List ℕ)
     (known : wanted < K) (there : server < N) (valid : Valid (evenScheme sum N K S) key) where
@@ -71,9 +71,9 @@ module _ (sum : Sum) (N K S : ℕ) (fits : evenFits N K S ≡ true) (wanted serv
   query-length = query-size N K wanted server wide known there key
 
   query-below : allBelow (N ^ K) (evenQuery N K wanted server key) ≡ true
-  unfolding evenQuery numberAt
+  unfolding evenQuery entryAt
   query-below =
-      below-allBelow (N ^ K) (evenQuery N K wanted server key) (All-get {P = λ v. v < N ^ K} 0 (All-map (λ cell. numberAt N K key (cell .0) (cell .1))
+      below-allBelow (N ^ K) (evenQuery N K wanted server key) (All-get {P = λ v. v < N ^ K} 0 (All-map (λ cell. entryAt N K key (cell .0) (cell .1))
       (All-imp (λ cell h. key-permutation sum N K S key valid (cell .0) (h .0) .low (cell .1) (h .1)) (cells-inside N K wanted wide known server there))))
 
   query-distinct : (p : ℕ) → p < K → distinct (numbersOf N K p (evenQuery N K wanted server key)) ≡ true

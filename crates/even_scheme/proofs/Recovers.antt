@@ -16,7 +16,7 @@ use Rattle.parameters.proofs.Bounds.{even-bounds}
 use Rattle.symbol.specs.Group.{AbelianGroup}
 use Rattle.symbol.specs.Sum.{Sum, zeros}
 use Rattle.scheme.specs.Scheme.{Valid, messageOf, honestAnswers}
-use Rattle.even_scheme.specs.Even.{numberAt, wantedPlace, recoveredPart, recoveredParts, evenScheme}
+use Rattle.even_scheme.specs.Even.{entryAt, wantedPlace, recoveredPart, recoveredParts, evenScheme}
 use Rattle.even_scheme.proofs.Assembled.{Of, assemble-message}
 use Rattle.even_scheme.proofs.Covers.{each-part, Whole, parts-cover}
 use Rattle.even_scheme.proofs.HonestRows.{Retrieval, number-small}
@@ -34,19 +34,19 @@ module _ (sum : Sum) (N K S k : ℕ) (store key : List ℕ) (run : Retrieval sum
   unfolding message
   message-long = cut-length (k * (N ^ K * S)) (N ^ K * S) store (omega (arith, run .long, suc-mul k (N ^ K * S), mul-le-mul-right (N ^ K * S) (run .known)))
 
-  wanted-small : (place : ℕ) → numberAt N K key k place < N ^ K
+  wanted-small : (place : ℕ) → entryAt N K key k place < N ^ K
   wanted-small place = number-small sum N K S k store key run k place (run .known)
 
   whole : Whole sum N K S k answers
   unfolding answers
   whole n A i wanted =
       let place = wantedPlace sum N K S k n A i in
-      ap length (recovered sum N K S k store key run n A i wanted) ∙ symbol-long sum N K S store (run .long) k (numberAt N K key k place) (run .known) (wanted-small place)
+      ap length (recovered sum N K S k store key run n A i wanted) ∙ symbol-long sum N K S store (run .long) k (entryAt N K key k place) (run .known) (wanted-small place)
 
   parts-of : All (Of message) (recoveredParts sum N K S k key answers)
   unfolding recoveredPart answers message
   parts-of = each-part sum N K S k key answers (λ n A i wanted.
-      let number = numberAt N K key k (wantedPlace sum N K S k n A i) in
+      let number = entryAt N K key k (wantedPlace sum N K S k n A i) in
       let small : number < N ^ K = wanted-small (wantedPlace sum N K S k n A i) in
       record {
         within = omega (arith, whole n A i wanted, message-long, suc-mul number S, mul-le-mul-right S small);

@@ -15,12 +15,12 @@ use Rattle.lists.proofs.Below.{below-take, below-drop}
 use Rattle.lists.proofs.Cuts.{cut-length, cut-cut}
 use Rattle.lists.proofs.Every.{every-at}
 use Rattle.symbol.specs.Sum.{Symbol, Sum}
-use Rattle.even_scheme.specs.Even.{permutation, numberAt, evenKeyGood, symbolAt}
+use Rattle.even_scheme.specs.Even.{permutation, entryAt, evenKeyGood, symbolAt}
 
 -- ---- The key's numbers
 
-pub number-below : (N K : ℕ) (key : List ℕ) (p place : ℕ) → evenKeyGood N K key ≡ true → p < K → 0 < N ^ K → numberAt N K key p place < N ^ K
-unfolding evenKeyGood numberAt
+pub number-below : (N K : ℕ) (key : List ℕ) (p place : ℕ) → evenKeyGood N K key ≡ true → p < K → 0 < N ^ K → entryAt N K key p place < N ^ K
+unfolding evenKeyGood entryAt
 number-below N K key p place good h some = go (decLt place (N ^ K))
   where
     numbers : Permutation (N ^ K) (permutation N K key p)

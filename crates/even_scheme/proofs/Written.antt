@@ -18,7 +18,7 @@ use Rattle.parameters.specs.Measures.{evenSizes, evenRows}
 use Rattle.parameters.proofs.Bounds.{EvenBounds, even-bounds}
 use Rattle.symbol.specs.Sum.{Sum, zeros}
 use Rattle.symbol.specs.Group.{KeepsLength}
-use Rattle.scheme.specs.Scheme.{Valid, answersIn}
+use Rattle.scheme.specs.Scheme.{Valid, answersIn, recoverIn}
 use Rattle.even_places.specs.Sets.{ones}
 use Rattle.even_places.specs.Rule.{others, firstRow, layout}
 use Rattle.even_places.proofs.Counts.{rows-length}
@@ -104,5 +104,5 @@ module _ (sum : Sum) (N K S : ℕ) (keeps : KeepsLength (sum .minus) S) (fits : 
 
     pub slots-written : (buffer : List ℕ) → evenScheme sum N K S .sizes .message ≤ length buffer
         → assemble (recoveredParts sum N K S wanted key (answersIn (evenScheme sum N K S) N wanted key slots)) buffer
-        ≡ put 0 (evenScheme sum N K S .recover wanted key (answersIn (evenScheme sum N K S) N wanted key slots)) buffer
+        ≡ put 0 (recoverIn (evenScheme sum N K S) N wanted key slots) buffer
     slots-written buffer room = recover-written (answersIn (evenScheme sum N K S) N wanted key slots) slots-long buffer room

@@ -25,8 +25,8 @@ module _ (N K : ℕ) where
   permutation key p = cut (p * N ^ K) (N ^ K) key
 
   -- the number of the symbol that a place of message p stands for
-  unfoldable pub numberAt : List ℕ → ℕ → ℕ → ℕ
-  numberAt key p place = getD (permutation key p) place 0
+  unfoldable pub entryAt : List ℕ → ℕ → ℕ → ℕ
+  entryAt key p place = getD (permutation key p) place 0
 
   unfoldable pub evenKeyGood : List ℕ → Bool
   evenKeyGood key = every K (λ p. isPermutation (N ^ K) (permutation key p))
@@ -34,7 +34,7 @@ module _ (N K : ℕ) where
   -- ---- Queries
 
   unfoldable pub evenQuery : ℕ → ℕ → List ℕ → List ℕ
-  evenQuery wanted server key = map (λ cell. numberAt key (cell .0) (cell .1)) (queryCells N K wanted server)
+  evenQuery wanted server key = map (λ cell. entryAt key (cell .0) (cell .1)) (queryCells N K wanted server)
 
   -- the numbers that a query names of message p
   unfoldable pub numbersOf : ℕ → List ℕ → List ℕ
@@ -102,7 +102,7 @@ module _ (sum : Sum) (N K S wanted : ℕ) where
 
   -- the part of the message that row i of set A at a server gives: its symbol's offset and bytes
   unfoldable pub recoveredPart : List ℕ → List (List ℕ) → ℕ → List Bool → ℕ → ℕ × List ℕ
-  recoveredPart key answers server A i = (numberAt N K key wanted (wantedPlace server A i) * S, recoveredSymbol answers server A i)
+  recoveredPart key answers server A i = (entryAt N K key wanted (wantedPlace server A i) * S, recoveredSymbol answers server A i)
 
   -- those of all rows with the wanted message at a server, and at all servers
   unfoldable pub serverParts : List ℕ → List (List ℕ) → ℕ → List (ℕ × List ℕ)

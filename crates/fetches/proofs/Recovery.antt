@@ -15,13 +15,13 @@ use Rattle.refusal.specs.declared.Refusal.the-variants.{Room, Missing}
 use Rattle.refusal.specs.declared.Verdict.{Verdict}
 use Rattle.refusal.specs.declared.Verdict.the-variants.{Accepted, Refused}
 use Rattle.refusal.specs.Chain.{refuseIf}
-use Rattle.scheme.specs.Scheme.{Scheme, Valid, messageOf, honestAnswers, answersIn}
+use Rattle.scheme.specs.Scheme.{Scheme, Valid, messageOf, honestAnswers, answersIn, recoverIn}
 use Rattle.scheme.specs.Laws.{Laws}
 use Rattle.catalogue.specs.declared.Catalogue.{Catalogue}
 use Rattle.catalogue.specs.Catalogue.{Admitted}
 use Rattle.session.specs.declared.Session.{Session}
 use Rattle.session_parts.specs.Marks.{marked, allTaken}
-use Rattle.session.specs.Calls.{slotsOf, recovered, recoverVerdict, recover}
+use Rattle.session.specs.Calls.{slotsOf, recoveredMessage, recoverVerdict, recover}
 use Rattle.session.proofs.Begin.{key-kept}
 use Rattle.session.proofs.Recover.{recover-verdict, recover-by, recover-says}
 use Rattle.fetches.specs.Fetches.{Call, issuing, taking, recovering, make, run}
@@ -78,9 +78,9 @@ module _ (schemeOf : Catalogue → Scheme) (c : Catalogue) (admitted : Admitted 
       unfolding answersIn honestAnswers
       answers-honest = map-range 0 (c .servers) _ _ (λ i l u. let h : i < c .servers = omega arith in held i h (all i h) .holds)
 
-      gives : recovered schemeOf s answers ≡ messageOf (schemeOf c) store wanted
+      gives : recoveredMessage schemeOf s answers ≡ messageOf (schemeOf c) store wanted
       gives =
-          ap (λ (l : List ℕ). schemeOf c .recover wanted l (answersIn (schemeOf c) (c .servers) wanted l answers)) (key-kept schemeOf c wanted key (valid .long))
+          ap (λ (l : List ℕ). recoverIn (schemeOf c) (c .servers) wanted l answers) (key-kept schemeOf c wanted key (valid .long))
           ∙ ap (schemeOf c .recover wanted key) answers-honest
           ∙ laws .recovers store wanted key bytes (held 0 (laws .servers-some) (all 0 (laws .servers-some)) .store-long) inside valid
 

@@ -6,11 +6,11 @@ use lib.ListN.{length, take}
 use Rattle.lists.specs.Parts.{put}
 use Rattle.refusal.specs.declared.Verdict.{Verdict}
 use Rattle.refusal.specs.declared.Verdict.the-variants.{Accepted, Refused}
-use Rattle.scheme.specs.Scheme.{Scheme, answersIn}
+use Rattle.scheme.specs.Scheme.{Scheme, recoverIn}
 use Rattle.catalogue.specs.declared.Catalogue.{Catalogue}
 use Rattle.session.specs.declared.Session.{Session}
 use Rattle.session.specs.Fields.{markIssued}
-use Rattle.session.specs.Calls.{out, codeOf, keyOf, queryOf, recovered, issueVerdict, issue, takeVerdict, takeAnswer, recoverVerdict, recover}
+use Rattle.session.specs.Calls.{out, codeOf, keyOf, queryOf, recoveredMessage, issueVerdict, issue, takeVerdict, takeAnswer, recoverVerdict, recover}
 use Rattle.session.proofs.Issue.{issue-by}
 use Rattle.session.proofs.Take.{take-by}
 use Rattle.session.proofs.Recover.{recover-by}
@@ -23,9 +23,9 @@ module _ (schemeOf : Catalogue → Scheme) (s : Session) (places : List ℕ) (sa
   query-same : (server : ℕ) → queryOf schemeOf t server ≡ queryOf schemeOf s server
   query-same server = ap (codeOf schemeOf s .query (s .wanted) server) same
 
-  message-same : (answers : List ℕ) → recovered schemeOf t answers ≡ recovered schemeOf s answers
+  message-same : (answers : List ℕ) → recoveredMessage schemeOf t answers ≡ recoveredMessage schemeOf s answers
   message-same answers =
-      ap (λ (key : List ℕ). codeOf schemeOf s .recover (s .wanted) key (answersIn (codeOf schemeOf s) (s .catalogue .servers) (s .wanted) key answers)) same
+      ap (λ (key : List ℕ). recoverIn (codeOf schemeOf s) (s .catalogue .servers) (s .wanted) key answers) same
 
   issue-same : (server : ℕ) (buffer : List ℕ) (v : Verdict) → v ≡ issueVerdict schemeOf s server (length buffer)
       → issue schemeOf t server buffer ≡ handedWith places (issue schemeOf s server buffer)

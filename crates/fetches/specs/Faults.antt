@@ -1,18 +1,19 @@
--- The table of numbers (document 01, 'Numbers a call can give') for the calls of a session and for answering: which faults a call can have. Of
--- those that are there it gives the smallest number: `smallest-given`.
+-- The table of numbers (document 01, 'Numbers a call can give') for the calls of a session: which faults a call can have; those of answering are
+-- `answerFaults`. Of those that are there a call gives the smallest number: `smallest-given`.
 use mathlib.Core.Path.{_≡_}
 use mathlib.Core.Bool.{not}
 use mathlib.Core.List.{List, [], _∷_}
 use Prim.Native.Nat.{ℕ}
 use lib.Dec.{leb, ltb, eqb}
 use lib.ListN.{length}
-use Rattle.refusal.specs.declared.Refusal.the-variants.{Server, Wanted, KeyLength, KeyEntry, Query, StoreLength, Room, AnswerLength, History, Missing}
+use Rattle.refusal.specs.declared.Refusal.the-variants.{Server, Wanted, KeyLength, KeyEntry, Room, AnswerLength, History, Missing}
 use Rattle.refusal.specs.Smallest.{Fault, fault, smallest}
 use Rattle.scheme.specs.Scheme.{Scheme}
 use Rattle.catalogue.specs.declared.Catalogue.{Catalogue}
 use Rattle.catalogue.specs.Catalogue.{catalogueVerdict}
 use Rattle.catalogue.specs.Faults.{unfit}
 use Rattle.server.specs.Answering.{answerVerdict}
+use Rattle.server.specs.Faults.{answerFaults}
 use Rattle.session.specs.declared.Session.{Session}
 use Rattle.session_parts.specs.Marks.{marked, marksGood, allTaken}
 use Rattle.session.specs.Calls.{codeOf, keyOf, queryOf, slotsOf, beginVerdict, issueVerdict, takeVerdict, recoverVerdict}
@@ -73,15 +74,6 @@ module _ (schemeOf : Catalogue → Scheme) where
       ∷ fault Missing (not (allTaken (s .catalogue .servers) (s .taken)))
       ∷ []
 
-  abbrev pub answerFaults : Catalogue → ℕ → ℕ → List ℕ → ℕ → List Fault
-  answerFaults c server stored query room =
-      unfit c
-      ∷ fault Server (leb (c .servers) server)
-      ∷ fault Query (not (schemeOf c .admits server query))
-      ∷ fault StoreLength (not (eqb stored (schemeOf c .sizes .store)))
-      ∷ fault Room (ltb room (schemeOf c .answerLength query))
-      ∷ []
-
   -- the verdict of each call, on every input
   pub record SmallestGiven : Type 0 where
     pub catalogues : (c : Catalogue) → catalogueVerdict c ≡ smallest (unfit c ∷ [])
@@ -90,4 +82,4 @@ module _ (schemeOf : Catalogue → Scheme) where
     pub takes : (s : Session) (server size room : ℕ) → takeVerdict schemeOf s server size room ≡ smallest (takeFaults s server size room)
     pub recovers : (s : Session) (answersRoom room : ℕ) → recoverVerdict schemeOf s answersRoom room ≡ smallest (recoverFaults s answersRoom room)
     pub answers : (c : Catalogue) (server stored : ℕ) (query : List ℕ) (room : ℕ)
-        → answerVerdict schemeOf c server stored query room ≡ smallest (answerFaults c server stored query room)
+        → answerVerdict schemeOf c server stored query room ≡ smallest (answerFaults schemeOf c server stored query room)

@@ -1,27 +1,12 @@
 -- The numbers that each call can give (document 01, 'Numbers a call can give'): only those about its own inputs, for every input.
-use mathlib.Core.Path.{_≡_}
-use mathlib.Core.Bool.{true}
 use mathlib.Core.List.{List, [], _∷_}
 use Prim.Native.Nat.{ℕ}
-use Rattle.refusal.specs.declared.Refusal.{Refusal}
-use Rattle.refusal.specs.declared.Verdict.{Verdict}
-use Rattle.refusal.specs.declared.Verdict.the-variants.{Refused}
-use Rattle.refusal.specs.declared.Outcome.{Outcome}
-use Rattle.refusal.specs.declared.Outcome.the-variants.{Refused as NoValue}
-use Rattle.refusal.specs.Numbers.{numberOf}
+use Rattle.refusal.specs.Within.{Within, ValueWithin}
 use Rattle.scheme.specs.Scheme.{Scheme}
 use Rattle.catalogue.specs.declared.Catalogue.{Catalogue}
 use Rattle.server.specs.Answering.{answering}
 use Rattle.session.specs.declared.Session.{Session}
 use Rattle.session.specs.Calls.{begin, issue, takeAnswer, recover, bound}
-use Rattle.fetches.specs.Right.{has}
-
--- a refusal in it has one of the numbers
-abbrev pub Within : List ℕ → Verdict → Type 0
-Within numbers verdict = (refusal : Refusal) → verdict ≡ Refused refusal → has (numberOf refusal) numbers ≡ true
-
-abbrev pub ValueWithin : List ℕ → Outcome → Type 0
-ValueWithin numbers outcome = (refusal : Refusal) → outcome ≡ NoValue refusal → has (numberOf refusal) numbers ≡ true
 
 pub record CallNumbers (schemeOf : Catalogue → Scheme) : Type 0 where
   pub begins : (c : Catalogue) (wanted : ℕ) (key : List ℕ) → Within (2 ∷ 4 ∷ 5 ∷ 6 ∷ []) (begin schemeOf c wanted key .verdict)

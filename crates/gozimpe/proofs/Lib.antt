@@ -1,2 +1,3 @@
 pub mod Signed
 pub mod Outcomes
+pub mod Numbers

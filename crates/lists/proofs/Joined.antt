@@ -6,7 +6,7 @@ use native.Mathlib.Omega.{arith}
 use mathlib.Core.Path.{_≡_, refl, sym, ap, ap₂, _∙_}
 use mathlib.Core.List.{List, [], _∷_, _++_, map, flatMap, append-assoc, append-nil}
 use lib.ListN.{length, getD, take, length-append, List·getD-append}
-use lib.Seq.{getD-append-add}
+use lib.Seq.{take-suc, getD-append-add}
 use Rattle.lists.specs.Ranges.{range}
 use Rattle.lists.specs.Sums.{sum, All, allNil, allCons}
 use Rattle.lists.proofs.Mapped.{map-append}
@@ -17,6 +17,15 @@ module _ {A B : Type 0} where
   unfolding flatMap
   flatMap-append f [] ys = refl
   flatMap-append f (x ∷ xs) ys = ap (λ l. f x ++ l) (flatMap-append f xs ys) ∙ sym (append-assoc (f x) (flatMap f xs) (flatMap f ys))
+
+  -- with one more at the end
+  pub flatMap-last : (f : A → List B) (xs : List A) (x : A) → flatMap f (xs ++ (x ∷ [])) ≡ flatMap f xs ++ f x
+  unfolding flatMap
+  flatMap-last f xs x = flatMap-append f xs (x ∷ []) ∙ ap (λ l. flatMap f xs ++ l) (append-nil (f x))
+
+  -- over one element more of a list
+  pub flatMap-take : (f : A → List B) (xs : List A) (i : ℕ) (d : A) → i < length xs → flatMap f (take (suc i) xs) ≡ flatMap f (take i xs) ++ f (getD xs i d)
+  flatMap-take f xs i d h = ap (flatMap f) (take-suc xs i d h) ∙ flatMap-last f (take i xs) (getD xs i d)
 
   pub flatMap-all : (f g : A → List B) {xs : List A} → All (λ x. f x ≡ g x) xs → flatMap f xs ≡ flatMap g xs
   unfolding flatMap
@@ -52,8 +61,7 @@ module _ {A B C : Type 0} where
 
 -- over a range by one number more
 pub flatMap-next : {A : Type 0} (g : ℕ → List A) (n : ℕ) → flatMap g (range 0 (suc n)) ≡ flatMap g (range 0 n) ++ g n
-unfolding flatMap
-flatMap-next g n = ap (flatMap g) (range-next n) ∙ flatMap-append g (range 0 n) (n ∷ []) ∙ ap (λ l. flatMap g (range 0 n) ++ l) (append-nil (g n))
+flatMap-next g n = ap (flatMap g) (range-next n) ∙ flatMap-last g (range 0 n) n
 
 -- over two ranges of one length they are equal if they are place by place
 pub joined-equal : {A : Type 0} (f g : ℕ → List A) (from other count : ℕ) → ((i : ℕ) → i < count → f (i + from) ≡ g (i + other))

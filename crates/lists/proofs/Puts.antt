@@ -3,7 +3,7 @@
 use mathlib.Core.Path.{_≡_, refl, sym, ap, ap₂, _∙_}
 use mathlib.Core.List.{List, [], _∷_, _++_, append-assoc, append-nil}
 use Prim.Native.Nat.{ℕ, zero, suc, _+_, _-_, _≤_, _<_}
-use native.Mathlib.Nat.{zero-add, sub-zero, zero-sub, suc-sub-suc, add-sub-cancel-left, not-suc-le-zero, le-of-suc-le-suc, le-of-eq}
+use native.Mathlib.Nat.{zero-add, add-sub-cancel-left, not-suc-le-zero, le-of-suc-le-suc, le-of-eq}
 use native.Mathlib.Numerals.{add-one}
 use native.Mathlib.Omega.{arith}
 use lib.ListN.{length, take, drop, set, getD, replicate, length-append, length-drop, drop-of-length-le, take-append-drop}
@@ -11,6 +11,7 @@ use lib.Seq.{length-take-le, take-at, drop-at, drop-drop, drop-cons, take-suc, t
 use Rattle.lists.specs.Padded.{padded}
 use Rattle.lists.specs.Parts.{put}
 use Rattle.lists.proofs.ReadBack.{cut-put}
+use Rattle.lists.proofs.Replicate.{drop-replicate}
 
 pub put-length : (at : ℕ) (bytes buffer : List ℕ) → at + length bytes ≤ length buffer → length (put at bytes buffer) ≡ length buffer
 put-length at bytes buffer h =
@@ -104,14 +105,9 @@ rest-written at bytes buffer =
     ap (λ (l : List ℕ). take at buffer ++ (put 0 bytes (drop at buffer) ++ l)) (drop-of-length-le (drop at buffer) (le-of-eq (length-drop at buffer)))
     ∙ ap (λ (l : List ℕ). take at buffer ++ l) (append-nil (put 0 bytes (drop at buffer)))
 
-drop-zeros : (j n : ℕ) → drop j (replicate {A = ℕ} n 0) ≡ replicate (n - j) 0
-drop-zeros zero n = rw (sub-zero n)
-drop-zeros (suc j) zero = rw (zero-sub (suc j))
-drop-zeros (suc j) (suc n) = drop-zeros j n ∙ rw (suc-sub-suc n j)
-
 -- written over zeros
 pub put-padded : (bytes : List ℕ) (size : ℕ) → put 0 bytes (replicate size 0) ≡ padded size bytes
-put-padded bytes size = ap (λ (l : List ℕ). bytes ++ l) (drop-zeros (length bytes) size)
+put-padded bytes size = ap (λ (l : List ℕ). bytes ++ l) (drop-replicate (length bytes) size 0)
 
 pub put-two : (front back : List ℕ) (at size : ℕ) → length front ≡ at → put at back (put 0 front (replicate size 0)) ≡ padded size (front ++ back)
 put-two front back at size e =

@@ -1,4 +1,3 @@
-pub mod Joined
 pub mod Spaced
 pub mod Reading
 pub mod Scanning

@@ -19,7 +19,7 @@ use Rattle.scheme.specs.Scheme.{Scheme}
 use Rattle.catalogue.specs.declared.Catalogue.{Catalogue}
 use Rattle.catalogue.specs.Catalogue.{catalogueVerdict, Admitted}
 use Rattle.session.specs.Calls.{beginVerdict}
-use Rattle.printing.specs.Input.{asked}
+use Rattle.printing.specs.Input.{Asked, asked}
 use Rattle.printing.specs.Output.{refusalLine, askedVerdict, queryLines, linesBy, answerTo}
 use Rattle.printing.specs.Steps.{checkVerdict, valueBy}
 
@@ -42,6 +42,11 @@ value-given (Refused refusal) n value e = let z : _≡_ {A = ℕ} 0 1 = cc in ab
 pub value-refused : (v : Verdict) (n : ℕ) (refusal : Refusal) → valueBy v n ≡ NoValue refusal → v ≡ Refused refusal
 value-refused Accepted n refusal e = let z : _≡_ {A = ℕ} 0 1 = cc in absurd (let w : ⊥ = omega arith in w)
 value-refused (Refused other) n refusal e = cc
+
+-- the answer goes by its verdict
+pub answer-by : (schemeOf : Catalogue → Scheme) (a : Asked) (v : Verdict) → askedVerdict schemeOf a ≡ v → answerTo schemeOf a ≡ linesBy schemeOf v a
+unfolding answerTo
+answer-by schemeOf a v e = ap (λ (w : Verdict). linesBy schemeOf w a) e
 
 module _ (schemeOf : Catalogue → Scheme) (c : Catalogue) (wanted : ℕ) where
   -- what accepted checks say
@@ -66,27 +71,23 @@ module _ (schemeOf : Catalogue → Scheme) (c : Catalogue) (wanted : ℕ) where
       )
 
   module _ (key : List ℕ) where
-    by-verdict : (v : Verdict) → askedVerdict schemeOf (asked c wanted key) ≡ v → answerTo schemeOf (asked c wanted key) ≡ linesBy schemeOf v (asked c wanted key)
-    unfolding answerTo
-    by-verdict v e = ap (λ (w : Verdict). linesBy schemeOf w (asked c wanted key)) e
-
     -- refused by the first checks
     pub answer-refused : (refusal : Refusal) → checkVerdict schemeOf c wanted (length key) (allBelow 256 key) ≡ Refused refusal
         → answerTo schemeOf (asked c wanted key) ≡ refusalLine refusal
     unfolding checkVerdict askedVerdict beginVerdict
     answer-refused refusal e =
-        by-verdict (Refused refusal)
+        answer-by schemeOf (asked c wanted key) (Refused refusal)
         (checks-first (catalogueVerdict c) (leb (c .messages) wanted) (not (eqb (length key) (schemeOf c .sizes .key))) (not (schemeOf c .keyGood key)) (allBelow 256 key) refusal e)
 
     -- refused for the key's entries
     pub answer-bad-key : Checked (length key) → schemeOf c .keyGood key ≡ false → answerTo schemeOf (asked c wanted key) ≡ refusalLine KeyEntry
     unfolding askedVerdict beginVerdict
     answer-bad-key k e =
-        by-verdict (Refused KeyEntry)
+        answer-by schemeOf (asked c wanted key) (Refused KeyEntry)
         (rw (k .admitted, lt-leb (c .messages) wanted (k .inside), eq-eqb (length key) (schemeOf c .sizes .key) (k .long), e))
 
     -- the queries
     pub answer-queries : beginVerdict schemeOf c wanted key ≡ Accepted → allBelow 256 key ≡ true
         → answerTo schemeOf (asked c wanted key) ≡ queryLines schemeOf (asked c wanted key)
     unfolding askedVerdict
-    answer-queries e b = by-verdict Accepted (rw (e, b))
+    answer-queries e b = answer-by schemeOf (asked c wanted key) Accepted (rw (e, b))

@@ -8,3 +8,4 @@ pub mod Issued
 pub mod RoundTrip
 pub mod InForm
 pub mod Faults
+pub mod Numbers

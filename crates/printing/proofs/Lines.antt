@@ -1,13 +1,14 @@
 -- The output's lines, server by server.
-use mathlib.Core.Path.{_≡_, refl}
+use mathlib.Core.Path.{_≡_, refl, ap, _∙_}
 use mathlib.Core.List.{List, [], _++_, flatMap}
 use Prim.Native.Nat.{ℕ, _+_}
+use native.Mathlib.Numerals.{add-one}
 use Rattle.lists.specs.Ranges.{range}
+use Rattle.lists.proofs.Joined.{flatMap-next}
 use Rattle.scheme.specs.Scheme.{Scheme}
 use Rattle.catalogue.specs.declared.Catalogue.{Catalogue}
 use Rattle.printing.specs.Input.{Asked}
 use Rattle.printing.specs.Output.{queryLine, askedQuery, queryLines}
-use Rattle.number_lists.proofs.Joined.{joined-range}
 
 module _ (schemeOf : Catalogue → Scheme) (a : Asked) where
   -- those of the first servers
@@ -20,7 +21,9 @@ module _ (schemeOf : Catalogue → Scheme) (a : Asked) where
 
   pub lines-more : (count : ℕ) → linesTo (count + 1) ≡ linesTo count ++ queryLine count (askedQuery schemeOf a count)
   unfolding linesTo
-  lines-more count = joined-range (λ server. queryLine server (askedQuery schemeOf a server)) count
+  lines-more count =
+      let line : ℕ → List ℕ = λ server. queryLine server (askedQuery schemeOf a server) in
+      ap (λ (n : ℕ). flatMap line (range 0 n)) (add-one count) ∙ flatMap-next line count
 
   pub lines-all : linesTo (a .catalogue .servers) ≡ queryLines schemeOf a
   unfolding linesTo queryLines

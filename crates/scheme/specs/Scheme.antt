@@ -40,3 +40,7 @@ honestAnswers scheme servers store wanted key = map (λ server. scheme .answer s
 unfoldable pub answersIn : Scheme → ℕ → ℕ → List ℕ → List ℕ → List (List ℕ)
 answersIn scheme servers wanted key buffer =
     map (λ server. cut (server * scheme .sizes .slot) (scheme .answerLength (scheme .query wanted server key)) buffer) (range 0 servers)
+
+-- the message that they give
+abbrev pub recoverIn : Scheme → ℕ → ℕ → List ℕ → List ℕ → List ℕ
+recoverIn scheme servers wanted key buffer = scheme .recover wanted key (answersIn scheme servers wanted key buffer)

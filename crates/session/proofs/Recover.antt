@@ -6,7 +6,7 @@ use mathlib.Core.List.{List}
 use Prim.Native.Nat.{ℕ, _≤_}
 use lib.Dec.{leb, ltb}
 use lib.ListN.{length}
-use borrow.Author.Tests.{leb-false, lt-leb, ltb-false, le-ltb, not-false}
+use borrow.Author.Tests.{leb-false, lt-leb, ltb-false, not-false}
 use Rattle.lists.specs.Parts.{put}
 use Rattle.refusal.specs.declared.Refusal.{Refusal}
 use Rattle.refusal.specs.declared.Refusal.the-variants.{Room, Missing}
@@ -19,7 +19,7 @@ use Rattle.catalogue.specs.declared.Catalogue.{Catalogue}
 use Rattle.catalogue.specs.Catalogue.{catalogueVerdict}
 use Rattle.session.specs.declared.Session.{Session}
 use Rattle.session_parts.specs.Marks.{marksGood, allTaken}
-use Rattle.session.specs.Calls.{Out, Did, out, codeOf, keyOf, slotsOf, recovered, recoverVerdict, recoverBy, recover}
+use Rattle.session.specs.Calls.{Out, Did, out, codeOf, keyOf, slotsOf, recoveredMessage, recoverVerdict, recoverBy, recover}
 use Rattle.session.proofs.Sound.{Sound}
 
 module _ (schemeOf : Catalogue → Scheme) (s : Session) where
@@ -60,15 +60,6 @@ module _ (schemeOf : Catalogue → Scheme) (s : Session) where
   unfolding recoverVerdict
   recover-verdict sound answersRoom room = rw (sound .admitted, lt-leb (s .catalogue .messages) (s .wanted) (sound .inside), sound .good, sound .marks)
 
-  pub recover-accepted : (answersRoom room : ℕ) → Recovers answersRoom room → recoverVerdict schemeOf s answersRoom room ≡ Accepted
-  recover-accepted answersRoom room r =
-      rw (
-        recover-verdict (r .sound) answersRoom room,
-        le-ltb answersRoom (slotsOf schemeOf (s .catalogue)) (r .slots-fit),
-        le-ltb room (codeOf schemeOf s .sizes .message) (r .roomy),
-        r .all-taken,
-      )
-
   module _ (answers buffer : List ℕ) where
     abbrev verdict : Verdict
     verdict = recoverVerdict schemeOf s (length answers) (length buffer)
@@ -96,7 +87,7 @@ module _ (schemeOf : Catalogue → Scheme) (s : Session) where
     recover-refused v refusal e p = rw (recover-by v e, p) (record { handed = refl; buffer = refl })
 
     pub recover-done : (v : Verdict) (after : List ℕ) → v ≡ verdict → v ≡ Accepted
-        → after ≡ put 0 (recovered schemeOf s answers) buffer
+        → after ≡ put 0 (recoveredMessage schemeOf s answers) buffer
         → Did did (record { verdict = Accepted; session = s }) after
     recover-done v after e p a = rw (recover-by v e, p) (record { handed = refl; buffer = a })
 

@@ -18,7 +18,7 @@ use Rattle.refusal.specs.declared.Verdict.the-variants.{Accepted, Refused}
 use Rattle.scheme.specs.Scheme.{Scheme, answersIn}
 use Rattle.catalogue.specs.declared.Catalogue.{Catalogue}
 use Rattle.session.specs.declared.Session.{Session}
-use Rattle.session.specs.Calls.{codeOf, keyOf, queryOf, takeVerdict, takeBy, takeAnswer, recovered}
+use Rattle.session.specs.Calls.{codeOf, keyOf, queryOf, takeVerdict, takeBy, takeAnswer, recoveredMessage}
 use Rattle.session.proofs.Take.{Takes, take-by}
 
 module _ (schemeOf : Catalogue → Scheme) (s : Session) where
@@ -61,7 +61,7 @@ module _ (schemeOf : Catalogue → Scheme) (s : Session) where
 
   pub recover-reads : (answers others : List ℕ)
       → ((server : ℕ) → server < s .catalogue .servers → cut (server * slot) (size server) answers ≡ cut (server * slot) (size server) others)
-      → recovered schemeOf s answers ≡ recovered schemeOf s others
+      → recoveredMessage schemeOf s answers ≡ recoveredMessage schemeOf s others
   unfolding answersIn
   recover-reads answers others same =
       ap (codeOf schemeOf s .recover (s .wanted) (keyOf schemeOf s))

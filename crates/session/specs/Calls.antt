@@ -13,7 +13,7 @@ use Rattle.refusal.specs.declared.Verdict.the-variants.{Accepted, Refused}
 use Rattle.refusal.specs.declared.Outcome.{Outcome}
 use Rattle.refusal.specs.declared.Outcome.the-variants.{Value, Refused as NoValue}
 use Rattle.refusal.specs.Chain.{refuseIf, andThen}
-use Rattle.scheme.specs.Scheme.{Scheme, answersIn}
+use Rattle.scheme.specs.Scheme.{Scheme, recoverIn}
 use Rattle.catalogue.specs.declared.Catalogue.{Catalogue}
 use Rattle.catalogue.specs.Catalogue.{catalogueVerdict}
 use Rattle.session.specs.declared.Session.{Session}
@@ -125,11 +125,11 @@ module _ (schemeOf : Catalogue → Scheme) where
       Accepted)))))
 
   -- the message that the answers in a buffer give
-  abbrev pub recovered : Session → List ℕ → List ℕ
-  recovered s answers = codeOf s .recover (s .wanted) (keyOf s) (answersIn (codeOf s) (s .catalogue .servers) (s .wanted) (keyOf s) answers)
+  abbrev pub recoveredMessage : Session → List ℕ → List ℕ
+  recoveredMessage s answers = recoverIn (codeOf s) (s .catalogue .servers) (s .wanted) (keyOf s) answers
 
   abbrev pub recoverBy : Session → List ℕ → List ℕ → Verdict → Out
-  recoverBy s answers buffer Accepted = out Accepted s (put 0 (recovered s answers) buffer)
+  recoverBy s answers buffer Accepted = out Accepted s (put 0 (recoveredMessage s answers) buffer)
   recoverBy s answers buffer (Refused refusal) = out (Refused refusal) s buffer
 
   unfoldable pub recover : Session → List ℕ → List ℕ → Out

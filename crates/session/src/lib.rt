@@ -8,7 +8,7 @@ ghost use Rattle.lists.specs.Parts.{put};
 ghost use Rattle.catalogue.specs.Catalogue.{Admitted};
 ghost use Rattle.codes.specs.Codes.{schemeOf};
 ghost use Rattle.session.specs.Fields.{zeroSession, newSession, markIssued, markTaken};
-ghost use Rattle.session.specs.Calls.{Did, codeOf, keyOf, slotsOf, recovered, begin as begin·, issue as issue·, takeAnswer, recover as recover·, bound as bound·};
+ghost use Rattle.session.specs.Calls.{Did, codeOf, keyOf, slotsOf, recoveredMessage, begin as begin·, issue as issue·, takeAnswer, recover as recover·, bound as bound·};
 use catalogue::Catalogue;
 use catalogue::Code;
 use refusal::Outcome;
@@ -58,7 +58,7 @@ fn write_message(s: Session, answers: &[u8], message: &mut [u8])
     requires { ⌜ codeOf schemeOf s .keyGood (keyOf schemeOf s) ≡ true ⌝ }
     requires { ⌜ slotsOf schemeOf (s .catalogue) ≤ length (now answers) ⌝ }
     requires { ⌜ codeOf schemeOf s .sizes .message ≤ length (now message) ⌝ }
-    ensures { λ _. ⌜ now (message .exit) ≡ put 0 (recovered schemeOf s (now (answers .entry))) (now (message .entry)) ⌝ }
+    ensures { λ _. ⌜ now (message .exit) ≡ put 0 (recoveredMessage schemeOf s (now (answers .entry))) (now (message .entry)) ⌝ }
 {
     let sizes = verdicts::sizes_of(s.catalogue);
     let size = sizes.key;

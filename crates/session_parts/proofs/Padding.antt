@@ -15,4 +15,4 @@ unfolding paddedKey
 padded-copy key n e h =
     ap₂ (λ (a b : List ℕ). a ++ b)
     (take-all n key (omega arith))
-    (drop-replicate n keyPlaces 0 (omega arith) ∙ ap (λ (k : ℕ). replicate {A = ℕ} (keyPlaces - k) 0) e)
+    (drop-replicate n keyPlaces 0 ∙ ap (λ (k : ℕ). replicate {A = ℕ} (keyPlaces - k) 0) e)

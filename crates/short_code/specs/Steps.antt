@@ -8,7 +8,6 @@ use Rattle.lists.specs.Below.{allBelow}
 use Rattle.lists.specs.Parts.{cut}
 use Rattle.symbol.specs.Sum.{totalFrom}
 use Rattle.symbol.specs.Xor.{xor}
-use Rattle.scheme.specs.Scheme.{Scheme, answersIn}
 use Rattle.short_code.specs.Short.{orZeros}
 
 -- A row that an answer can be made to, whichever server admits it: K digits below N
@@ -30,7 +29,3 @@ begunBy begun (suc d) = true
 -- the symbol that digit d names, from the slots of the answer buffer; `empty`: server T's answer is
 unfoldable pub fromSlots : ℕ → ℕ → ℕ → Bool → List ℕ → ℕ → List ℕ
 fromSlots N S T empty answers d = xor .minus (cut ((d + T) % N * S) S answers) (orZeros S (cut (T * S) (cond empty 0 S) answers))
-
--- what a scheme recovers from the slots of an answer buffer
-abbrev pub recoverIn : Scheme → ℕ → ℕ → List ℕ → List ℕ → List ℕ
-recoverIn scheme servers wanted key buffer = scheme .recover wanted key (answersIn scheme servers wanted key buffer)

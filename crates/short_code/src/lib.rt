@@ -11,9 +11,9 @@ ghost use Rattle.lists.specs.Inserts.{insertAt};
 ghost use Rattle.parameters.specs.Bounds.{shortFits};
 ghost use Rattle.parameters.specs.Measures.{shortSizes};
 ghost use Rattle.symbol.specs.Xor.{xor};
-ghost use Rattle.scheme.specs.Scheme.{Valid};
+ghost use Rattle.scheme.specs.Scheme.{Valid, recoverIn};
 ghost use Rattle.short_code.specs.Short.{digitSum, balancing, named, shortQuery, shortAdmits, shortAnswerLength, shortAnswer, shortScheme};
-ghost use Rattle.short_code.specs.Steps.{Row, gathered, begunBy, fromSlots, recoverIn};
+ghost use Rattle.short_code.specs.Steps.{Row, gathered, begunBy, fromSlots};
 
 // Whether every digit is below n.
 fn all_below(n: usize, digits: &[u8]) -> bool

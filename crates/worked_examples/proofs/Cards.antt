@@ -17,7 +17,7 @@ use Rattle.catalogue_text.specs.Parsing.{codeLine, fourLines}
 use Rattle.short_code.specs.Short.{digitSum, shortQuery, shortAdmits, shortAnswerLength, named, shortAnswer, orZeros, recovered, shortRecover}
 use Rattle.even_places.specs.Sets.{sets}
 use Rattle.even_places.specs.Rule.{queryCells, layout}
-use Rattle.even_scheme.specs.Even.{permutation, numberAt as entryAt, evenKeyGood, evenQuery}
+use Rattle.even_scheme.specs.Even.{permutation, entryAt, evenKeyGood, evenQuery}
 use Rattle.codes.specs.Codes.{schemeOf}
 use Rattle.server.specs.Answering.{answerVerdict, answering}
 use Rattle.session.specs.Calls.{beginVerdict}

@@ -3,7 +3,7 @@ use mathlib.Core.Path.{sym, ap, _∙_}
 use lib.ListN.{take}
 use Rattle.lists.specs.Parts.{put}
 use Rattle.parameters.specs.declared.Sizes.{Sizes}
-use Rattle.scheme.specs.Scheme.{answersIn}
+use Rattle.scheme.specs.Scheme.{recoverIn}
 use Rattle.codes.specs.Codes.{schemeOf}
 use Rattle.session.specs.Calls.{codeOf}
 use Rattle.session.proofs.Places.{key-places}
@@ -54,8 +54,7 @@ returns c =
     let s = args .s in
     let code = codeOf schemeOf s in
     written .recover .ensures
-    ∙ ap (λ (sizes : Sizes). put 0 (code .recover (s .wanted) (take (sizes .key) (s .key))
-    (answersIn code (s .catalogue .servers) (s .wanted) (take (sizes .key) (s .key)) (args .answers .now))) (args .message .now)) (sized .sizes-of .ensures)
+    ∙ ap (λ (sizes : Sizes). put 0 (recoverIn code (s .catalogue .servers) (s .wanted) (take (sizes .key) (s .key)) (args .answers .now)) (args .message .now)) (sized .sizes-of .ensures)
 
 pub write-message-spec : {M : Type 1} → statement M
 write-message-spec =
