@@ -1,23 +1,14 @@
 // The conformance program: reads calls, one to a line, makes them, and prints what each gave. The second implementation (docs/src/second.rs) writes
 // the calls, `stdin`, and what they must give, `stdout`. A line is a letter and up to four numbers, a comment, or a catalogue's text.
-use crate::input::Line;
-use crate::state::State;
 use libc::STDIN_FILENO;
-
-// Keys and stores, drawn from a number.
-mod draw;
-// Whole fetches.
-mod fetch;
-// Sessions with a field set.
-mod fields;
-// The lines of the input.
-mod input;
-// What is printed.
-mod show;
-// Single calls.
-mod single;
-// What stands between two calls.
-mod state;
+use trials::draw;
+use trials::fields;
+use trials::input;
+use trials::input::Line;
+use trials::show;
+use trials::single;
+use trials::state;
+use trials::state::State;
 
 // A comment, which is printed, or a catalogue's text.
 fn on_part(s: State, line: Line, text: &[u8]) -> State {
@@ -149,7 +140,7 @@ fn on_fetch(
 ) {
     let length = draw::at_most(s.key, key.len());
     let stored = draw::at_most(s.store, store.len());
-    fetch::whole(
+    trial_fetches::whole(
         s,
         line.a,
         &key[..length],

@@ -1,7 +1,7 @@
 -- `main` is safe: it ends after as many turns as the input has bytes at most.
 use Prim.Native.Nat.{_-_, _≤_}
 use native.Mathlib.Omega.{arith}
-use Rattle.conformance.proofs.Taken.{taken}
+use Rattle.trials.proofs.Taken.{taken}
 use borrow.Author.Needs.{needs}
 use Rattle.conformance.proofs.main.Statement.{statement}
 use Rattle.conformance.proofs.main.Tie as tie

@@ -1,0 +1,155 @@
+// Whole fetches: begin, then for each server issue, answer and take, then recover, all in buffers of exactly the length that they need.
+use catalogue::Measured;
+use parameters::Sizes;
+use refusal::Outcome;
+use session::Session;
+use trials::draw;
+use trials::show;
+use trials::state::State;
+
+// A session, and what its exchanges with servers came to so far: the sums of the queries and of the answers, and the answers' bytes.
+pub struct Exchanged {
+    pub session: Session,
+    pub queries: u64,
+    pub answers: u64,
+    pub received: usize,
+}
+
+// The value that a call gave; refused, 0.
+fn value(o: Outcome) -> usize {
+    match o {
+        Outcome::Value(n) => n,
+        Outcome::Refused(_) => 0,
+    }
+}
+
+// The sum of two numbers below 2^24; else 0.
+fn plus(a: usize, b: usize) -> usize {
+    if a < 16777216 {
+        if b < 16777216 {
+            return a + b;
+        }
+    }
+    0
+}
+
+// One exchange: the server's query is issued, answered from the store, and the answer taken.
+fn exchange(
+    so_far: Exchanged,
+    n: usize,
+    store: &[u8],
+    query: &mut [u8],
+    answer: &mut [u8],
+    answers: &mut [u8],
+) -> Exchanged {
+    let session = so_far.session;
+    let issued = session.issue(n, query);
+    let given = server::answer(session.catalogue, n, store, query, answer);
+    let got = draw::at_most(value(given), answer.len());
+    let session = issued.session;
+    let taken = session.take(n, &answer[..got], answers);
+    let session = taken.session;
+    Exchanged {
+        session: session,
+        queries: show::sum(so_far.queries, query),
+        answers: show::sum(so_far.answers, &answer[..got]),
+        received: plus(so_far.received, got),
+    }
+}
+
+// The exchanges with all servers, in ascending order.
+fn exchanges(
+    begun: Session,
+    store: &[u8],
+    query: &mut [u8],
+    answer: &mut [u8],
+    answers: &mut [u8],
+) -> Exchanged {
+    let mut so_far = Exchanged {
+        session: begun,
+        queries: 0,
+        answers: 0,
+        received: 0,
+    };
+    let c = begun.catalogue;
+    let mut n: usize = 0;
+    while n < c.servers {
+        so_far = exchange(so_far, n, store, query, answer, answers);
+        n += 1;
+    }
+    so_far
+}
+
+// Recovers the message, and prints the verdict and the message.
+fn recovered(s: Session, answers: &[u8], message: &mut [u8]) {
+    draw::fill(204, message);
+    let handed = s.recover(answers, message);
+    let verdict = handed.verdict;
+    show::verdict(verdict);
+    show::bytes(message);
+}
+
+// The exchanges and the recovery, after begin: the sums of queries and answers, the bytes received, recover's verdict and the message.
+fn rest(
+    begun: Session,
+    store: &[u8],
+    query: &mut [u8],
+    answer: &mut [u8],
+    answers: &mut [u8],
+    message: &mut [u8],
+) {
+    let done = exchanges(begun, store, query, answer, answers);
+    show::total(done.queries);
+    show::total(done.answers);
+    show::number(done.received);
+    let session = done.session;
+    recovered(session, answers, message);
+}
+
+// The same in buffers of exactly the lengths that the catalogue calls for.
+fn exact(
+    begun: Session,
+    sizes: Sizes,
+    store: &[u8],
+    query: &mut [u8],
+    answer: &mut [u8],
+    answers: &mut [u8],
+    message: &mut [u8],
+) {
+    let asked = draw::at_most(sizes.query, query.len());
+    let slot = draw::at_most(sizes.slot, answer.len());
+    let slots = draw::at_most(value(session::bound(begun.catalogue)), answers.len());
+    let room = draw::at_most(sizes.message, message.len());
+    rest(
+        begun,
+        store,
+        &mut query[..asked],
+        &mut answer[..slot],
+        &mut answers[..slots],
+        &mut message[..room],
+    );
+}
+
+// x WANTED: a whole fetch with the lent key and store. Refused by begin, it ends there.
+pub fn whole(
+    s: State,
+    wanted: usize,
+    key: &[u8],
+    store: &[u8],
+    query: &mut [u8],
+    answer: &mut [u8],
+    answers: &mut [u8],
+    message: &mut [u8],
+) {
+    show::letter(b'x');
+    let begun = Session::blank().begin(s.catalogue, wanted, key);
+    let verdict = begun.verdict;
+    show::verdict(verdict);
+    let session = begun.session;
+    let Measured::Of(sizes) = catalogue::sizes(session.catalogue) else {
+        show::end();
+        return;
+    };
+    exact(session, sizes, store, query, answer, answers, message);
+    show::end();
+}
