@@ -427,20 +427,11 @@ fn print_requests(input: &[u8]) -> Result<String, u8> {
     let key = key.strip_suffix('\n').ok_or(1)?.strip_prefix("key=").ok_or(1)?;
     let numbers: Option<Vec<usize>> = if key.is_empty() { Some(Vec::new()) } else { key.split(' ').map(number).collect() };
     let numbers = numbers.ok_or(1)?;
-    if !admitted(c) {
-        return Err(2);
-    }
-    if wanted >= c.k {
-        return Err(4);
-    }
-    if numbers.len() != key_length(c) {
-        return Err(5);
-    }
+    let key: Bytes = numbers.iter().map(|&x| x as u8).collect();
+    begin(c, wanted, &key)?;
     if numbers.iter().any(|&x| x > 255) {
         return Err(6);
     }
-    let key: Bytes = numbers.iter().map(|&x| x as u8).collect();
-    begin(c, wanted, &key)?;
     let mut out = String::new();
     for mirror in 0..c.n {
         let bytes: Vec<String> = request(c, wanted, mirror, &key).iter().map(|b| b.to_string()).collect();
