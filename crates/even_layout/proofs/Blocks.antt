@@ -11,8 +11,7 @@ use Rattle.lists.specs.Ranges.{range}
 use Rattle.lists.specs.Sums.{bit, sum}
 use Rattle.lists.proofs.Mapped.{mapped-at}
 use Rattle.lists.proofs.Sums.{sum-one, sum-ext, sum-flatMap}
-use Rattle.even_places.specs.Sets.{sets, byteOf, allSets}
-use Rattle.even_places.specs.Rule.{rowCount}
+use Rattle.even_places.specs.Rule.{byteOf, sets, allSets, rowCount}
 use Rattle.even_places.proofs.Counts.{row-count-product}
 use Rattle.even_layout.specs.Layout.{listedSets, listedRows}
 

@@ -7,7 +7,7 @@ use native.Mathlib.Numerals.{add-one}
 use native.Mathlib.Omega.{arith}
 use borrow.Author.Tests.{eq-eqb, ne-eqb}
 use lib.ListN.{replicate}
-use Rattle.even_places.specs.Sets.{members}
+use Rattle.even_places.specs.Rule.{members}
 use Rattle.even_layout.specs.Layout.{setIn}
 
 -- the members from message p on, where `rest` is what is left of the set's byte

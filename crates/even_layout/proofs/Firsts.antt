@@ -18,8 +18,7 @@ use Rattle.lists.proofs.Bits.{bit-of}
 use Rattle.lists.proofs.Each.{All-both, All-imp}
 use Rattle.lists.proofs.Sums.{sum-none}
 use Rattle.lists.proofs.Mapped.{mapped-length, mapped-at}
-use Rattle.even_places.specs.Sets.{onesIn, byteOf, allSets, alike}
-use Rattle.even_places.specs.Rule.{layout, firstRow}
+use Rattle.even_places.specs.Rule.{byteOf, onesIn, allSets, layout, alike, firstRow}
 use Rattle.even_places.proofs.SetLaws.{alike-eq, alike-self}
 use Rattle.even_places.proofs.Rows.{below}
 use Rattle.even_places.proofs.Bytes.{byte-ones, byte-below}

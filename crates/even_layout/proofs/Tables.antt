@@ -13,8 +13,7 @@ use lib.Seq.{drop-cons}
 use Rattle.lists.specs.Sums.{bit}
 use Rattle.lists.proofs.Each.{All-get}
 use Rattle.lists.proofs.Joined.{flatMap-flatMap}
-use Rattle.even_places.specs.Sets.{onesIn, members, byteOf, allSets}
-use Rattle.even_places.specs.Rule.{positions}
+use Rattle.even_places.specs.Rule.{byteOf, onesIn, members, allSets, positions}
 use Rattle.even_places.proofs.AllSets.{IsSet, all-sets, ones-most, layout-by-set}
 use Rattle.even_places.proofs.Positions.{positions-length}
 use Rattle.even_places.proofs.Bytes.{byte-ones, byte-below}

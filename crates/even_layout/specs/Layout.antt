@@ -5,8 +5,7 @@ use mathlib.Core.List.{List, [], _∷_, _++_, map, flatMap}
 use lib.Dec.{eqb, ltb}
 use Rattle.lists.specs.Parts.{cut}
 use Rattle.lists.specs.Ranges.{range}
-use Rattle.even_places.specs.Sets.{onesIn, byteOf, allSets}
-use Rattle.even_places.specs.Rule.{layout, firstRow}
+use Rattle.even_places.specs.Rule.{byteOf, onesIn, allSets, layout, firstRow}
 
 -- what the layout needs of the bounds on N and K
 pub record LayoutBounds (N K : ℕ) : Type 0 where

@@ -8,8 +8,7 @@ ghost use lib.ListN.{length, getD, replicate};
 ghost use lib.Count.{ones};
 ghost use Rattle.lists.specs.Parts.{put};
 ghost use Rattle.lists.specs.Padded.{padded};
-ghost use Rattle.even_places.specs.Sets.{byteOf, members, allSets};
-ghost use Rattle.even_places.specs.Rule.{others, «positions»};
+ghost use Rattle.even_places.specs.Rule.{byteOf, members, others, allSets, «positions»};
 ghost use Rattle.even_layout.specs.Layout.{LayoutBounds, setIn, listedRows, firstRows};
 
 // The sets of an even query in order, for each number of messages up to 8: those of k messages stand from 2^k on, and the empty one after them.

@@ -16,10 +16,9 @@ use Rattle.lists.proofs.Distinct.{times, range-times}
 use Rattle.lists.proofs.Each.{All-imp, All-every, All-flatMap, All-replicate}
 use Rattle.lists.proofs.Joined.{flatMap-flatMap, flatMap-all}
 use Rattle.lists.proofs.Sums.{sum-flatMap, sum-ext, sum-all, sum-zero}
-use Rattle.even_places.specs.Sets.{onesIn, sets, allSets, alike}
-use Rattle.even_places.specs.Rule.{layout}
+use Rattle.even_places.specs.Rule.{onesIn, sets, allSets, layout, alike}
 use Rattle.even_places.proofs.SetLaws.{alike-eq, alike-one}
-use Rattle.even_places.proofs.Counts.{sets-fit}
+use Rattle.even_places.proofs.BlockRows.{sets-fit}
 
 -- a set of K messages that is not empty
 pub record IsSet (K : ℕ) (A : List Bool) : Type 0 where

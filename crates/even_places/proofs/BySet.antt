@@ -10,8 +10,7 @@ use lib.ListN.{length}
 use Rattle.lists.specs.Sums.{bit, keep, sum, All}
 use Rattle.lists.proofs.Sums.{sum-mul, sum-ext, sum-all, sum-zero, sum-flatMap, sum-keep, sum-swap}
 use Rattle.lists.proofs.Each.{All-imp}
-use Rattle.even_places.specs.Sets.{sets}
-use Rattle.even_places.specs.Rule.{Row, isSome, same, bySet, ofSet}
+use Rattle.even_places.specs.Rule.{sets, Row, isSome, same, ofSet, bySet}
 use Rattle.even_places.proofs.Choose.{sets-none, sets-some}
 use Rattle.even_places.proofs.Rows.{somes, Fits}
 

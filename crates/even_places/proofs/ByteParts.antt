@@ -8,7 +8,7 @@ use mathlib.Core.Bool.{Bool, true, false, false≢true}
 use lib.ListN.{length, take, drop, set}
 use lib.Count.{ones as count}
 use Rattle.lists.specs.Sums.{bit}
-use Rattle.even_places.specs.Sets.{has, onesIn, byteOf}
+use Rattle.even_places.specs.Rule.{has, byteOf, onesIn}
 use Rattle.even_places.proofs.Bytes.{byte-ones, byte-below}
 
 byte-split : (A : List Bool) (p : ℕ) → byteOf A ≡ byteOf (take p A) + 2 ^ p * byteOf (drop p A)

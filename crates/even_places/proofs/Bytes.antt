@@ -12,8 +12,8 @@ use lib.Count.{ones-step, ones}
 use Rattle.lists.specs.Sums.{bit, sum, All}
 use Rattle.lists.proofs.Each.{All-imp}
 use Rattle.lists.proofs.Bits.{bit-small}
-use Rattle.even_places.specs.Sets.{has, onesIn, byteOf, sets}
-use Rattle.even_places.proofs.Counts.{sets-fit}
+use Rattle.even_places.specs.Rule.{has, byteOf, onesIn, sets}
+use Rattle.even_places.proofs.BlockRows.{sets-fit}
 
 pub byte-ones : (A : List Bool) → ones (byteOf A) ≡ onesIn A
 unfolding byteOf onesIn sum ones

@@ -10,7 +10,7 @@ use mathlib.Core.Bool.{Bool, true, false, not}
 use Rattle.lists.specs.Sums.{bit, sum}
 use Rattle.lists.specs.Ranges.{range}
 use Rattle.lists.proofs.Sums.{sum-append, sum-map, sum-add, sum-mul, sum-ext, sum-zero, sum-first, sum-next}
-use Rattle.even_places.specs.Sets.{has, sets}
+use Rattle.even_places.specs.Rule.{has, sets}
 
 -- no set has more messages than there are
 sets-over : (K b : ℕ) → K < b → sets K b ≡ []

@@ -14,14 +14,14 @@ use Rattle.lists.specs.Ranges.{range}
 use Rattle.lists.proofs.Keep.{keep-append, keep-nothing}
 use Rattle.lists.proofs.Each.{All-imp, All-replicate}
 use Rattle.lists.proofs.Sums.{sum-mul, sum-ext, sum-keep}
-use Rattle.even_places.specs.Sets.{has, sets, with, onesIn, alike}
-use Rattle.even_places.specs.Process.{afters}
-use Rattle.even_places.specs.Rule.{Row, same, give, next, after, number, join, ofSet, block, used, sideSets, sideRows, wantedRows, joins, sources}
+use Rattle.even_places.specs.Rule.{has, onesIn, sets, Row, give, next, after, number, afters, join, sideSets, same, ofSet, alike}
+use Rattle.even_places.specs.Counting.{with, used, sideRows, sources, joins, wantedRows, block}
 use Rattle.even_places.proofs.Rows.{Lacks, SetLacks, number-lacks, next-at, after-at, after-length, number-length, afters-length, afters-at}
 use Rattle.even_places.proofs.SetLaws.{same-alike, alike-eq, alike-one, alike-carry, setOf-next, join-keep, ones-drop, has-drop, join-append, join-length, join-at, join-same}
-use Rattle.even_places.proofs.Counts.{fresh, starts, starts-length, starts-at, side-is, side-length, side-lacks, lone-lacks}
+use Rattle.even_places.proofs.BlockRows.{fresh, starts, starts-length, starts-at, side-is, side-length, side-lacks, lone-lacks}
 use Rattle.even_places.proofs.Joined.{with-k, without-k}
-use Rattle.even_places.proofs.Positions.{others-below, others-length, group-length}
+use Rattle.even_places.proofs.Others.{others-below, others-length}
+use Rattle.even_places.proofs.Positions.{group-length}
 
 -- the part of a list of sets before A
 unfoldable pub beforeIf : Bool → List Bool → List (List Bool) → List (List Bool)

@@ -15,11 +15,12 @@ use Rattle.lists.proofs.Joined.{flatMap-all, map-flatMap}
 use Rattle.lists.proofs.Sums.{sum-append, sum-mul, sum-ext, sum-all, sum-flatMap, sum-same}
 use Rattle.lists.proofs.Each.{All-imp}
 use Rattle.lists.proofs.Bits.{bit-either}
-use Rattle.even_places.specs.Sets.{has, sets, onesIn, alike}
-use Rattle.even_places.specs.Rule.{isSome, same, bySet, ofSet, others, block, used, sideRows, sources, joins, wantedRows, rows, layout}
+use Rattle.even_places.specs.Rule.{has, onesIn, sets, others, isSome, same, ofSet, bySet, rows, layout, alike}
+use Rattle.even_places.specs.Counting.{used, sideRows, sources, joins, wantedRows, block, countedRows}
+use Rattle.even_places.proofs.Process.{rows-by-counting}
 use Rattle.even_places.proofs.Rows.{join-sum, others-sum}
 use Rattle.even_places.proofs.SetLaws.{setOf, same-alike, alike-one, alike-carry, alike-join, ones-drop, setOf-set, number-sets, keep-sets, same-not, join-keep, join-have, has-drop}
-use Rattle.even_places.proofs.Counts.{sets-fit, sets-zero, has-none, starts, starts-length, sideSets-sum, side-is, sideSets-lack, side-lacks, sources-lack}
+use Rattle.even_places.proofs.BlockRows.{sets-fit, sets-zero, has-none, starts, starts-length, sideSets-sum, side-is, sideSets-lack, side-lacks, sources-lack}
 
 setOf-none : (K : ℕ) → setOf (replicate K none) ≡ replicate K false
 unfolding setOf isSome
@@ -97,9 +98,10 @@ module _ (N K k : ℕ) (wide : 1 < N) (known : k < K) where
 
   -- the sets of a query's rows depend on N and K alone
   pub same-layout : (n : ℕ) → n < N → map setOf (rows N K k n) ≡ layout N K
-  unfolding rows layout bySet
+  unfolding countedRows layout bySet
   same-layout n l =
-      map-flatMap setOf (λ b. bySet (sets K (suc b)) (block N K k b n)) (range 0 K)
+      ap (map setOf) (rows-by-counting N K k wide known n l)
+      ∙ map-flatMap setOf (λ b. bySet (sets K (suc b)) (block N K k b n)) (range 0 K)
       ∙ ap (λ g. flatMap g (range 0 K)) (fun-ext (λ b.
       map-flatMap setOf (λ A. ofSet A (block N K k b n)) (sets K (suc b))
       ∙ flatMap-all (λ A. map setOf (ofSet A (block N K k b n))) (replicate ((N - 1) ^ b))

@@ -2,6 +2,9 @@ pub mod Choose
 pub mod Rows
 pub mod BySet
 pub mod SetLaws
+pub mod Others
+pub mod BlockRows
+pub mod Process
 pub mod Counts
 pub mod AllSets
 pub mod Totals
@@ -15,7 +18,6 @@ pub mod RowNumbers
 pub mod SourceRows
 pub mod Lexicographic
 pub mod Flat
-pub mod Process
 pub mod WantedCells
 pub mod ByteParts
 pub mod Ranked

@@ -18,10 +18,10 @@ use Rattle.lists.proofs.Joined.{flatMap-next}
 use Rattle.lists.proofs.Ranges.{range-append}
 use Rattle.lists.proofs.Sums.{sum-next}
 use Rattle.lists.proofs.Each.{All-imp}
-use Rattle.even_places.specs.Sets.{has, with}
-use Rattle.even_places.specs.Rule.{Row, give, after, number, join, used, sideSets, sideRows, joins, wantedRows}
+use Rattle.even_places.specs.Rule.{has, Row, give, after, number, join, sideSets}
+use Rattle.even_places.specs.Counting.{with, used, sideRows, joins, wantedRows}
 use Rattle.even_places.proofs.Rows.{next-at, after-at, after-length}
-use Rattle.even_places.proofs.Counts.{fresh, starts, starts-length, starts-at, side-is, sideSets-lack, sources-long, sources-length, used-all}
+use Rattle.even_places.proofs.BlockRows.{fresh, starts, starts-length, starts-at, side-is, sideSets-lack, sources-long, sources-length, used-all}
 use Rattle.even_places.proofs.Totals.{other-total, wanted-total}
 
 unfoldable pub held : Option ℕ → List ℕ

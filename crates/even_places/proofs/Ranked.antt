@@ -18,9 +18,9 @@ use Rattle.lists.proofs.Keep.{keep-all, keep-map, keep-append, keep-nothing, ke
 use Rattle.lists.proofs.Joined.{flatMap-nothing, flatMap-append}
 use Rattle.lists.proofs.Mapped.{map-append}
 use Rattle.lists.proofs.Ranges.{range-around, All-from}
-use Rattle.even_places.specs.Sets.{has, onesIn, sets, allSets, alike}
+use Rattle.even_places.specs.Rule.{has, onesIn, sets, allSets, alike}
 use Rattle.even_places.proofs.SetLaws.{alike-self}
-use Rattle.even_places.proofs.Counts.{sets-fit, sets-zero, has-none}
+use Rattle.even_places.proofs.BlockRows.{sets-fit, sets-zero, has-none}
 use Rattle.even_places.proofs.Closed.{before, beforeIf}
 
 -- ---- The sets with k, without it

@@ -14,9 +14,8 @@ use Rattle.lists.specs.Sums.{bit, sum, All, allNil, allCons}
 use Rattle.lists.specs.Ranges.{range}
 use Rattle.lists.proofs.Sums.{sum-keep, sum-next}
 use Rattle.lists.proofs.Bits.{bit-step}
-use Rattle.even_places.specs.Sets.{has, with, onesIn}
-use Rattle.even_places.specs.Process.{afters}
-use Rattle.even_places.specs.Rule.{Row, isSome, give, next, after, number, join, others}
+use Rattle.even_places.specs.Rule.{has, onesIn, Row, give, next, after, number, afters, join, others, isSome}
+use Rattle.even_places.specs.Counting.{with}
 
 -- 1 if v < n, else 0
 unfoldable pub below : ℕ → ℕ → ℕ

@@ -13,8 +13,7 @@ use lib.ListN.{length, getD, set, replicate}
 use lib.Seq.{getD-set-same, getD-set-other, set-set, set-getD}
 use Rattle.lists.specs.Sums.{bit, keep, keepIf, sum, All, allNil, allCons}
 use Rattle.lists.proofs.Sums.{sum-zero}
-use Rattle.even_places.specs.Sets.{has, sets, onesIn, alike}
-use Rattle.even_places.specs.Rule.{Row, isSome, same, give, next, after, number, join, ofSet, cells}
+use Rattle.even_places.specs.Rule.{has, onesIn, sets, Row, give, next, after, number, join, isSome, same, ofSet, cells, alike}
 use Rattle.even_places.proofs.Choose.{sets-none, sets-some}
 use Rattle.even_places.proofs.Rows.{after-length, Lacks}
 

@@ -9,8 +9,7 @@ use lib.ListN.{length, getD, replicate, length-append, List·getD-append}
 use lib.Seq.{getD-append-add}
 use Rattle.lists.specs.Any.{Any, anyHere, anyLater}
 use Rattle.lists.specs.Sums.{All, allCons}
-use Rattle.even_places.specs.Sets.{alike}
-use Rattle.even_places.specs.Rule.{firstRow}
+use Rattle.even_places.specs.Rule.{alike, firstRow}
 use Rattle.even_places.proofs.SetLaws.{alike-eq, alike-self}
 
 pub first-here : (A B : List Bool) (n : ℕ) (L : List (List Bool)) → 0 < n → alike A B ≡ true → firstRow A (replicate n B ++ L) ≡ 0

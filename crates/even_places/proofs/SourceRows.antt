@@ -9,10 +9,11 @@ use mathlib.Core.Bool.{Bool, true, false}
 use mathlib.Core.Option.{none}
 use lib.ListN.{getD, set, length-set}
 use Rattle.lists.proofs.Each.{All-get}
-use Rattle.even_places.specs.Sets.{has, onesIn}
-use Rattle.even_places.specs.Rule.{ofSet, block, others}
+use Rattle.even_places.specs.Rule.{has, onesIn, others, ofSet}
+use Rattle.even_places.specs.Counting.{block}
 use Rattle.even_places.proofs.SetLaws.{ones-drop}
-use Rattle.even_places.proofs.Positions.{others-below, others-length, joined-at}
+use Rattle.even_places.proofs.Others.{others-below, others-length}
+use Rattle.even_places.proofs.Positions.{joined-at}
 use Rattle.even_places.proofs.RowNumbers.{setRows}
 use Rattle.even_places.proofs.AllSets.{IsSet}
 

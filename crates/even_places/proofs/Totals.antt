@@ -12,14 +12,15 @@ use lib.ListN.{set, replicate, getD-replicate}
 use lib.Seq.{getD-set-other}
 use Rattle.lists.specs.Sums.{bit, sum}
 use Rattle.lists.specs.Ranges.{range}
-use Rattle.lists.proofs.Sums.{sum-mul, sum-ext, sum-all, sum-zero, sum-flatMap, sum-swap, sum-next, sum-same, sum-none}
+use Rattle.lists.proofs.Sums.{sum-mul, sum-ext, sum-all, sum-zero, sum-flatMap, sum-swap, sum-next, sum-same, sum-none, sum-range}
 use Rattle.lists.proofs.Each.{All-imp}
 use Rattle.lists.proofs.Keep.{keep-nothing}
-use Rattle.even_places.specs.Sets.{has, sets, with}
-use Rattle.even_places.specs.Rule.{Row, isSome, number, others, used, sideSets, sideRows, sources, joins, wantedRows, rows}
+use Rattle.even_places.specs.Rule.{has, sets, Row, number, others, sideSets, isSome, rows}
+use Rattle.even_places.specs.Counting.{with, used, sideRows, sources, joins, wantedRows}
 use Rattle.even_places.proofs.Choose.{gen, tail, gen-tail, gen-not, gen-both, full-has}
 use Rattle.even_places.proofs.Rows.{below, hit, is, gives, below-zero, number-hit, number-gives, join-sum, join-hit, join-gives, others-sum}
-use Rattle.even_places.proofs.Counts.{sets-zero, has-none, used-next, used-all, used-over, up, fresh, starts, starts-length, starts-at, side-is, sideSets-lack, side-lacks, rows-sum, sideSets-sum, joins-is, sources-length, sources-long}
+use Rattle.even_places.proofs.BlockRows.{sets-zero, has-none, used-next, used-all, used-over, up, fresh, starts, starts-length, starts-at, side-is, sideSets-lack, side-lacks, sideSets-sum, joins-is, sources-length, sources-long}
+use Rattle.even_places.proofs.Counts.{rows-sum}
 
 sum-part : (f : ℕ → ℕ) (M n : ℕ) → n < M → f n ≤ sum f (range 0 M)
 sum-part f M n l = omega (arith, others-sum f M n l)
@@ -68,7 +69,7 @@ module _ (N K k : ℕ) (wide : 1 < N) (known : k < K) where
       → sum h (rows N K k n) ≡ sum (λ b. sum (λ m. sum h (sideRows N K k b m)) (range 0 N)) (range 0 K)
   unfolding sources wantedRows sum range
   assemble h blind blank n l =
-      rows-sum N K k wide known h n
+      rows-sum N K k wide known h n l
       ∙ sum-ext (λ b. g b + sum h (wantedRows N K k b n)) (λ b. g b + S b) (λ b. ap (λ s. g b + s) (join-sum h h k blind (used N (joins N K k) b n) (sources N K k b n))) (range 0 K)
       ∙ omega (arith, blocks K, last-sum h n)
     where
@@ -176,7 +177,8 @@ module _ (N K k : ℕ) (wide : 1 < N) (known : k < K) where
   -- of the wanted message, the queries of all servers together have each place below N^K once, and no other
   pub wanted-once : (v : ℕ) → sum (λ n. sum (hit k v) (rows N K k n)) (range 0 N) ≡ below v (N ^ K)
   wanted-once v =
-      sum-ext (λ n. sum (hit k v) (rows N K k n)) (λ n. sum (λ b. g b n) (range 0 K)) (λ n. rows-sum N K k wide known (hit k v) n ∙ sum-ext _ (λ b. g b n) (λ b. omega (arith, side-no-hit v b n)) (range 0 K)) (range 0 N)
+      sum-range (λ n. sum (hit k v) (rows N K k n)) (λ n. sum (λ b. g b n) (range 0 K)) N
+      (λ n l. rows-sum N K k wide known (hit k v) n l ∙ sum-ext _ (λ b. g b n) (λ b. omega (arith, side-no-hit v b n)) (range 0 K))
       ∙ sum-swap (λ n b. g b n) (range 0 N) (range 0 K)
       ∙ handed N v (joins N K k) g (wanted-turn v) K
       ∙ ap (below v) (ap (λ s. N * s) wanted-total ∙ sym (pow-succ' N (K - 1)) ∙ ap (λ j. N ^ j) one-less)
@@ -190,7 +192,7 @@ module _ (N K k : ℕ) (wide : 1 < N) (known : k < K) where
   pub wanted-many : (n : ℕ) → n < N → sum (gives k) (rows N K k n) ≡ N ^ (K - 1)
   unfolding wantedRows
   wanted-many n l =
-      rows-sum N K k wide known (gives k) n
+      rows-sum N K k wide known (gives k) n l
       ∙ sum-ext _ (joins N K k) (λ b. omega (arith, side-no-gives b n, join-gives k (used N (joins N K k) b n) (sources-long N K k wide known b n), sources-length N K k wide known b n l)) (range 0 K)
       ∙ wanted-total
 

@@ -11,8 +11,8 @@ use lib.ListN.{length, getD, take}
 use Rattle.lists.specs.Sums.{bit, sum, All}
 use Rattle.lists.proofs.Each.{All-get, All-imp, All-every, All-keep}
 use Rattle.lists.proofs.Joined.{flatMap-flatMap, PlacedAt, placed-at, flatMap-size, flatMap-at}
-use Rattle.even_places.specs.Sets.{has, onesIn, allSets}
-use Rattle.even_places.specs.Rule.{Row, isSome, same, ofSet, block, rows, cells, queryCells, layout, firstRow}
+use Rattle.even_places.specs.Rule.{has, onesIn, Row, isSome, same, ofSet, cells, rows, queryCells, allSets, layout, firstRow}
+use Rattle.even_places.specs.Counting.{block}
 use Rattle.even_places.proofs.SetLaws.{setOf, same-alike, alike-eq, cells-length}
 use Rattle.even_places.proofs.RowNumbers.{setRows, rows-by-set, setRows-length, row-number, row-set}
 use Rattle.even_places.proofs.AllSets.{IsSet, all-sets}
@@ -58,7 +58,7 @@ module _ (N K k : ℕ) (wide : 1 < N) (known : k < K) (n : ℕ) (l : n < N) wher
 
   cells-by-set : queryCells N K k n ≡ flatMap setCells (allSets K)
   unfolding queryCells setCells
-  cells-by-set = ap (flatMap (cells 0)) (rows-by-set N K k n) ∙ flatMap-flatMap (cells 0) (setRows N K k n) (allSets K)
+  cells-by-set = ap (flatMap (cells 0)) (rows-by-set N K k wide known n l) ∙ flatMap-flatMap (cells 0) (setRows N K k n) (allSets K)
 
   row-cells : (A : List Bool) → All (λ r. length (cells 0 r) ≡ onesIn A) (setRows N K k n A)
   unfolding setRows ofSet

@@ -16,7 +16,7 @@ use Rattle.lists.specs.Ranges.{range}
 use Rattle.lists.proofs.Cuts.{cut-length}
 use Rattle.lists.proofs.Below.{below-front, below-back}
 use Rattle.lists.proofs.Writing.{Pending, pending-part}
-use Rattle.even_places.specs.Sets.{onesIn, members, allSets}
+use Rattle.even_places.specs.Rule.{onesIn, members, allSets}
 use Rattle.even_layout.specs.Layout.{LayoutBounds, setIn, rowsOf}
 use Rattle.even_layout.proofs.Tables.{rows-high}
 use Rattle.even_ranks.specs.Counts.{Stands, countersOf, setCounted}

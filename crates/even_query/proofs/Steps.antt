@@ -14,7 +14,7 @@ use Rattle.lists.specs.Sums.{bit}
 use Rattle.lists.proofs.Bits.{bit-test}
 use Rattle.lists.proofs.Both.{both-true}
 use Rattle.lists.proofs.Mapped.{mapped-length, mapped-at}
-use Rattle.even_places.specs.Sets.{has, onesIn}
+use Rattle.even_places.specs.Rule.{has, onesIn}
 use Rattle.even_places.proofs.Bytes.{byte-has}
 use Rattle.even_places.proofs.AllSets.{ones-most}
 use Rattle.even_layout.specs.Layout.{setIn}

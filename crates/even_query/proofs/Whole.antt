@@ -7,8 +7,7 @@ use lib.Arith.{digits-lt}
 use lib.ListN.{length, getD, length-map, List·getD-map}
 use Rattle.lists.specs.Below.{Below}
 use Rattle.lists.proofs.Cuts.{cut-at}
-use Rattle.even_places.specs.Sets.{allSets}
-use Rattle.even_places.specs.Rule.{queryCells, positions}
+use Rattle.even_places.specs.Rule.{queryCells, allSets, positions}
 use Rattle.even_places.proofs.Flat.{inside, query-length}
 use Rattle.even_places.proofs.Positions.{same-members, positions-length}
 use Rattle.even_scheme.specs.Even.{permutation, entryAt, evenQuery}

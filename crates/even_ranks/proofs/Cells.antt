@@ -16,8 +16,8 @@ use Rattle.lists.specs.Parts.{cut}
 use Rattle.lists.specs.Sums.{bit, keep, All}
 use Rattle.lists.proofs.Cuts.{cut-at}
 use Rattle.lists.proofs.Each.{All-front, All-back, All-head}
-use Rattle.even_places.specs.Sets.{has, onesIn, with, sets, allSets}
-use Rattle.even_places.specs.Rule.{used, sideSets, joins, ofSet, block, others}
+use Rattle.even_places.specs.Rule.{has, onesIn, sets, others, sideSets, ofSet, allSets}
+use Rattle.even_places.specs.Counting.{with, used, joins, block}
 use Rattle.even_places.proofs.SetLaws.{ones-drop, has-drop, has-lone}
 use Rattle.even_places.proofs.Positions.{joined-at}
 use Rattle.even_places.proofs.Closed.{before, side-at, wanted-at, wanted-first}

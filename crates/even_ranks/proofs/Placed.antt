@@ -11,8 +11,8 @@ use borrow.Author.Tests.{eq-eqb, ne-eqb}
 use Rattle.lists.specs.Ranges.{range}
 use Rattle.lists.specs.Sums.{keep, sum}
 use Rattle.lists.proofs.Sums.{sum-range}
-use Rattle.even_places.specs.Sets.{with, allSets}
-use Rattle.even_places.specs.Rule.{used, sideSets, joins}
+use Rattle.even_places.specs.Rule.{sideSets, allSets}
+use Rattle.even_places.specs.Counting.{with, used, joins}
 use Rattle.even_places.proofs.AllSets.{all-sets}
 use Rattle.even_ranks.specs.Counts.{counter, noCounts, countedAll, totalsOf, takers, taken}
 use Rattle.even_ranks.specs.Walk.{placeIn}

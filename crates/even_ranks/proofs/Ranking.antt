@@ -15,10 +15,10 @@ use Rattle.lists.proofs.Sums.{sum-append, sum-map, sum-ext, sum-all, sum-one, s
 use Rattle.lists.proofs.Each.{All-imp, All-keep, All-every}
 use Rattle.lists.proofs.Keep.{keep-and, keep-append}
 use Rattle.lists.proofs.Mapped.{map-append}
-use Rattle.even_places.specs.Sets.{has, onesIn, with, sets, allSets, alike}
-use Rattle.even_places.specs.Rule.{sideSets, joins}
+use Rattle.even_places.specs.Rule.{has, onesIn, sets, sideSets, allSets, alike}
+use Rattle.even_places.specs.Counting.{with, joins}
 use Rattle.even_places.proofs.SetLaws.{alike-one, ones-drop}
-use Rattle.even_places.proofs.Counts.{sets-zero, has-none, sideSets-sum}
+use Rattle.even_places.proofs.BlockRows.{sets-zero, has-none, sideSets-sum}
 use Rattle.even_places.proofs.Closed.{before}
 use Rattle.even_places.proofs.Ranked.{taken-out, of-block, before-seam}
 use Rattle.even_ranks.proofs.Counters.{ofKind}

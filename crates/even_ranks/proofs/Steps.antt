@@ -18,8 +18,7 @@ use Rattle.lists.proofs.Cuts.{cut-length}
 use Rattle.lists.proofs.Puts.{put-part, write-more}
 use Rattle.lists.proofs.Sums.{sum-next}
 use Rattle.lists.proofs.Bits.{bit-of, bit-test}
-use Rattle.even_places.specs.Sets.{has, onesIn, byteOf, allSets}
-use Rattle.even_places.specs.Rule.{after}
+use Rattle.even_places.specs.Rule.{has, byteOf, onesIn, after, allSets}
 use Rattle.even_places.proofs.Rows.{after-length}
 use Rattle.even_places.proofs.Bytes.{byte-has, byte-ones}
 use Rattle.even_places.proofs.AllSets.{IsSet, all-sets}

@@ -14,8 +14,7 @@ use Rattle.parameters.specs.Measures.{evenSizes, evenRows}
 use Rattle.parameters.proofs.Bounds.{even-bounds}
 use Rattle.symbol.specs.Sum.{Sum, zeros, total, totalFrom}
 use Rattle.symbol.specs.Group.{KeepsLength}
-use Rattle.even_places.specs.Sets.{onesIn, members}
-use Rattle.even_places.specs.Rule.{rows, layout}
+use Rattle.even_places.specs.Rule.{onesIn, members, rows, layout}
 use Rattle.even_places.proofs.Counts.{rows-length}
 use Rattle.even_places.proofs.Joined.{same-layout}
 use Rattle.even_places.proofs.SetLaws.{setOf}

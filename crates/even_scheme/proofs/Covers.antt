@@ -15,7 +15,7 @@ use Rattle.lists.proofs.Arranged.{Permutation, covers}
 use Rattle.lists.proofs.Each.{All-get, All-imp, All-keep, All-flatMap, All-map}
 use Rattle.symbol.specs.Sum.{Sum}
 use Rattle.scheme.specs.Scheme.{Valid}
-use Rattle.even_places.specs.Sets.{has, onesIn}
+use Rattle.even_places.specs.Rule.{has, onesIn}
 use Rattle.even_places.proofs.RowNumbers.{WantedRow}
 use Rattle.even_places.proofs.AllSets.{IsSet, all-sets}
 use Rattle.even_scheme.specs.Even.{entryAt, recoveredSymbol, wantedPlace, recoveredPart, serverParts, recoveredParts, evenScheme}

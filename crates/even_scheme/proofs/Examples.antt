@@ -6,8 +6,7 @@ use Prim.Native.Nat.{ℕ, suc, _-_, _^_}
 use Rattle.lists.specs.Ranges.{range}
 use Rattle.lists.specs.Sums.{All, allNil, allCons}
 use Rattle.symbol.specs.Xor.{xor}
-use Rattle.even_places.specs.Rule.{layout, positions, queryCells}
-use Rattle.even_places.specs.Sets.{members}
+use Rattle.even_places.specs.Rule.{members, queryCells, layout, positions}
 use Rattle.even_scheme.specs.Even.{permutation, entryAt, evenQuery, evenScheme}
 use Rattle.even_scheme.proofs.Keys.{keyOf}
 

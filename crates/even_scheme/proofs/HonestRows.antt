@@ -18,8 +18,7 @@ use Rattle.symbol.specs.Group.{AbelianGroup, Symbols, none, more}
 use Rattle.symbol.specs.Sum.{Sum, total}
 use Rattle.symbol.proofs.Totals.{total-symbol}
 use Rattle.scheme.specs.Scheme.{Valid, honestAnswers}
-use Rattle.even_places.specs.Sets.{onesIn, members}
-use Rattle.even_places.specs.Rule.{Row, isSome, rows, cells, queryCells, layout, firstRow}
+use Rattle.even_places.specs.Rule.{onesIn, members, Row, isSome, cells, rows, queryCells, layout, firstRow}
 use Rattle.even_places.proofs.Flat.{cells-messages, rows-long}
 use Rattle.even_places.proofs.Joined.{same-layout}
 use Rattle.even_places.proofs.RowNumbers.{setRows, row-number}
@@ -99,7 +98,7 @@ module _ (sum : Sum) (N K S k : ℕ) (store key : List ℕ) (run : Retrieval sum
   honest-row n l A i set-good h =
       ap (cut ((firstRow A (layout N K) + i) * S) S) (mapped-at (λ m. evenAnswer sum N K S store (evenQuery N K k m key)) [] N n l ∙ answer-rows sum N K S store key k n (run .wide) (run .known) l)
       ∙ flatMap-cut (rowTotal sum N K S store key) S []
-      (All-imp (λ r e. total-symbol sum S (run .group) (row-symbols r e) .long) (rows-long N K k (run .wide) (run .known) n))
+      (All-imp (λ r e. total-symbol sum S (run .group) (row-symbols r e) .long) (rows-long N K k (run .wide) (run .known) n l))
       (firstRow A (layout N K) + i) (number .0)
       ∙ ap (rowTotal sum N K S store key) (number .1)
     where

@@ -23,8 +23,7 @@ use Rattle.lists.proofs.Each.{All-imp}
 use Rattle.lists.proofs.Sums.{sum-all, sum-flatMap, sum-keep, sum-map, sum-range, sum-zero, sum-one, sum-at}
 use Rattle.symbol.specs.Sum.{Sum}
 use Rattle.scheme.specs.Scheme.{Valid}
-use Rattle.even_places.specs.Sets.{has, onesIn, allSets}
-use Rattle.even_places.specs.Rule.{rows}
+use Rattle.even_places.specs.Rule.{has, onesIn, rows, allSets}
 use Rattle.even_places.proofs.RowNumbers.{setRows, rows-by-set, setRows-length, row-some, row-none}
 use Rattle.even_places.proofs.Rows.{below, below-lt, hit, is}
 use Rattle.even_places.proofs.Totals.{wanted-once}
@@ -77,7 +76,7 @@ module _ (sums : Sum) (N K S k : ℕ) where
         ∙ sum-keep (λ A. times v (setPlaces n A)) (has k) (allSets K)
         ∙ sum-all (λ A. bit (has k A) * times v (setPlaces n A)) (λ A. sum (hit k v) (setRows N K k n A)) (All-imp (set-times n l) (all-sets K))
         ∙ sym (sum-flatMap (hit k v) (setRows N K k n) (allSets K))
-        ∙ ap (sum (hit k v)) (sym (rows-by-set N K k n))
+        ∙ ap (sum (hit k v)) (sym (rows-by-set N K k wide known n l))
 
     places-times : times v recoveredPlaces ≡ below v (N ^ K)
     unfolding times recoveredPlaces

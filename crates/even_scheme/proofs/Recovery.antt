@@ -11,8 +11,7 @@ use lib.Dec.{eqb}
 use lib.ListN.{length, getD, set, length-map}
 use Rattle.symbol.specs.Sum.{Sum}
 use Rattle.scheme.specs.Scheme.{honestAnswers}
-use Rattle.even_places.specs.Sets.{onesIn}
-use Rattle.even_places.specs.Rule.{Row, isSome, others, firstRow, layout}
+use Rattle.even_places.specs.Rule.{onesIn, Row, others, isSome, layout, firstRow}
 use Rattle.even_places.proofs.RowNumbers.{setRows, row-number, row-set, row-some, WantedRow}
 use Rattle.even_places.proofs.SetLaws.{setOf}
 use Rattle.even_places.proofs.SourceRows.{source-row}

@@ -10,8 +10,7 @@ use lib.ListN.{length, getD, set, length-append, length-map}
 use Rattle.symbol.specs.Group.{Symbols, none, more}
 use Rattle.symbol.specs.Sum.{Symbol, Sum, total, totalFrom}
 use Rattle.symbol.proofs.Totals.{total-found}
-use Rattle.even_places.specs.Sets.{onesIn}
-use Rattle.even_places.specs.Rule.{Row, cells}
+use Rattle.even_places.specs.Rule.{onesIn, Row, cells}
 use Rattle.even_places.proofs.SetLaws.{setOf, cells-length}
 use Rattle.even_scheme.specs.Even.{entryAt, symbolAt}
 use Rattle.even_scheme.proofs.HonestRows.{cellNumber, cellSymbol, rowTotal, Retrieval, row-symbols}

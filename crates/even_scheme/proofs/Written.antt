@@ -19,8 +19,7 @@ use Rattle.parameters.proofs.Bounds.{EvenBounds, even-bounds}
 use Rattle.symbol.specs.Sum.{Sum, zeros}
 use Rattle.symbol.specs.Group.{KeepsLength}
 use Rattle.scheme.specs.Scheme.{Valid, answersIn, recoverIn}
-use Rattle.even_places.specs.Sets.{onesIn}
-use Rattle.even_places.specs.Rule.{others, firstRow, layout}
+use Rattle.even_places.specs.Rule.{onesIn, others, layout, firstRow}
 use Rattle.even_places.proofs.Counts.{rows-length}
 use Rattle.even_places.proofs.RowNumbers.{row-number}
 use Rattle.even_places.proofs.SourceRows.{source-row}

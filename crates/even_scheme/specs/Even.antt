@@ -14,8 +14,7 @@ use Rattle.lists.specs.Distinct.{distinct, isPermutation}
 use Rattle.parameters.specs.Measures.{evenSizes, evenRows}
 use Rattle.symbol.specs.Sum.{Sum, zeros, total}
 use Rattle.scheme.specs.Scheme.{Scheme}
-use Rattle.even_places.specs.Sets.{has, onesIn, members, allSets}
-use Rattle.even_places.specs.Rule.{others, rows, queryCells, layout, positions, firstRow}
+use Rattle.even_places.specs.Rule.{has, onesIn, members, others, rows, queryCells, allSets, layout, positions, firstRow}
 
 -- ---- The key: K permutations, message 0's first
 

@@ -4,7 +4,7 @@ use mathlib.Core.List.{[]}
 use Prim.Native.Nat.{_-_, _*_, _≤_, _<_}
 use native.Mathlib.Omega.{arith}
 use lib.ListN.{length, getD, drop, replicate, length-set, drop-of-length-le}
-use Rattle.even_places.specs.Sets.{allSets}
+use Rattle.even_places.specs.Rule.{allSets}
 use Rattle.even_layout.specs.Layout.{rowsOf}
 use Rattle.even_layout.proofs.Blocks.{subsets-few, all-length}
 use Rattle.even_layout.proofs.Tables.{byte-at}

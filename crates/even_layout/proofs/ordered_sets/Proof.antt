@@ -8,7 +8,7 @@ use lib.ListN.{length, getD, drop, set, replicate, length-map, drop-of-length-le
 use lib.Seq.{drop-cons}
 use Rattle.lists.proofs.Writing.{Pending, pending-start, pending-byte, pending-as, pending-done}
 use Rattle.lists.proofs.Puts.{put-padded}
-use Rattle.even_places.specs.Sets.{byteOf, allSets}
+use Rattle.even_places.specs.Rule.{byteOf, allSets}
 use Rattle.even_layout.proofs.Blocks.{subsets-few, all-length, listed-entry}
 use Rattle.even_layout.proofs.ordered_sets.Statement.{statement}
 use Rattle.even_layout.proofs.ordered_sets.Tie as tie

@@ -6,8 +6,7 @@ use native.Mathlib.Omega.{arith}
 use lib.ListN.{length, getD, replicate, length-append}
 use Rattle.lists.proofs.Writing.{Pending, pending-start, pending-part, pending-as, pending-done}
 use Rattle.lists.proofs.Puts.{put-padded}
-use Rattle.even_places.specs.Sets.{allSets}
-use Rattle.even_places.specs.Rule.{positions}
+use Rattle.even_places.specs.Rule.{allSets, positions}
 use Rattle.even_layout.proofs.Blocks.{subsets-few, all-length}
 use Rattle.even_layout.proofs.Tables.{byte-at, set-positions, setPositions, positionsFrom, positions-all, positions-none, positions-more, positions-room}
 use Rattle.even_layout.proofs.positions.Statement.{statement}

@@ -7,7 +7,7 @@ use lib.Count.{ones as count, ones-le}
 use lib.Dec.{eqb}
 use Rattle.lists.specs.Below.{Below}
 use Rattle.lists.proofs.Writing.{Pending, pending-start, pending-as, pending-ends, pending-done}
-use Rattle.even_places.specs.Sets.{onesIn}
+use Rattle.even_places.specs.Rule.{onesIn}
 use Rattle.even_layout.specs.Layout.{setIn}
 use Rattle.even_ranks.specs.Walk.{setPlaces}
 use Rattle.even_ranks.proofs.Steps.{stands-count}
