@@ -27,7 +27,14 @@ all-length K =
     let each : sum (λ b. length (sets K (suc b)) * (2 - 1) ^ b) blocks ≡ sum (λ b. sum (λ A. 1) (sets K (suc b))) blocks =
     sum-ext (λ b. length (sets K (suc b)) * (2 - 1) ^ b) (λ b. sum (λ A. 1) (sets K (suc b)))
     (λ b. ap (λ n. length (sets K (suc b)) * n) (one-pow b) ∙ mul-one (length (sets K (suc b))) ∙ sym (sum-one (sets K (suc b)))) blocks in
-    omega (arith, each, sum-flatMap (λ A. 1) (λ b. sets K (suc b)) blocks, sum-one (flatMap (λ b. sets K (suc b)) blocks), row-count-product 2 K (omega arith), mul-one (rowCount 2 K))
+    omega (
+      arith,
+      each,
+      sum-flatMap (λ A. 1) (λ b. sets K (suc b)) blocks,
+      sum-one (flatMap (λ b. sets K (suc b)) blocks),
+      row-count-product 2 K (omega arith),
+      mul-one (rowCount 2 K),
+    )
 
 pub all-bytes : (K power : ℕ) → power ≡ 2 ^ K → length (map byteOf (allSets K)) ≡ power - 1
 all-bytes K power e = length-map (allSets K) byteOf ∙ omega (arith, all-length K)

@@ -42,7 +42,8 @@ module _ (N K : ℕ) (bounds : LayoutBounds N K) (A : List Bool) (s : IsSet K A)
   pub rows-low : 1 ≤ rowsOf N A
   unfolding rowsOf
   rows-low =
-      let least : (N - 1) ^ 0 ≤ (N - 1) ^ (onesIn A - 1) = pow-le-pow-right {n = N - 1} (omega (arith, bounds .servers-low)) (let w : 0 ≤ onesIn A - 1 = omega arith in w) in
+      let least : (N - 1) ^ 0 ≤ (N - 1) ^ (onesIn A - 1) =
+      pow-le-pow-right {n = N - 1} (omega (arith, bounds .servers-low)) (let w : 0 ≤ onesIn A - 1 = omega arith in w) in
       omega (arith, pow-zero (N - 1))
 
 -- what holds of a table's byte `set`, which stands for set A

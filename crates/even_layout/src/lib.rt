@@ -134,7 +134,8 @@ fn write_members(k: usize, set: u8, out: &mut [u8], at: usize) -> usize
 // Writes the messages of `count` rows of a set from `at` on, and gives where they end.
 fn write_rows(k: usize, set: u8, count: usize, out: &mut [u8], at: usize) -> usize
     requires { ⌜ (k ≤ 8) × (at + length (flatMap (members 0) (replicate count (setIn k set))) ≤ length (now out)) ⌝ }
-    ensures { λ r. ⌜ (r ≡ at + length (flatMap (members 0) (replicate count (setIn k set)))) × (now (out .exit) ≡ put at (flatMap (members 0) (replicate count (setIn k set))) (now (out .entry))) ⌝ }
+    ensures { λ r. ⌜ (r ≡ at + length (flatMap (members 0) (replicate count (setIn k set))))
+        × (now (out .exit) ≡ put at (flatMap (members 0) (replicate count (setIn k set))) (now (out .entry))) ⌝ }
 {
     let mut end = at;
     let mut i = 0;

@@ -47,7 +47,8 @@ alike-all K X e h =
     block : (b : ℕ) (t : Bool) → eqb b (onesIn X - 1) ≡ t → sum (λ A. bit (alike X A)) (sets K (suc b)) ≡ bit t
     block b true t = alike-one X K (suc b) e (omega (arith, eqb-true b (onesIn X - 1) t))
     block b false t =
-        sum-all (λ A. bit (alike X A)) (λ A. 0) (All-imp (λ A f. other A (alike X A) refl (λ same. eqb-false b (onesIn X - 1) t (omega (arith, f .1)))) (sets-fit K (suc b)))
+        sum-all (λ A. bit (alike X A)) (λ A. 0)
+        (All-imp (λ A f. other A (alike X A) refl (λ same. eqb-false b (onesIn X - 1) t (omega (arith, f .1)))) (sets-fit K (suc b)))
         ∙ sum-zero (sets K (suc b))
       where
         other : (A : List Bool) (u : Bool) → alike X A ≡ u → (onesIn X ≡ onesIn A → ⊥) → bit u ≡ 0
@@ -77,4 +78,5 @@ layout-by-set N K =
 -- the sets of a query's rows are sets of K messages
 pub layout-long : (N K : ℕ) → All (λ A. length A ≡ K) (layout N K)
 layout-long N K =
-    rw (layout-by-set N K) (All-flatMap (λ A. replicate ((N - 1) ^ (onesIn A - 1)) A) (All-imp (λ A s. All-replicate ((N - 1) ^ (onesIn A - 1)) A (s .long)) (all-sets K)))
+    rw (layout-by-set N K)
+    (All-flatMap (λ A. replicate ((N - 1) ^ (onesIn A - 1)) A) (All-imp (λ A s. All-replicate ((N - 1) ^ (onesIn A - 1)) A (s .long)) (all-sets K)))

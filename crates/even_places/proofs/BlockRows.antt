@@ -59,7 +59,8 @@ module _ (N : ℕ) (f : ℕ → ℕ) where
 
 module _ (N K k : ℕ) (wide : 1 < N) (known : k < K) where
   pub lone-lacks : (b : ℕ) → All (SetLacks K k (suc b)) (keep (λ A. not (has k A)) (sets K (suc b)))
-  lone-lacks b = All-imp (λ A h. record { long = h .0 .0; many = h .0 .1; lack = not-true (has k A) (h .1) }) (All-keep (λ A. not (has k A)) (sets-fit K (suc b)))
+  lone-lacks b =
+      All-imp (λ A h. record { long = h .0 .0; many = h .0 .1; lack = not-true (has k A) (h .1) }) (All-keep (λ A. not (has k A)) (sets-fit K (suc b)))
 
   pub sideSets-lack : (b : ℕ) → All (SetLacks K k (suc b)) (sideSets N K k b)
   unfolding sideSets
@@ -108,7 +109,8 @@ module _ (N K k : ℕ) (wide : 1 < N) (known : k < K) where
   unfolding sideSets
   sideSets-sum f b =
       sum-flatMap f (replicate ((N - 1) ^ b)) (keep (λ A. not (has k A)) (sets K (suc b)))
-      ∙ sum-ext (λ A. sum f (replicate ((N - 1) ^ b) A)) (λ A. (N - 1) ^ b * f A) (λ A. sum-replicate f ((N - 1) ^ b) A) (keep (λ A. not (has k A)) (sets K (suc b)))
+      ∙ sum-ext (λ A. sum f (replicate ((N - 1) ^ b) A)) (λ A. (N - 1) ^ b * f A) (λ A. sum-replicate f ((N - 1) ^ b) A)
+      (keep (λ A. not (has k A)) (sets K (suc b)))
       ∙ sum-mul ((N - 1) ^ b) f (keep (λ A. not (has k A)) (sets K (suc b)))
       ∙ ap (λ s. (N - 1) ^ b * s) (sum-keep f (λ A. not (has k A)) (sets K (suc b)))
 
@@ -133,7 +135,13 @@ module _ (N K k : ℕ) (wide : 1 < N) (known : k < K) where
       sym (sum-one (flatMap (sideRows N K k b) (others N n)))
       ∙ sum-flatMap (λ r. 1) (sideRows N K k b) (others N n)
       ∙ sum-ext (λ m. sum (λ r. 1) (sideRows N K k b m)) (λ m. length (sideSets N K k b)) (λ m. sum-one (sideRows N K k b m) ∙ side-length b m) (others N n)
-      ∙ omega (arith, others-sum (λ m. length (sideSets N K k b)) N n l, sum-same (length (sideSets N K k b)) N, suc-mul (N - 1) (length (sideSets N K k b)), ap (λ s. s * length (sideSets N K k b)) (up N (omega arith)))
+      ∙ omega (
+        arith,
+        others-sum (λ m. length (sideSets N K k b)) N n l,
+        sum-same (length (sideSets N K k b)) N,
+        suc-mul (N - 1) (length (sideSets N K k b)),
+        ap (λ s. s * length (sideSets N K k b)) (up N (omega arith)),
+      )
 
   pub sources-long : (b n : ℕ) → All (λ r. k < length r) (sources N K k b n)
   sources-long b n = All-imp (λ r h. omega (arith, h .long)) (sources-lack b n)

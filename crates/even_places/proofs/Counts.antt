@@ -27,7 +27,8 @@ module _ (N K k : ℕ) (wide : 1 < N) (known : k < K) where
   rows-sum h n there =
       ap (sum h) (rows-by-counting N K k wide known n there)
       ∙ sum-flatMap h (λ b. bySet (sets K (suc b)) (sideRows N K k b n ++ wantedRows N K k b n)) (range 0 K)
-      ∙ sum-ext (λ b. sum h (bySet (sets K (suc b)) (sideRows N K k b n ++ wantedRows N K k b n))) (λ b. sum h (sideRows N K k b n) + sum h (wantedRows N K k b n))
+      ∙ sum-ext (λ b. sum h (bySet (sets K (suc b)) (sideRows N K k b n ++ wantedRows N K k b n)))
+      (λ b. sum h (sideRows N K k b n) + sum h (wantedRows N K k b n))
       (λ b. bySet-sum h K (suc b) (block-fits N K k wide known b n) ∙ sum-append h (sideRows N K k b n) (wantedRows N K k b n)) (range 0 K)
 
   -- how many rows a query has
@@ -62,7 +63,16 @@ module _ (N K k : ℕ) (wide : 1 < N) (known : k < K) where
 pub row-count-product : (N K : ℕ) → 1 < N → rowCount N K * (N - 1) + 1 ≡ N ^ K
 unfolding rowCount tail
 row-count-product N K wide =
-    omega (arith, mul-comm (rowCount N K) (N - 1), ap (λ s. (N - 1) * s) same-tail, gen-tail (N - 1) K (λ A. 1), sum-one (sets K 0), ap length (sets-zero K), gen-one (N - 1) K, ap (λ s. s ^ K) (up N (omega arith)))
+    omega (
+      arith,
+      mul-comm (rowCount N K) (N - 1),
+      ap (λ s. (N - 1) * s) same-tail,
+      gen-tail (N - 1) K (λ A. 1),
+      sum-one (sets K 0),
+      ap length (sets-zero K),
+      gen-one (N - 1) K,
+      ap (λ s. s ^ K) (up N (omega arith)),
+    )
   where
     same-tail : rowCount N K ≡ tail (N - 1) K (λ A. 1)
     same-tail =

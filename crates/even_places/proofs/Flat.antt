@@ -126,7 +126,12 @@ module _ (N K k : ℕ) (wide : 1 < N) (known : k < K) where
         go : Dec (p ≡ k) → times v (placesOf p (rows N K k n)) ≤ below v (N ^ K)
         go (yes e) = rw e (omega (arith, places-times k v (rows N K k n), wanted-apart N K k wide known v n there))
         go (no d) =
-            omega (arith, places-times p v (rows N K k n), other-once N K k wide known p v n hp d there, below-mono v (N ^ (K - 1)) (N ^ K) (pow-le-pow-right {n = N} (omega arith) {i = K - 1} {j = K} (omega arith)))
+            omega (
+              arith,
+              places-times p v (rows N K k n),
+              other-once N K k wide known p v n hp d there,
+              below-mono v (N ^ (K - 1)) (N ^ K) (pow-le-pow-right {n = N} (omega arith) {i = K - 1} {j = K} (omega arith)),
+            )
 
     pub places-below : (p : ℕ) → p < K → Below (N ^ K) (under p (queryCells N K k n))
     unfolding below
@@ -154,5 +159,6 @@ module _ (N K k : ℕ) (wide : 1 < N) (known : k < K) where
         ∙ sum-same (N ^ (K - 1)) K
 
   -- by position
-  pub inside : (n i : ℕ) → n < N → i < length (queryCells N K k n) → (getD (queryCells N K k n) i (0, 0) .0 < K) × (getD (queryCells N K k n) i (0, 0) .1 < N ^ K)
+  pub inside : (n i : ℕ) → n < N → i < length (queryCells N K k n)
+      → (getD (queryCells N K k n) i (0, 0) .0 < K) × (getD (queryCells N K k n) i (0, 0) .1 < N ^ K)
   inside n i l h = All-get {P = λ cell. (cell .0 < K) × (cell .1 < N ^ K)} (0, 0) (cells-inside n l) i h

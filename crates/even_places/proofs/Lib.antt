@@ -12,6 +12,7 @@ pub mod Joined
 pub mod Order
 pub mod Positions
 pub mod Bytes
+pub mod RepeatedSets
 pub mod Closed
 pub mod SetRuns
 pub mod RowNumbers

@@ -23,7 +23,11 @@ unfolding others keep keepIf range
 others-is N n l =
     ap (keep t) (range-around N n l)
     ∙ keep-append t (range 0 n) (n ∷ range (suc n) (N - suc n))
-    ∙ rw (keep-all t (All-from 0 n (λ m a h. ap not (ne-eqb m n (λ e. omega arith)))), eq-eqb n n refl, keep-all t (All-from (suc n) (N - suc n) (λ m a h. ap not (ne-eqb m n (λ e. omega arith)))))
+    ∙ rw (
+      keep-all t (All-from 0 n (λ m a h. ap not (ne-eqb m n (λ e. omega arith)))),
+      eq-eqb n n refl,
+      keep-all t (All-from (suc n) (N - suc n) (λ m a h. ap not (ne-eqb m n (λ e. omega arith)))),
+    )
   where
     t : ℕ → Bool
     t m = not (eqb m n)
@@ -34,7 +38,8 @@ others-length N n l =
 
 pub others-low : (N n j : ℕ) → n < N → j < n → getD (others N n) j 0 ≡ j
 others-low N n j l h =
-    ap (λ s. getD s j 0) (others-is N n l) ∙ List·getD-append (range 0 n) (range (suc n) (N - suc n)) 0 j (omega (arith, range-length 0 n)) ∙ range-at 0 n j 0 h ∙ zero-add j
+    ap (λ s. getD s j 0) (others-is N n l) ∙ List·getD-append (range 0 n) (range (suc n) (N - suc n)) 0 j (omega (arith, range-length 0 n))
+    ∙ range-at 0 n j 0 h ∙ zero-add j
 
 pub others-high : (N n j : ℕ) → n < N → n ≤ j → j < N - 1 → getD (others N n) j 0 ≡ suc j
 others-high N n j l h g =

@@ -18,7 +18,8 @@ use Rattle.lists.proofs.Mapped.{mapped-at}
 use Rattle.lists.proofs.Each.{All-imp}
 use Rattle.lists.proofs.Ranges.{All-range}
 use Rattle.lists.proofs.Sums.{sum-all, sum-zero}
-use Rattle.even_places.specs.Rule.{has, sets, Row, give, next, after, number, afters, join, TurnRows, idle, sideSets, wantedOf, turn, turned, turns, turnsDone, blocks, process, bySet, madeBy, rows}
+use Rattle.even_places.specs.Rule.{has, sets, Row, give, next, after, number, afters, join, TurnRows, idle, sideSets, wantedOf}
+use Rattle.even_places.specs.Rule.{turn, turned, turns, turnsDone, blocks, process, bySet, madeBy, rows}
 use Rattle.even_places.specs.Counting.{with, used, sideRows, sources, joins, wantedRows, block, countedRows}
 use Rattle.even_places.proofs.SetLaws.{join-length}
 use Rattle.even_places.proofs.Rows.{SetLacks, next-at, after-at, after-length, next-length, afters-length, afters-at}
@@ -35,7 +36,8 @@ module _ (K k b : ℕ) where
   unfolding Alike give
   next-alike A c d l (lc, ld, same) =
       ext-getD none (next A c) (next A d) (next-length A c (l .long ∙ sym lc) ∙ sym (next-length A d (l .long ∙ sym ld))) (λ p h.
-      next-at A c p (l .long ∙ sym lc) ∙ at p (omega (arith, h, next-length A c (l .long ∙ sym lc), l .long)) (ℕ-discrete p k) ∙ sym (next-at A d p (l .long ∙ sym ld)))
+      next-at A c p (l .long ∙ sym lc) ∙ at p (omega (arith, h, next-length A c (l .long ∙ sym lc), l .long)) (ℕ-discrete p k)
+      ∙ sym (next-at A d p (l .long ∙ sym ld)))
     where
       at : (p : ℕ) → p < K → Dec (p ≡ k) → give (has p A) (getD c p 0) ≡ give (has p A) (getD d p 0)
       at p h (yes e) = rw (ap (λ q. has q A) e ∙ l .lack)
@@ -153,8 +155,13 @@ module _ (N K k : ℕ) (wide : 1 < N) (known : k < K) where
   turns-are b n zero before c earlier e r = (refl, subst (λ (m : ℕ). Ready b m c) (sym (add-zero n) ∙ e) r)
   turns-are b n (suc count) before c earlier e r =
       let there : n < N = omega (arith, e) in
-      let rest = turns-are b (suc n) count before (turned N K k b before n c) earlier (suc-add n count ∙ sym (add-suc n count) ∙ e) (turned-ready b n before c earlier there r) in
-      (ap (λ t. t ∷ turns N K k b before (suc n) count (turned N K k b before n c)) (turn-is b n before c earlier there r) ∙ ap (λ ts. counted b n ∷ ts) (rest .0), rest .1)
+      let rest =
+      turns-are b (suc n) count before (turned N K k b before n c) earlier (suc-add n count ∙ sym (add-suc n count) ∙ e)
+      (turned-ready b n before c earlier there r) in (
+        ap (λ t. t ∷ turns N K k b before (suc n) count (turned N K k b before n c)) (turn-is b n before c earlier there r)
+            ∙ ap (λ ts. counted b n ∷ ts) (rest .0),
+        rest .1,
+      )
 
   -- after the last server's turn in a block comes the first one's in the next
   over : (b : ℕ) (c : List ℕ) → Ready b N c → Ready (suc b) 0 c
@@ -172,7 +179,8 @@ module _ (N K k : ℕ) (wide : 1 < N) (known : k < K) where
   blocks-are b (suc count) before c earlier r =
       let t = turns-are b 0 N before c earlier (zero-add N) r in
       ap (λ ts. ts ∷ blocks N K k (suc b) count (turns N K k b before 0 N c) (turnsDone N K k b before 0 N c)) (t .0)
-      ∙ ap (λ bs. map (counted b) (range 0 N) ∷ bs) (blocks-are (suc b) count (turns N K k b before 0 N c) (turnsDone N K k b before 0 N c) (t .0) (over b (turnsDone N K k b before 0 N c) (t .1)))
+      ∙ ap (λ bs. map (counted b) (range 0 N) ∷ bs)
+      (blocks-are (suc b) count (turns N K k b before 0 N c) (turnsDone N K k b before 0 N c) (t .0) (over b (turnsDone N K k b before 0 N c) (t .1)))
 
   start : Ready 0 0 (replicate K 0)
   unfolding used sum range

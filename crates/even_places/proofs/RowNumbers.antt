@@ -52,7 +52,8 @@ module _ (N K k : ℕ) (wide : 1 < N) (known : k < K) (n : ℕ) (l : n < N) wher
       q B = (N - 1) ^ (onesIn B - 1)
 
       r : Numbered q (setRows N K k n) [] (allSets K) A i
-      r = numbered q (setRows N K k n) [] A i h (All-imp (λ B b. (one-le-pow (onesIn B - 1) (N - 1) (omega arith), setRows-length B b)) (all-sets K)) (set-stands K A good)
+      r = numbered q (setRows N K k n) [] A i h (All-imp (λ B b. (one-le-pow (onesIn B - 1) (N - 1) (omega arith), setRows-length B b)) (all-sets K))
+          (set-stands K A good)
 
   -- its set is A
   pub row-set : (A : List Bool) (i : ℕ) → IsSet K A → i < (N - 1) ^ (onesIn A - 1) → setOf (getD (setRows N K k n A) i []) ≡ A
@@ -60,7 +61,8 @@ module _ (N K k : ℕ) (wide : 1 < N) (known : k < K) (n : ℕ) (l : n < N) wher
   row-set A i good h =
       sym (List·getD-map setOf (ofSet A R) i [])
       ∙ ap (λ (L : List (List Bool)). getD L i []) (keep-sets A R)
-      ∙ getD-replicate (sum (λ r. bit (same A r)) R) i A [] (omega (arith, group-size N K k wide known (onesIn A - 1) n A l (good .long) (omega (arith, good .some))))
+      ∙ getD-replicate (sum (λ r. bit (same A r)) R) i A []
+      (omega (arith, group-size N K k wide known (onesIn A - 1) n A l (good .long) (omega (arith, good .some))))
     where
       R : List Row
       R = block N K k (onesIn A - 1) n
@@ -69,7 +71,8 @@ module _ (N K k : ℕ) (wide : 1 < N) (known : k < K) (n : ℕ) (l : n < N) wher
   row-has A i p good h = sym (setOf-has (getD (setRows N K k n A) i []) p) ∙ ap (has p) (row-set A i good h)
 
   -- so it has a place of p if A has p, and else none
-  pub row-some : (A : List Bool) (i p : ℕ) → IsSet K A → i < (N - 1) ^ (onesIn A - 1) → has p A ≡ true → (x : ℕ) × (getD (getD (setRows N K k n A) i []) p none ≡ some x)
+  pub row-some : (A : List Bool) (i p : ℕ) → IsSet K A → i < (N - 1) ^ (onesIn A - 1) → has p A ≡ true
+      → (x : ℕ) × (getD (getD (setRows N K k n A) i []) p none ≡ some x)
   unfolding isSome
   row-some A i p good h e = go (getD (getD (setRows N K k n A) i []) p none) (row-has A i p good h ∙ e)
     where

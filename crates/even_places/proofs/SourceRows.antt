@@ -25,7 +25,8 @@ module _ (N K k : ℕ) where
     pub row-below : j < (N - 1) ^ (onesIn (set A k false) - 1)
     pub without : set (getD (setRows N K k n A) i []) k none ≡ getD (setRows N K k m (set A k false)) j []
 
-pub source-row : (N K k : ℕ) → 1 < N → k < K → (n : ℕ) → n < N → (A : List Bool) (i : ℕ) → IsSet K A → has k A ≡ true → 1 < onesIn A → i < (N - 1) ^ (onesIn A - 1)
+pub source-row : (N K k : ℕ) → 1 < N → k < K → (n : ℕ) → n < N → (A : List Bool) (i : ℕ) → IsSet K A → has k A ≡ true → 1 < onesIn A
+    → i < (N - 1) ^ (onesIn A - 1)
     → Source N K k n A i (getD (others N n) (i / (N - 1) ^ (onesIn A - 2)) 0) (i % (N - 1) ^ (onesIn A - 2))
 unfolding setRows
 source-row N K k wide known n l A i good e many h = record {
@@ -49,4 +50,5 @@ source-row N K k wide known n l A i good e many h = record {
     less = omega (arith, ones-drop A k e)
 
     turn : i / q < N - 1
-    turn = div-lt-iff-lt-mul some .1 (rw (ap (λ (b : ℕ). (N - 1) ^ b) (let s : onesIn A - 1 ≡ suc (onesIn A - 2) = omega arith in s) ∙ pow-succ' (N - 1) (onesIn A - 2)) at h)
+    turn = div-lt-iff-lt-mul some .1
+        (rw (ap (λ (b : ℕ). (N - 1) ^ b) (let s : onesIn A - 1 ≡ suc (onesIn A - 2) = omega arith in s) ∙ pow-succ' (N - 1) (onesIn A - 2)) at h)

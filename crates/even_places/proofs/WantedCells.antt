@@ -112,7 +112,8 @@ module _ (N K k : ℕ) (wide : 1 < N) (known : k < K) (n : ℕ) (l : n < N) wher
       at-row =
           ap (λ (cs : List (ℕ × ℕ)). getD cs (sum (cellsOf N) (take j (allSets K)) + (i * onesIn A + onesIn (take k A))) (0, 0)) cells-by-set
           ∙ placed .same
-          ∙ flatMap-at (cells 0) (onesIn A) (0, 0) [] (row-cells A) i (onesIn (take k A)) (omega (arith, setRows-length N K k wide known n l A good)) (ones-before A k e)
+          ∙ flatMap-at (cells 0) (onesIn A) (0, 0) [] (row-cells A) i (onesIn (take k A)) (omega (arith, setRows-length N K k wide known n l A good))
+          (ones-before A k e)
           ∙ ap (λ (B : List Bool). getD (cells 0 row) (onesIn (take k B)) (0, 0)) (sym its-set)
 
       found : CellOf 0 row k (getD (cells 0 row) (onesIn (take k (setOf row))) (0, 0))

@@ -126,7 +126,8 @@ set-turn {N} {K} {k} {server} {byte} {i} {from} {totals} {counts} {end = end} {o
     let front = setPlaces N k server totals ranks A in
     let rest = setsPlaces N k server totals (setCounted k A counts) (drop (i + 1) (allSets K)) in
     let more : setsPlaces N k server totals counts (drop i (allSets K)) ≡ front ++ rest =
-    sets-more N k server totals counts (allSets K) A i inside e ∙ ap (λ (x : List ℕ). setPlaces N k server totals x A ++ rest) (sym (ranks-lent K k byte from counts l)) in
+    sets-more N k server totals counts (allSets K) A i inside e
+    ∙ ap (λ (x : List ℕ). setPlaces N k server totals x A ++ rest) (sym (ranks-lent K k byte from counts l)) in
     let here = rw more at left in
     record {
       ranks-long = ap (λ (m : ℕ). length (take m (drop from counts))) (add-sub-cancel-left from K) ∙ cut-length from K counts (omega (arith, l .fits));

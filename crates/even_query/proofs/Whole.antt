@@ -23,13 +23,15 @@ entries-cells : (N K : ℕ) (key : List ℕ) (cells : List (ℕ × ℕ)) → ((i
 unfolding entries zipWith entryAt permutation
 entries-cells N K key [] h = refl
 entries-cells N K key (cell ∷ cells) h =
-    ap₂ (λ (x : ℕ) (l : List ℕ). x ∷ l) (sym (cut-at (cell .0 * N ^ K) (N ^ K) (cell .1) key (h 0 (omega arith)))) (entries-cells N K key cells (λ i l. h (suc i) (omega arith)))
+    ap₂ (λ (x : ℕ) (l : List ℕ). x ∷ l) (sym (cut-at (cell .0 * N ^ K) (N ^ K) (cell .1) key (h 0 (omega arith))))
+    (entries-cells N K key cells (λ i l. h (suc i) (omega arith)))
 
 module _ (N K k server : ℕ) (asks : Asks N K k server) where
   wide : 1 < N
   wide = asks .bounds .servers-low
 
-  pub places-are : (totals : List ℕ) → totals ≡ totalsOf K k → setsPlaces N k server totals noCounts (allSets K) ≡ map (λ cell. cell .1) (queryCells N K k server)
+  pub places-are : (totals : List ℕ) → totals ≡ totalsOf K k
+      → setsPlaces N k server totals noCounts (allSets K) ≡ map (λ cell. cell .1) (queryCells N K k server)
   unfolding walked
   places-are totals e = rw e (walked-is N K k server wide (asks .message) (asks .bounds .messages-high) (asks .server-low))
 
@@ -60,9 +62,11 @@ module _ (N K k server : ℕ) (asks : Asks N K k server) where
         let cells = queryCells N K k server in
         let at : i < length cells = omega (arith, length-map cells (λ cell. cell .1)) in
         let in-bounds = inside N K k wide (asks .message) server i (asks .server-low) at in
-        rw (messages-are, List·getD-map (λ cell. cell .0) cells i (0, 0), List·getD-map (λ cell. cell .1) cells i (0, 0), e) (digits-lt (in-bounds .0) (in-bounds .1));
+        rw (messages-are, List·getD-map (λ cell. cell .0) cells i (0, 0), List·getD-map (λ cell. cell .1) cells i (0, 0), e)
+        (digits-lt (in-bounds .0) (in-bounds .1));
   }
 
   pub entries-are : (key : List ℕ) → entries (N ^ K) key (positions N K) (map (λ cell. cell .1) (queryCells N K k server)) ≡ evenQuery N K k server key
   unfolding evenQuery
-  entries-are key = rw messages-are (entries-cells N K key (queryCells N K k server) (λ i h. inside N K k wide (asks .message) server i (asks .server-low) h .1))
+  entries-are key =
+      rw messages-are (entries-cells N K key (queryCells N K k server) (λ i h. inside N K k wide (asks .message) server i (asks .server-low) h .1))

@@ -30,7 +30,8 @@ fn place_in(
     rank: usize,
     number: usize,
 ) -> usize
-    requires { ⌜ Tables n wanted (now totals) (now taken) × (block < 8) × (p < 8) × (1 ≤ rows) × (placeIn n wanted (now totals) block p rows turn rank number < 256) ⌝ }
+    requires { ⌜ Tables n wanted (now totals) (now taken) × (block < 8) × (p < 8) × (1 ≤ rows)
+        × (placeIn n wanted (now totals) block p rows turn rank number < 256) ⌝ }
     ensures { λ r. ⌜ r ≡ placeIn n wanted (now (totals .entry)) block p rows turn rank number ⌝ }
 {
     n * taken[block * 8 + p]
@@ -48,7 +49,8 @@ fn place(
     o: Origin,
     p: usize,
 ) -> usize
-    requires { ⌜ Tables n wanted (now totals) (now taken) × OriginWithin o × (p < 8) × (p < length (now ranks)) × (placeOf n wanted (now totals) (now ranks) o p < 256) ⌝ }
+    requires { ⌜ Tables n wanted (now totals) (now taken) × OriginWithin o × (p < 8) × (p < length (now ranks))
+        × (placeOf n wanted (now totals) (now ranks) o p < 256) ⌝ }
     ensures { λ r. ⌜ r ≡ placeOf n wanted (now (totals .entry)) (now (ranks .entry)) o p ⌝ }
 {
     if p == wanted {
@@ -92,8 +94,11 @@ fn write_row(
     out: &mut [u8],
     at: usize,
 ) -> usize
-    requires { ⌜ Tables n wanted (now totals) (now taken) × OriginWithin o × (k ≤ 8) × (length (now ranks) ≡ k) × Below 256 (map (placeOf n wanted (now totals) (now ranks) o) (members 0 (setIn k set))) × (at + length (members 0 (setIn k set)) ≤ length (now out)) ⌝ }
-    ensures { λ r. ⌜ (r ≡ at + length (members 0 (setIn k set))) × (now (out .exit) ≡ put at (map (placeOf n wanted (now (totals .entry)) (now (ranks .entry)) o) (members 0 (setIn k set))) (now (out .entry))) ⌝ }
+    requires { ⌜ Tables n wanted (now totals) (now taken) × OriginWithin o × (k ≤ 8) × (length (now ranks) ≡ k)
+        × Below 256 (map (placeOf n wanted (now totals) (now ranks) o) (members 0 (setIn k set)))
+        × (at + length (members 0 (setIn k set)) ≤ length (now out)) ⌝ }
+    ensures { λ r. ⌜ (r ≡ at + length (members 0 (setIn k set)))
+        × (now (out .exit) ≡ put at (map (placeOf n wanted (now (totals .entry)) (now (ranks .entry)) o) (members 0 (setIn k set))) (now (out .entry))) ⌝ }
 {
     let mut rest = set;
     let mut end = at;
@@ -122,8 +127,11 @@ fn write_set(
     out: &mut [u8],
     at: usize,
 ) -> usize
-    requires { ⌜ Asks n k wanted server × Tables n wanted (now totals) (now taken) × Stands k set × (length (now ranks) ≡ k) × Below 256 (setPlaces n wanted server (now totals) (now ranks) (setIn k set)) × (at + length (setPlaces n wanted server (now totals) (now ranks) (setIn k set)) ≤ length (now out)) ⌝ }
-    ensures { λ r. ⌜ (r ≡ at + length (setPlaces n wanted server (now (totals .entry)) (now (ranks .entry)) (setIn k set))) × (now (out .exit) ≡ put at (setPlaces n wanted server (now (totals .entry)) (now (ranks .entry)) (setIn k set)) (now (out .entry))) ⌝ }
+    requires { ⌜ Asks n k wanted server × Tables n wanted (now totals) (now taken) × Stands k set × (length (now ranks) ≡ k)
+        × Below 256 (setPlaces n wanted server (now totals) (now ranks) (setIn k set))
+        × (at + length (setPlaces n wanted server (now totals) (now ranks) (setIn k set)) ≤ length (now out)) ⌝ }
+    ensures { λ r. ⌜ (r ≡ at + length (setPlaces n wanted server (now (totals .entry)) (now (ranks .entry)) (setIn k set)))
+        × (now (out .exit) ≡ put at (setPlaces n wanted server (now (totals .entry)) (now (ranks .entry)) (setIn k set)) (now (out .entry))) ⌝ }
 {
     let ones = u8::count_ones(set) as usize;
     let joins = origins::is_joined(wanted, set);
@@ -149,7 +157,9 @@ fn write_sets(
     sets: &[u8],
     out: &mut [u8],
 )
-    requires { ⌜ Asks n k wanted server × Tables n wanted (now totals) (now taken) × (now sets ≡ map byteOf (allSets k)) × Below 256 (setsPlaces n wanted server (now totals) noCounts (allSets k)) × (length (setsPlaces n wanted server (now totals) noCounts (allSets k)) ≤ length (now out)) ⌝ }
+    requires { ⌜ Asks n k wanted server × Tables n wanted (now totals) (now taken) × (now sets ≡ map byteOf (allSets k))
+        × Below 256 (setsPlaces n wanted server (now totals) noCounts (allSets k))
+        × (length (setsPlaces n wanted server (now totals) noCounts (allSets k)) ≤ length (now out)) ⌝ }
     ensures { λ _. ⌜ now (out .exit) ≡ put 0 (setsPlaces n wanted server (now (totals .entry)) noCounts (allSets k)) (now (out .entry)) ⌝ }
 {
     let mut counts = [0usize; 128];

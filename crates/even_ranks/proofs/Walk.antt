@@ -29,7 +29,8 @@ abbrev placesIn : List Row → List ℕ
 placesIn rs = map (λ e. e .1) (flatMap (cells 0) rs)
 
 -- a row's places, where each is known
-cells-are : (f : ℕ → ℕ) (q : ℕ) (r : Row) → ((p : ℕ) → has p (setOf r) ≡ true → getD r p none ≡ some (f (q + p))) → map (λ e. e .1) (cells q r) ≡ map f (members q (setOf r))
+cells-are : (f : ℕ → ℕ) (q : ℕ) (r : Row) → ((p : ℕ) → has p (setOf r) ≡ true → getD r p none ≡ some (f (q + p)))
+    → map (λ e. e .1) (cells q r) ≡ map f (members q (setOf r))
 unfolding cells members setOf isSome has
 cells-are f q [] g = refl
 cells-are f q (none ∷ r) g = cells-are f (suc q) r (λ p h. g (suc p) h ∙ ap (λ i. some (f i)) (omega arith))
@@ -39,7 +40,8 @@ cells-are f q (some x ∷ r) g = ap₂ (λ y l. y ∷ l) here (cells-are f (suc 
     here = let e : some x ≡ some (f (q + 0)) = g 0 refl in let d : x ≡ f (q + 0) = cc in d ∙ ap f (add-zero q)
 
 -- rows one after another, by number
-rows-are : (h : ℕ → List ℕ) (a : ℕ) (rs : List Row) → ((i : ℕ) → i < length rs → map (λ e. e .1) (cells 0 (getD rs i [])) ≡ h (a + i)) → placesIn rs ≡ flatMap h (range a (length rs))
+rows-are : (h : ℕ → List ℕ) (a : ℕ) (rs : List Row) → ((i : ℕ) → i < length rs → map (λ e. e .1) (cells 0 (getD rs i [])) ≡ h (a + i))
+    → placesIn rs ≡ flatMap h (range a (length rs))
 unfolding flatMap range
 rows-are h a [] g = refl
 rows-are h a (r ∷ rs) g =
@@ -60,7 +62,8 @@ countedAll-last k [] A counts = refl
 countedAll-last k (B ∷ D) A counts = countedAll-last k D A (setCounted k B counts)
 
 module _ (N K k n : ℕ) (wide : 1 < N) (wanted : k < K) (few : K ≤ 8) (server : n < N) where
-  set-is : (D L : List (List Bool)) (A : List Bool) → D ++ A ∷ L ≡ allSets K → setPlaces N k n (totalsOf K k) (cut (countersOf k A) (length A) (countedAll k D noCounts)) A ≡ placesIn (setRows N K k n A)
+  set-is : (D L : List (List Bool)) (A : List Bool) → D ++ A ∷ L ≡ allSets K
+      → setPlaces N k n (totalsOf K k) (cut (countersOf k A) (length A) (countedAll k D noCounts)) A ≡ placesIn (setRows N K k n A)
   unfolding setPlaces rowPlaces setRows
   set-is D L A split = sym (rows-are places 0 (setRows N K k n A) row ∙ ap (λ s. flatMap places (range 0 s)) size)
     where
@@ -100,7 +103,8 @@ module _ (N K k n : ℕ) (wide : 1 < N) (wanted : k < K) (few : K ≤ 8) (server
           cell : (p : ℕ) → has p A ≡ true → getD r p none ≡ some (f p)
           cell p g = cell-is N K k wide wanted few D L A split n server b i p many (omega (arith, size)) (omega (arith, has-low A p g, known .long)) g
 
-  walk-is : (D L : List (List Bool)) → D ++ L ≡ allSets K → setsPlaces N k n (totalsOf K k) (countedAll k D noCounts) L ≡ flatMap (λ A. placesIn (setRows N K k n A)) L
+  walk-is : (D L : List (List Bool)) → D ++ L ≡ allSets K
+      → setsPlaces N k n (totalsOf K k) (countedAll k D noCounts) L ≡ flatMap (λ A. placesIn (setRows N K k n A)) L
   unfolding setsPlaces flatMap
   walk-is D [] split = refl
   walk-is D (A ∷ L) split =
@@ -117,4 +121,7 @@ module _ (N K k n : ℕ) (wide : 1 < N) (wanted : k < K) (few : K ≤ 8) (server
       ∙ map-flatMap (λ e. e .1) (λ A. flatMap (cells 0) (setRows N K k n A)) (allSets K))
 
   pub walked-below : Below (N ^ K) (walked N K k n)
-  walked-below = rw walked-is (λ i h. rw (List·getD-map (λ e. e .1) (queryCells N K k n) i (0, 0)) (inside N K k wide wanted n i server (omega (arith, length-map (queryCells N K k n) (λ e. e .1))) .1))
+  walked-below =
+      rw walked-is
+      (λ i h. rw (List·getD-map (λ e. e .1) (queryCells N K k n) i (0, 0))
+      (inside N K k wide wanted n i server (omega (arith, length-map (queryCells N K k n) (λ e. e .1))) .1))

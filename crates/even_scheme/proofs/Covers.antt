@@ -19,7 +19,8 @@ use Rattle.even_places.specs.Rule.{has, onesIn}
 use Rattle.even_places.proofs.RowNumbers.{WantedRow}
 use Rattle.even_places.proofs.AllSets.{IsSet, all-sets}
 use Rattle.even_scheme.specs.Even.{entryAt, recoveredSymbol, wantedPlace, recoveredPart, serverParts, recoveredParts, evenScheme}
-use Rattle.even_scheme.proofs.Assembled.{Part, PartWithin, Covers}
+use Rattle.lists.specs.Assembled.{Part}
+use Rattle.lists.proofs.Assembled.{PartWithin, Covers}
 use Rattle.even_scheme.proofs.Once.{symbols-once}
 use Rattle.even_scheme.proofs.Symbols.{number-below}
 
@@ -39,7 +40,9 @@ module _ (sum : Sum) (N K S k : ℕ) (key : List ℕ) (answers : List (List ℕ)
       (All-range N (λ n l. All-flatMap (setParts n) (All-imp (λ A h. of-set n l A (h .0) (h .1)) (All-keep (has k) (all-sets K)))))
     where
       of-set : (n : ℕ) → n < N → (A : List Bool) → IsSet K A → has k A ≡ true → All P (setParts n A)
-      of-set n l A good in-set = All-map (part n A) (All-range ((N - 1) ^ (onesIn A - 1)) (λ i h. p n A i (record { server-below = l; set-good = good; in-set = in-set; row-below = h })))
+      of-set n l A good in-set =
+          All-map (part n A)
+          (All-range ((N - 1) ^ (onesIn A - 1)) (λ i h. p n A i (record { server-below = l; set-good = good; in-set = in-set; row-below = h })))
 
 -- each recovered symbol has its length
 abbrev pub Whole : Sum → ℕ → ℕ → ℕ → ℕ → List (List ℕ) → Type 0

@@ -50,4 +50,12 @@ table =
 pub examples : All Holds table
 unfolding Holds table evenQuery entryAt permutation queryCells keyOf range positions layout members
 examples =
-    allCons refl (allCons refl (allCons refl (allCons refl (allCons refl (allCons refl (allCons refl (allCons refl (allCons refl (allCons refl (allCons refl (allCons refl (allCons refl (allCons refl (allCons refl allNil))))))))))))))
+    allCons refl
+    (allCons refl
+    (allCons refl
+    (allCons refl
+    (allCons refl
+    (allCons refl
+    (allCons refl
+    (allCons refl
+    (allCons refl (allCons refl (allCons refl (allCons refl (allCons refl (allCons refl (allCons refl allNil))))))))))))))

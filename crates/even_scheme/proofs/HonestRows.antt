@@ -55,7 +55,8 @@ module _ (sum : Sum) (N K S : ℕ) (store key : List ℕ) where
       (ap (λ (l : List ℕ). rowTotal r ++ l) (rows-answered rs))
     where
       rest : drop (onesIn (setOf r)) (map cellNumber (cells 0 r) ++ map cellNumber (flatMap (cells 0) rs)) ≡ map cellNumber (flatMap (cells 0) rs)
-      rest = drop-at (map cellNumber (cells 0 r)) (map cellNumber (flatMap (cells 0) rs)) (onesIn (setOf r)) (length-map (cells 0 r) cellNumber ∙ cells-length 0 r)
+      rest = drop-at (map cellNumber (cells 0 r)) (map cellNumber (flatMap (cells 0) rs)) (onesIn (setOf r))
+          (length-map (cells 0 r) cellNumber ∙ cells-length 0 r)
 
   answer-rows : (k n : ℕ) → 1 < N → k < K → n < N → evenAnswer sum N K S store (evenQuery N K k n key) ≡ flatMap rowTotal (rows N K k n)
   unfolding evenAnswer evenQuery queryCells cellNumber
@@ -96,7 +97,8 @@ module _ (sum : Sum) (N K S k : ℕ) (store key : List ℕ) (run : Retrieval sum
       ≡ rowTotal sum N K S store key (getD (setRows N K k n A) i [])
   unfolding answeredRow honestAnswers rowTotal
   honest-row n l A i set-good h =
-      ap (cut ((firstRow A (layout N K) + i) * S) S) (mapped-at (λ m. evenAnswer sum N K S store (evenQuery N K k m key)) [] N n l ∙ answer-rows sum N K S store key k n (run .wide) (run .known) l)
+      ap (cut ((firstRow A (layout N K) + i) * S) S)
+      (mapped-at (λ m. evenAnswer sum N K S store (evenQuery N K k m key)) [] N n l ∙ answer-rows sum N K S store key k n (run .wide) (run .known) l)
       ∙ flatMap-cut (rowTotal sum N K S store key) S []
       (All-imp (λ r e. total-symbol sum S (run .group) (row-symbols r e) .long) (rows-long N K k (run .wide) (run .known) n l))
       (firstRow A (layout N K) + i) (number .0)

@@ -29,7 +29,7 @@ use Rattle.even_places.proofs.Rows.{below, below-lt, hit, is}
 use Rattle.even_places.proofs.Totals.{wanted-once}
 use Rattle.even_places.proofs.AllSets.{IsSet, all-sets}
 use Rattle.even_scheme.specs.Even.{permutation, entryAt, wantedPlace, recoveredPart, serverParts, recoveredParts, evenScheme}
-use Rattle.even_scheme.proofs.Assembled.{Part}
+use Rattle.lists.specs.Assembled.{Part}
 use Rattle.even_scheme.proofs.Keys.{key-permutation}
 use Rattle.even_scheme.proofs.Recovery.{wanted-place}
 
@@ -48,7 +48,8 @@ module _ (sums : Sum) (N K S k : ℕ) where
   module _ (wide : 1 < N) (known : k < K) (v : ℕ) where
     set-times : (n : ℕ) → n < N → (A : List Bool) → IsSet K A → bit (has k A) * times v (setPlaces n A) ≡ sum (hit k v) (setRows N K k n A)
     unfolding bit times setPlaces hit is
-    set-times n l A good = go (has k A) refl ∙ sym (sum-at (hit k v) [] (setRows N K k n A) ∙ ap (λ (m : ℕ). sum hits (range 0 m)) (setRows-length N K k wide known n l A good))
+    set-times n l A good =
+        go (has k A) refl ∙ sym (sum-at (hit k v) [] (setRows N K k n A) ∙ ap (λ (m : ℕ). sum hits (range 0 m)) (setRows-length N K k wide known n l A good))
       where
         q : ℕ
         q = (N - 1) ^ (onesIn A - 1)
@@ -62,7 +63,8 @@ module _ (sums : Sum) (N K S k : ℕ) where
             ∙ sum-map (λ x. bit (eqb x v)) (wantedPlace sums N K S k n A) (range 0 q)
             ∙ sum-range (λ i. bit (eqb (wantedPlace sums N K S k n A i) v)) hits q (λ i h.
             let place = row-some N K k wide known n l A i k good h e in
-            ap (λ (x : ℕ). bit (eqb x v)) (wanted-place sums N K S k wide known n A i (place .0) (record { server-below = l; set-good = good; in-set = e; row-below = h }) (place .1))
+            ap (λ (x : ℕ). bit (eqb x v))
+            (wanted-place sums N K S k wide known n A i (place .0) (record { server-below = l; set-good = good; in-set = e; row-below = h }) (place .1))
             ∙ sym (ap (is v) (place .1)))
         go false e =
             zero-mul (times v (setPlaces n A))
@@ -100,7 +102,8 @@ module _ (sums : Sum) (N K S k : ℕ) where
       long : length recoveredPlaces ≡ N ^ K
       long =
           sym (stands-count (N ^ K) recoveredPlaces (allBelow-below (N ^ K) recoveredPlaces small) apart)
-          ∙ sum-range (λ v. bit (stands v recoveredPlaces)) (λ v. 1) (N ^ K) (λ v h. sym (stands-times v recoveredPlaces apart) ∙ places-times wide known v ∙ below-lt v (N ^ K) h)
+          ∙ sum-range (λ v. bit (stands v recoveredPlaces)) (λ v. 1) (N ^ K)
+          (λ v h. sym (stands-times v recoveredPlaces apart) ∙ places-times wide known v ∙ below-lt v (N ^ K) h)
           ∙ sum-one (range 0 (N ^ K))
           ∙ range-length 0 (N ^ K)
 
@@ -118,7 +121,8 @@ module _ (sums : Sum) (N K S k : ℕ) where
         ∙ ap (λ g. flatMap g (range 0 N)) (fun-ext of-server)
         ∙ sym (map-flatMap offset serverPlaces (range 0 N))
       where
-        of-set : (n : ℕ) (A : List Bool) → map start (map (recoveredPart sums N K S k key answers n A) (range 0 ((N - 1) ^ (onesIn A - 1)))) ≡ map offset (setPlaces n A)
+        of-set : (n : ℕ) (A : List Bool)
+            → map start (map (recoveredPart sums N K S k key answers n A) (range 0 ((N - 1) ^ (onesIn A - 1)))) ≡ map offset (setPlaces n A)
         of-set n A =
             map-map start (recoveredPart sums N K S k key answers n A) (range 0 ((N - 1) ^ (onesIn A - 1)))
             ∙ sym (map-map offset (wantedPlace sums N K S k n A) (range 0 ((N - 1) ^ (onesIn A - 1))))
@@ -131,11 +135,13 @@ module _ (sums : Sum) (N K S k : ℕ) where
 
 -- from answers of any contents: no symbol of the message is left out, and none is written twice
 pub symbols-once : (sums : Sum) (N K S wanted : ℕ) (key : List ℕ) (answers : List (List ℕ)) → 1 < N → wanted < K → Valid (evenScheme sums N K S) key
-    → (numbers : List ℕ) × Permutation (N ^ K) numbers × (map (λ part. part .0) (recoveredParts sums N K S wanted key answers) ≡ map (λ number. number * S) numbers)
+    → (numbers : List ℕ) × Permutation (N ^ K) numbers
+    × (map (λ part. part .0) (recoveredParts sums N K S wanted key answers) ≡ map (λ number. number * S) numbers)
 unfolding picked entryAt start offset
 symbols-once sums N K S wanted key answers wide known valid = (
   picked (permutation N K key wanted) places,
-  picked-permutation (N ^ K) (permutation N K key wanted) places (key-permutation sums N K S key valid wanted known) (places-permutation sums N K S wanted wide known),
+  picked-permutation (N ^ K) (permutation N K key wanted) places (key-permutation sums N K S key valid wanted known)
+      (places-permutation sums N K S wanted wide known),
   parts-start sums N K S wanted key answers ∙ sym (map-map (λ number. number * S) (entryAt N K key wanted) places),
 )
   where

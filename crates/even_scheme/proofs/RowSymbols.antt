@@ -55,11 +55,13 @@ around q (suc k) x (some y ∷ r) e =
       without = ap (λ (l : List (ℕ × ℕ)). (q, y) ∷ l) (rest .without);
     }
 
-symbols-split : {size : ℕ} (xs : List (List ℕ)) {x : List ℕ} {ys : List (List ℕ)} → Symbols size (xs ++ x ∷ ys) → Symbols size xs × Symbol size x × Symbols size ys
+symbols-split : {size : ℕ} (xs : List (List ℕ)) {x : List ℕ} {ys : List (List ℕ)} → Symbols size (xs ++ x ∷ ys)
+    → Symbols size xs × Symbol size x × Symbols size ys
 symbols-split [] (more p ps) = (none, p, ps)
 symbols-split (y ∷ xs) (more p ps) = let rest = symbols-split xs ps in (more p (rest .0), rest .1, rest .2)
 
-module _ (sum : Sum) (N K S k : ℕ) (store key : List ℕ) (run : Retrieval sum N K S k store key) (r : Row) (x : ℕ) (long : length r ≡ K) (place : getD r k none ≡ some x) where
+module _ (sum : Sum) (N K S k : ℕ) (store key : List ℕ) (run : Retrieval sum N K S k store key) (r : Row) (x : ℕ) (long : length r ≡ K)
+    (place : getD r k none ≡ some x) where
   around-wanted : Around 0 k x r
   around-wanted = around 0 k x r place
 

@@ -49,7 +49,8 @@ module _ (sum : Sum) (N K S : ℕ) (store : List ℕ) (long : length store ≡ K
 
   pub symbol-symbol : Below 256 store → Symbol S (symbolAt sum N K S store p i)
   unfolding symbolAt
-  symbol-symbol bytes = record { long = symbol-long; bytes = below-take 256 S (drop ((p * N ^ K + i) * S) store) (below-drop 256 ((p * N ^ K + i) * S) store bytes) }
+  symbol-symbol bytes =
+      record { long = symbol-long; bytes = below-take 256 S (drop ((p * N ^ K + i) * S) store) (below-drop 256 ((p * N ^ K + i) * S) store bytes) }
 
   -- symbol i of message p is that part of the message
   pub symbol-part : symbolAt sum N K S store p i ≡ cut (i * S) S (cut (p * (N ^ K * S)) (N ^ K * S) store)

@@ -13,7 +13,8 @@ use Rattle.even_layout.proofs.first_rows.Statement.{statement}
 use Rattle.even_layout.proofs.first_rows.Tie as tie
 
 abbrev Inv-loop : tie.InvT-loop
-Inv-loop n k sets count firsts₀ row₀ i₀ firsts row i = (i ≤ count) × (length firsts ≡ 256) × (row ≤ 256 * i) × (filled n row (drop i (allSets k)) firsts ≡ filled n 0 (allSets k) firsts₀)
+Inv-loop n k sets count firsts₀ row₀ i₀ firsts row i =
+    (i ≤ count) × (length firsts ≡ 256) × (row ≤ 256 * i) × (filled n row (drop i (allSets k)) firsts ≡ filled n 0 (allSets k) firsts₀)
 
 abbrev μ-loop : tie.MeasureT-loop
 μ-loop n k sets count firsts₀ row₀ i₀ firsts row i = count - i
@@ -43,7 +44,8 @@ cast-firsts c =
     let k = start .args .k in
     let i = at .loop .i in
     let inside : i < length (allSets k) = omega (arith, at .before .power .ensures, all-length k) in
-    let s = byte-at n k i (at .before .before .ordered-sets .result) (replicate (256 - length (allSets k)) 0) (start .pre) (at .before .before .ordered-sets .ensures) inside in
+    let s = byte-at n k i (at .before .before .ordered-sets .result) (replicate (256 - length (allSets k)) 0) (start .pre)
+    (at .before .before .ordered-sets .ensures) inside in
     omega (arith, s .small)
 
 mul-firsts : tie.Need-mul-firsts Inv-loop μ-loop
@@ -54,7 +56,8 @@ mul-firsts c =
     let k = start .args .k in
     let i = at .loop .i in
     let inside : i < length (allSets k) = omega (arith, at .before .power .ensures, all-length k) in
-    let s = byte-at n k i (at .before .before .ordered-sets .result) (replicate (256 - length (allSets k)) 0) (start .pre) (at .before .before .ordered-sets .ensures) inside in
+    let s = byte-at n k i (at .before .before .ordered-sets .result) (replicate (256 - length (allSets k)) 0) (start .pre)
+    (at .before .before .ordered-sets .ensures) inside in
     omega (arith, s .small)
 
 array-write-firsts : tie.Need-array-write-firsts Inv-loop μ-loop
@@ -65,7 +68,8 @@ array-write-firsts c =
     let k = start .args .k in
     let i = at .loop .i in
     let inside : i < length (allSets k) = omega (arith, at .before .power .ensures, all-length k) in
-    let s = byte-at n k i (at .before .before .ordered-sets .result) (replicate (256 - length (allSets k)) 0) (start .pre) (at .before .before .ordered-sets .ensures) inside in
+    let s = byte-at n k i (at .before .before .ordered-sets .result) (replicate (256 - length (allSets k)) 0) (start .pre)
+    (at .before .before .ordered-sets .ensures) inside in
     omega (arith, s .small)
 
 rows-of-requires : tie.Need-rows-of-requires Inv-loop μ-loop
@@ -76,7 +80,8 @@ rows-of-requires c κs =
     let k = start .args .k in
     let i = at .loop .i in
     let inside : i < length (allSets k) = omega (arith, at .before .power .ensures, all-length k) in
-    let s = byte-at n k i (at .before .before .ordered-sets .result) (replicate (256 - length (allSets k)) 0) (start .pre) (at .before .before .ordered-sets .ensures) inside in
+    let s = byte-at n k i (at .before .before .ordered-sets .result) (replicate (256 - length (allSets k)) 0) (start .pre)
+    (at .before .before .ordered-sets .ensures) inside in
     (omega (arith, start .pre .servers-low), s .some, omega (arith, s .rows, s .high))
 
 add-row : tie.Need-add-row Inv-loop μ-loop
@@ -87,7 +92,8 @@ add-row c =
     let k = start .args .k in
     let i = at .loop .i in
     let inside : i < length (allSets k) = omega (arith, at .before .power .ensures, all-length k) in
-    let s = byte-at n k i (at .before .before .ordered-sets .result) (replicate (256 - length (allSets k)) 0) (start .pre) (at .before .before .ordered-sets .ensures) inside in
+    let s = byte-at n k i (at .before .before .ordered-sets .result) (replicate (256 - length (allSets k)) 0) (start .pre)
+    (at .before .before .ordered-sets .ensures) inside in
     omega (arith, c .rows-of .ensures, s .rows, s .high, subsets-few k (start .pre .messages-high), at .before .power .ensures)
 
 add-i : tie.Need-add-i Inv-loop μ-loop
@@ -104,7 +110,8 @@ loop-again c =
     let k = start .args .k in
     let i = at .loop .i in
     let inside : i < length (allSets k) = omega (arith, at .before .power .ensures, all-length k) in
-    let s = byte-at n k i (at .before .before .ordered-sets .result) (replicate (256 - length (allSets k)) 0) (start .pre) (at .before .before .ordered-sets .ensures) inside in
+    let s = byte-at n k i (at .before .before .ordered-sets .result) (replicate (256 - length (allSets k)) 0) (start .pre)
+    (at .before .before .ordered-sets .ensures) inside in
     let A = getD (allSets k) i [] in
     let rows : c .rows-of .result ≡ rowsOf n A = c .rows-of .ensures ∙ s .rows in (
       omega arith,

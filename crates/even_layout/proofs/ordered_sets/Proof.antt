@@ -76,7 +76,8 @@ loop-again c =
     let inside : i < length (allSets k) = omega (arith, first .ensures, all-length k) in
     let next : drop i bytes ≡ getD bytes i 0 ∷ drop (i + 1) bytes = rw (add-one i) (drop-cons bytes i 0 (omega (arith, length-map (allSets k) byteOf))) in
     let read =
-    ap₂ (λ (rows : List (List ℕ)) (n : ℕ). getD (getD rows ((n + i) / 8) []) ((n + i) % 8) 0) (table .ensures) (first .ensures) ∙ listed-entry k i [] (start .pre) inside in
+    ap₂ (λ (rows : List (List ℕ)) (n : ℕ). getD (getD rows ((n + i) / 8) []) ((n + i) % 8) 0) (table .ensures) (first .ensures)
+    ∙ listed-entry k i [] (start .pre) inside in
     (omega arith, pending-as refl refl (ap (set (at .loop .sets) i) read) (pending-byte (rw next at (at .loop .inv .1))))
 
 returns : tie.Need-returns Inv-loop μ-loop

@@ -47,7 +47,8 @@ rows-of-requires c κs =
     let k = start .args .k in
     let i = at .loop .i in
     let inside : i < length (allSets k) = omega (arith, at .before .power .ensures, all-length k) in
-    let s = byte-at n k i (at .before .before .ordered-sets .result) (replicate (256 - length (allSets k)) 0) (start .pre) (at .before .before .ordered-sets .ensures) inside in
+    let s = byte-at n k i (at .before .before .ordered-sets .result) (replicate (256 - length (allSets k)) 0) (start .pre)
+    (at .before .before .ordered-sets .ensures) inside in
     (omega (arith, start .pre .servers-low), s .some, omega (arith, s .rows, s .high))
 
 slice-aggregate-write-rows : tie.Need-slice-aggregate-write-rows Inv-loop μ-loop
@@ -61,8 +62,11 @@ write-rows-requires c κs =
     let k = start .args .k in
     let i = at .loop .i in
     let inside : i < length (allSets k) = omega (arith, at .before .power .ensures, all-length k) in
-    let s = byte-at n k i (at .before .before .ordered-sets .result) (replicate (256 - length (allSets k)) 0) (start .pre) (at .before .before .ordered-sets .ensures) inside in
-    let rows = set-positions n k (getD (at .before .before .ordered-sets .result) i 0) (c .before .rows-of .result) (getD (allSets k) i []) s (c .before .rows-of .ensures) in
+    let s = byte-at n k i (at .before .before .ordered-sets .result) (replicate (256 - length (allSets k)) 0) (start .pre)
+    (at .before .before .ordered-sets .ensures) inside in
+    let rows =
+    set-positions n k (getD (at .before .before .ordered-sets .result) i 0) (c .before .rows-of .result) (getD (allSets k) i []) s
+    (c .before .rows-of .ensures) in
     let p = rw (positions-more n k i inside) at (at .loop .inv .1) in
     let many = length-append (setPositions n (getD (allSets k) i [])) (positionsFrom n k (i + 1)) in
     (start .pre .messages-high, omega (arith, p .room, ap length rows))
@@ -81,13 +85,16 @@ loop-again c =
     let k = start .args .k in
     let i = at .loop .i in
     let inside : i < length (allSets k) = omega (arith, at .before .power .ensures, all-length k) in
-    let s = byte-at n k i (at .before .before .ordered-sets .result) (replicate (256 - length (allSets k)) 0) (start .pre) (at .before .before .ordered-sets .ensures) inside in
+    let s = byte-at n k i (at .before .before .ordered-sets .result) (replicate (256 - length (allSets k)) 0) (start .pre)
+    (at .before .before .ordered-sets .ensures) inside in
     let called = c .before .before .before .rows-of in
     let A = getD (allSets k) i [] in
     let rows = set-positions n k (getD (at .before .before .ordered-sets .result) i 0) (called .result) A s (called .ensures) in
     let p = rw (positions-more n k i inside) at (at .loop .inv .1) in
-    let written = c .before .write-rows in
-    (omega arith, pending-as (rw rows at (written .ensures .0)) refl (rw rows at (written .ensures .1)) (pending-part (setPositions n A) (positionsFrom n k (i + 1)) p))
+    let written = c .before .write-rows in (
+      omega arith,
+      pending-as (rw rows at (written .ensures .0)) refl (rw rows at (written .ensures .1)) (pending-part (setPositions n A) (positionsFrom n k (i + 1)) p),
+    )
 
 returns : tie.Need-returns Inv-loop μ-loop
 returns c =
