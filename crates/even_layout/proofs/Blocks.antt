@@ -1,4 +1,5 @@
--- How many sets there are, and the table of the sets of each number of messages: its part from 2^K on is the sets of K messages.
+-- How many sets there are (`all-length`), and the table of the sets of each number of messages: its part from 2^K on is the sets of K
+-- messages (`listed-entry`).
 use mathlib.Core.Path.{_≡_, refl, sym, ap, _∙_}
 use mathlib.Core.List.{List, map, flatMap}
 use Prim.Native.Nat.{ℕ, zero, suc, _+_, _-_, _*_, _/_, _%_, _^_, _≤_, _<_}

@@ -1,4 +1,5 @@
--- Single steps of the loops that write bytes: one of a set's members more, and one row more.
+-- Single steps of the loops that write bytes: one of a set's members more (`members-kept`, `members-skipped`), and one row more
+-- (`rows-more`).
 use mathlib.Core.Path.{_≡_}
 use mathlib.Core.List.{List, _∷_, _++_, flatMap}
 use mathlib.Core.Bool.{Bool}

@@ -1,4 +1,5 @@
--- The table of first rows: filled set by set, each set once, it holds at a set's byte the number of the set's first row (`filled-firsts`).
+-- The table of first rows: filled set by set, each set once, it holds at a set's byte the number of the set's first row
+-- (`filled-firsts`, `first-rows-at`). Rests on the layout by sets (AllSets of even_places).
 use mathlib.Core.Path.{_≡_, refl, sym, ap, ap₂, _∙_}
 use mathlib.Core.Logic.{_≢_}
 use mathlib.Core.List.{List, [], _∷_, _++_, map, flatMap}

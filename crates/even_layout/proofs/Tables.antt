@@ -1,4 +1,5 @@
--- The sets of a query one by one: their bytes, how many rows each has, and the layout and the positions as made from them.
+-- The sets of a query one by one: their bytes (`byte-at`), how many rows each has, and the layout and the positions as made from them
+-- (`set-positions`, `positions-more`).
 use mathlib.Core.Path.{_≡_, refl, sym, ap, ap₂, _∙_}
 use mathlib.Core.List.{List, [], _∷_, _++_, map, flatMap}
 use mathlib.Core.Bool.{Bool, true, false}

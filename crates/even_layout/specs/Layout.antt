@@ -1,4 +1,5 @@
--- The layout of an even query as tables (document 01, 'Even code'; source 003, section IV-B): what the steps of this crate write, and the table of first rows.
+-- The layout of an even query as tables (document 01, 'Even code'; source 003, section IV-B): what the steps of this crate write, and
+-- the table of first rows.
 use Prim.Native.Nat.{ℕ, zero, suc, _+_, _-_, _*_, _/_, _%_, _^_, _≤_}
 use mathlib.Core.Bool.{Bool, cond, _&&_}
 use mathlib.Core.List.{List, [], _∷_, _++_, map, flatMap}

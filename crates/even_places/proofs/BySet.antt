@@ -1,4 +1,5 @@
--- Rows sorted by set: each row's set is one of the sets of its size, once, so that no row is lost (`bySet-sum`).
+-- Rows sorted by set: each row's set is one of the sets of its size, once, so that no row is lost and a sum over the rows by set goes
+-- over the rows (`bySet-sum`). Rests on the laws of sets of one size (Choose).
 use Prim.Native.Nat.{ℕ, zero, suc, _*_}
 use native.Mathlib.Nat.{zero-add, mul-one, mul-comm, add-comm}
 use native.Mathlib.Numerals.{add-one}

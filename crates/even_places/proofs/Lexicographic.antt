@@ -1,4 +1,5 @@
--- The sets of a block are in lexicographic order of their ascending lists of messages (`sets-ordered`).
+-- The sets of a block are in lexicographic order of their ascending lists of messages, as document 01 asks (`sets-ordered`). Sets with
+-- the first message come before those without it, and both parts are ordered.
 use Prim.Native.Nat.{ℕ, zero, suc, _<_}
 use native.Mathlib.Omega.{arith}
 use mathlib.Core.Path.{_≡_, refl}

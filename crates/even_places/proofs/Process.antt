@@ -199,8 +199,11 @@ module _ (N K k : ℕ) (wide : 1 < N) (known : k < K) where
   -- a query lists what the process made for its server
   pub rows-by-counting : (n : ℕ) → n < N → rows N K k n ≡ countedRows N K k n
   unfolding rows countedRows block madeBy counted
-  rows-by-counting n there = flatMap-all _ _ (All-range K (λ b h. ap (λ (made : TurnRows). bySet (sets K (suc b)) (made .side ++ made .wanted)) (made-at b h)))
+  rows-by-counting n there = flatMap-all _ _ (All-range K (λ b h. ap (listed b) (made-at b h)))
     where
+      listed : ℕ → TurnRows → List Row
+      listed b made = bySet (sets K (suc b)) (made .side ++ made .wanted)
+
       made-at : (b : ℕ) → b < K → madeBy N K k b n ≡ counted b n
       made-at b h =
           ap (λ (all : List (List TurnRows)). getD (getD all b []) n idle) process-is

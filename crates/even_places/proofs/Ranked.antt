@@ -1,5 +1,6 @@
--- How sets stand among the others of their block: the sets without k of one block are those with k of the next, in order, without k;
--- all sets of one size among all sets; and what stands before a set in a list that has it once.
+-- How sets stand among the others of their block: the sets without k of one block are those with k of the next, in order, without k
+-- (`taken-out`); all sets of one size among all sets (`of-block`); and what stands before a set in a list that has it once
+-- (`before-seam`).
 use Prim.Native.Nat.{ℕ, zero, suc, _+_, _-_, _≤_, _<_}
 use native.Mathlib.Nat.{not-suc-le-zero}
 use native.Mathlib.Omega.{arith}

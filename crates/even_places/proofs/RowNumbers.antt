@@ -1,4 +1,5 @@
--- A query's rows by their numbers: row i of set A is row `firstRow A (layout N K) + i` of each server's query.
+-- A query's rows by their numbers: a query goes by its sets (`rows-by-set`), and row i of set A is row `firstRow A (layout N K) + i`
+-- of each server's query (`row-number`). Rests on the counted rows (Process) and the runs of a layout (SetRuns).
 use Prim.Native.Nat.{ℕ, suc, _+_, _-_, _^_, _<_}
 use native.Mathlib.Nat.{one-le-pow}
 use native.Mathlib.Omega.{arith}

@@ -1,4 +1,5 @@
--- Laws of rows: what numbering and joining do to the number of times that place v of message p stands in a list of rows.
+-- Laws of rows: numbering gives each message's places one after another (`number-hit`), and so does joining for the wanted message
+-- (`join-hit`); how many rows have a message (`number-gives`, `join-gives`).
 use Prim.Native.Nat.{ℕ, zero, suc, _+_, _*_, _≤_, _<_}
 use native.Mathlib.Nat.{zero-add, add-zero, zero-mul, one-mul, add-mul, not-suc-le-zero}
 use native.Mathlib.Omega.{arith}

@@ -1,4 +1,5 @@
--- Rows that go by set, q B of them for each set B in turn: row i of set A is row `firstRow A + i` of all.
+-- Rows that go by set, q B of them for each set B in turn: row i of set A is row `firstRow A + i` of all (`numbered`). For any list of
+-- sets that has A.
 use Prim.Native.Nat.{ℕ, zero, suc, _+_, _<_}
 use native.Mathlib.Nat.{zero-add, not-suc-le-zero}
 use native.Mathlib.Omega.{arith}

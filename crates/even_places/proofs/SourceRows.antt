@@ -1,5 +1,6 @@
--- The row that a wanted row is joined from, by number: row i of set A at server n, where A has k and another message, is without k
--- the row i % q of the set without k at the other server whose turn is i / q, where q = (N-1)^(b-1) and A's block is b, counted from 0.
+-- The row that a wanted row is joined from, by number (`source-row`): row i of set A at server n, where A has k and another message,
+-- is without k the row i % q of the set without k at the other server whose turn is i / q, where q = (N-1)^(b-1) and A's block is b,
+-- counted from 0.
 use Prim.Native.Nat.{ℕ, suc, _-_, _/_, _%_, _^_, _<_}
 use native.Mathlib.Nat.{mod-lt, div-add-mod', div-lt-iff-lt-mul, pow-succ', one-le-pow}
 use native.Mathlib.Omega.{arith}

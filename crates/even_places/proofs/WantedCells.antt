@@ -1,5 +1,5 @@
--- Where the wanted message stands in a query: in row i of set A its position is that of the set's first cell, and i rows of A's
--- messages, and A's messages before it. The cell there has the place that the row gives the wanted message.
+-- Where the wanted message stands in a query (`wanted-cell`): in row i of set A its position is that of the set's first cell, and i
+-- rows of A's messages, and A's messages before it. The cell there has the place that the row gives the wanted message.
 use Prim.Native.Nat.{ℕ, zero, suc, _+_, _-_, _*_, _^_, _<_}
 use native.Mathlib.Nat.{zero-add, add-zero, suc-mul, mul-le-mul-right}
 use native.Mathlib.Omega.{arith}

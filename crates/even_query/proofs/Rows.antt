@@ -1,4 +1,5 @@
--- One row more of a set, and one set more: what is still to be written of a query's places.
+-- One row more of a set (`row-turn`), and one set more (`set-turn`): what is still to be written of a query's places. Rests on the
+-- definitions by set (even_ranks/specs/Walk.antt).
 use Prim.Native.Nat.{ℕ, suc, _+_, _-_, _/_, _%_, _^_, _≤_, _<_}
 use native.Mathlib.Nat.{sub-zero, add-sub-cancel-left}
 use native.Mathlib.Numerals.{add-one}

@@ -1,4 +1,5 @@
--- What the steps of a query rest on: a place read off the tables, a row's origin by its set's byte, and one row or set more.
+-- What the steps of a query rest on: a place read off the tables (`place-read`), a row's origin by its set's byte (`origin-byte`), and
+-- one row or set more.
 use Prim.Native.Nat.{ℕ, suc, _+_, _-_, _*_, _/_, _%_, _^_, _≤_, _<_}
 use native.Mathlib.Nat.{one-mul, mul-le-mul, one-le-pow, pow-succ', div-lt-iff-lt-mul}
 use native.Mathlib.Omega.{arith}

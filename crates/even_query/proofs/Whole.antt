@@ -1,4 +1,5 @@
--- The whole query: the places that are written are the rule's, and the key's entries for them are the query of the scheme.
+-- The whole query: the places that are written are the rule's (`places-are`), and the key's entries for them are the query of the
+-- scheme (`entries-are`).
 use Prim.Native.Nat.{ℕ, suc, _-_, _*_, _^_, _≤_, _<_}
 use native.Mathlib.Omega.{arith}
 use mathlib.Core.Path.{_≡_, refl, sym, ap₂, _∙_}

@@ -1,4 +1,5 @@
--- The place that the counters give to each message of a row is the one that the rule gives it.
+-- The place that the counters give to each message of a row is the one that the rule gives it (`cell-is`). Rests on the places in
+-- closed form (Closed of even_places) and on what the counters tell (Ranking).
 use Prim.Native.Nat.{ℕ, zero, suc, _+_, _-_, _*_, _/_, _%_, _^_, _≤_, _<_}
 use native.Mathlib.Nat.{pow-zero, pow-succ', one-le-pow, div-add-mod', div-lt-iff-lt-mul, mod-lt}
 use native.Mathlib.Omega.{arith}

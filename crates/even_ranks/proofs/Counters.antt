@@ -1,4 +1,5 @@
--- What the counters hold: for each block, kind and message how many of the counted sets have the message.
+-- What the counters hold: for each block, kind and message how many of the counted sets have the message (`counts-tell`). Rests on
+-- where a set's counters lie (`room`).
 use Prim.Native.Nat.{ℕ, suc, _+_, _-_, _*_, _≤_, _<_}
 use native.Mathlib.Nat.{zero-mul, one-mul}
 use native.Mathlib.Omega.{arith}

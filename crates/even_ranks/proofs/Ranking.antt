@@ -1,4 +1,5 @@
--- The counters before a set are its ranks, and the counters of all sets the numbers of places, in the closed forms of the rule.
+-- The counters before a set are its ranks (`rank-side`, `rank-wanted`), and the counters of all sets the numbers of places
+-- (`side-total`, `wanted-total`), in the closed forms of the rule.
 use Prim.Native.Nat.{ℕ, zero, suc, _-_, _*_, _^_, _≤_, _<_}
 use native.Mathlib.Nat.{mul-assoc, pow-zero, pow-succ'}
 use native.Mathlib.Omega.{arith}

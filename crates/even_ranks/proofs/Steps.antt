@@ -1,4 +1,5 @@
--- One turn more of each loop: of counting a set's messages, and of adding up what was taken; and bounds on both.
+-- One turn more of each loop: of counting a set's messages (`counts-more`, `counted-more`), and of adding up what was taken
+-- (`taken-more`, `table-more`); and bounds on both (`taken-small`).
 use Prim.Native.Nat.{ℕ, zero, suc, _+_, _-_, _*_, _/_, _%_, _^_, _≤_, _<_}
 use native.Mathlib.Nat.{add-zero, add-suc, suc-add, add-sub-cancel-left, sub-self, sub-zero, add-comm}
 use native.Mathlib.Nat.{not-suc-le-zero, mul-le-mul, pow-le-pow-left, pow-le-pow-right, mod-lt}

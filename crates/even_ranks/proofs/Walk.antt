@@ -1,4 +1,5 @@
--- The walk over the sets with counters writes the places of the rule: `walked-is`, for all N, K, k and servers.
+-- The walk over the sets with counters writes the places of the rule (`walked-is`), for all N, K, k and servers. Rests on the place of
+-- each cell (Cells) and on a query's rows by set (`rows-by-set` of even_places).
 use Prim.Native.Nat.{ℕ, suc, _+_, _-_, _^_, _≤_, _<_}
 use native.Mathlib.Nat.{zero-add, add-zero}
 use native.Mathlib.Omega.{arith}

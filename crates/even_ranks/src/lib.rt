@@ -1,4 +1,5 @@
-// The sets of an even query counted, and the places that follow from the counts without search. A set of messages is one byte, bit p for message p.
+// The sets of an even query counted, and the places that follow from the counts without search.
+// A set of messages is one byte, bit p for message p.
 ghost use mathlib.Core.Path.{_≡_};
 ghost use mathlib.Core.List.{map};
 ghost use Prim.Native.Nat.{_-_, _%_, _/_, _^_, _≤_, _<_};

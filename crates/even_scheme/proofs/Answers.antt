@@ -1,4 +1,5 @@
--- An answer has one symbol for each row of the query, so it fills its slot.
+-- An answer has one symbol for each row of the query (`answer-length`), so it fills its slot (`answer-fits`). Rests on the number of
+-- rows of a layout (`layout-length`).
 use mathlib.Core.Path.{_≡_, sym, ap, _∙_}
 use mathlib.Core.Bool.{Bool, true, false}
 use mathlib.Core.List.{List, [], _∷_, zipWith}

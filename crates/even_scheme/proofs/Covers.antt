@@ -1,4 +1,5 @@
--- The recovered parts lie within the message and cover it, as they are its symbols, each once.
+-- The recovered parts lie within the message (`parts-within`) and cover it (`parts-cover`), as they are its symbols, each once
+-- (`symbols-once` in Once).
 use mathlib.Core.Path.{_≡_, sym, ap, _∙_}
 use mathlib.Core.Bool.{Bool, true}
 use mathlib.Core.List.{List, [], map}

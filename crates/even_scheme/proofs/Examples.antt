@@ -1,5 +1,5 @@
 -- The tables of source 003 for N = 2, K = 2 and N = 3, K = 3 (sections IV-A and IV-C), from the definitions by computation: one table
--- with one theorem.
+-- with one theorem (`examples`).
 use mathlib.Core.Path.{_≡_, refl}
 use mathlib.Core.List.{List, [], _∷_, map}
 use Prim.Native.Nat.{ℕ, suc, _-_, _^_}

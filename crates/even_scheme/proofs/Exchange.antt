@@ -1,5 +1,6 @@
 -- The exchange of keys: for two wanted messages, the key that shows a server for one what a key shows it for the other. It keeps
--- validity, is undone by the opposite exchange, and shows the same query: a server learns nothing of the wanted message.
+-- validity (`exchange-valid`), is undone by the opposite exchange (`exchange-back`), and shows the same query (`exchange-shown`): a
+-- server learns nothing of the wanted message.
 use Prim.Native.Nat.{ℕ, _^_, _<_}
 use mathlib.Core.Path.{_≡_, sym, ap, _∙_}
 use mathlib.Core.Bool.{true}

@@ -1,4 +1,5 @@
--- What the honest servers answer: for each row of the query the total of the symbols that its places name through the key.
+-- What the honest servers answer: for each row of the query the total of the symbols that its places name through the key
+-- (`honest-row`). Rests on the sets of a query's rows, which the server knows.
 use mathlib.Core.Path.{_≡_, refl, sym, ap, _∙_}
 use mathlib.Core.Bool.{Bool}
 use mathlib.Core.List.{List, [], _∷_, _++_, map, map-append, flatMap, zipWith}

@@ -1,4 +1,5 @@
--- Recovery writes each symbol of the message once: its parts begin at the symbols of a permutation of all of them.
+-- Recovery writes each symbol of the message once: its parts begin at the symbols of a permutation of all of them (`symbols-once`).
+-- Rests on the places of the wanted message, each of which stands once in all queries together (`wanted-once`).
 use mathlib.Core.Path.{_≡_, refl, sym, ap, _∙_, fun-ext}
 use mathlib.Core.Bool.{Bool, true, false}
 use mathlib.Core.List.{List, [], map, map-map, flatMap}

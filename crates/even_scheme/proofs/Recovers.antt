@@ -1,4 +1,5 @@
--- The honest answers give the wanted message: each recovered part is a symbol of it, and they cover it.
+-- The honest answers give the wanted message (`recovers`): each recovered part is a symbol of it (Recovery), and they cover it
+-- (Covers).
 use mathlib.Core.Path.{_≡_, sym, ap, _∙_}
 use mathlib.Core.Bool.{true}
 use mathlib.Core.List.{List}

@@ -1,5 +1,5 @@
--- From honest answers each row with the wanted message gives the symbol that its place of that message stands for: it is the answer
--- to that row, or what the answer to the row that it was joined from leaves of it.
+-- From honest answers each row with the wanted message gives the symbol that its place of that message stands for (`recovered`): it is
+-- the answer to that row, or what the answer to the row that it was joined from leaves of it.
 use mathlib.Core.Path.{_≡_, refl, sym, ap, ap₂, _∙_}
 use mathlib.Core.Bool.{Bool, true, false, cond}
 use mathlib.Core.List.{List, []}

@@ -1,5 +1,5 @@
--- The symbol of the wanted message in a row's total: a row with no other message is that symbol, and any other is one symbol more
--- than the row without that message.
+-- The symbol of the wanted message in a row's total: a row with no other message is that symbol (`row-alone`), and any other is one
+-- symbol more than the row without that message (`row-more`).
 use mathlib.Core.Path.{_≡_, refl, sym, ap, _∙_}
 use mathlib.Core.List.{List, [], _∷_, _++_, map, map-append}
 use mathlib.Core.Option.{none, some, Option·some-injective}

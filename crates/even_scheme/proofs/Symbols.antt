@@ -1,4 +1,5 @@
--- The symbols that a valid key's numbers name: each lies whole in the store, and in its message at its number.
+-- The symbols that a valid key's numbers name: each lies whole in the store (`symbol-long`, `symbol-symbol`), and in its message at
+-- its number (`symbol-part`).
 use mathlib.Core.Path.{_≡_, sym, ap, _∙_}
 use mathlib.Core.Bool.{true}
 use mathlib.Core.List.{List}
