@@ -1,10 +1,11 @@
--- The sizes of an admitted catalogue are small: what callers need so that their sums and products fit.
+-- Within the bounds of a code its sizes are small (`short-small`, `even-small`): what callers need so that their sums and products fit.
+-- Rests on the bounds as facts (`Bounds`).
 use Prim.Native.Nat.{ℕ, _-_, _*_, _^_, _≤_, _<_}
 use native.Mathlib.Nat.{mul-le-mul, pow-le-pow-right, div-le-self}
 use native.Mathlib.Omega.{arith}
 use Rattle.parameters.specs.declared.Sizes.{Sizes}
 use Rattle.parameters.specs.Measures.{shortSizes, evenRows, evenSizes, keyPlaces, mostServers}
 use Rattle.parameters.proofs.Bounds.{ShortBounds, EvenBounds}
 
 -- the sizes, and the slots of N servers together
 pub record Small (N : ℕ) (sizes : Sizes) : Type 0 where

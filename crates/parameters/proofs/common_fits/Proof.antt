@@ -1,7 +1,7 @@
--- `catalogue::common_fits` meets its contract: each test is a part of the bound.
+-- `parameters::common_fits` meets its contract: each test is a part of the bound.
 use borrow.Author.Tests.{le-leb, lt-leb}
-use Rattle.catalogue.proofs.common_fits.Statement.{statement}
-use Rattle.catalogue.proofs.common_fits.Tie as tie
+use Rattle.parameters.proofs.common_fits.Statement.{statement}
+use Rattle.parameters.proofs.common_fits.Tie as tie
 
 returns : tie.Need-returns
 returns c = simp (lt-leb _ _ (c .if1 .taken))
