@@ -1,4 +1,5 @@
--- What an admitted catalogue's numbers and sizes are bounded by, and that a catalogue which is not admitted is refused 2.
+-- What an admitted catalogue's numbers and sizes are bounded by (`admitted-numbers`, `admitted-small`), and that a catalogue which is not
+-- admitted is refused 2 (`verdict-cases`). Rests on the bounds of each code.
 use mathlib.Core.Path.{_≡_, refl, ap}
 use mathlib.Core.Bool.{Bool, true, false, not}
 use mathlib.Core.Logic.{_⊎_, inl, inr}

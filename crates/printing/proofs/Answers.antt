@@ -1,4 +1,5 @@
--- What the output for an input is, verdict by verdict: the checks that need no code come first, and then the key's entries.
+-- What the output for an input is, verdict by verdict: the checks that need no code come first (`answer-refused`), and then the key's
+-- entries (`answer-bad-key`, `answer-queries`).
 use mathlib.Core.Path.{_≡_, refl, sym, ap}
 use mathlib.Core.Bool.{Bool, true, false, not}
 use mathlib.Core.List.{List}

@@ -1,4 +1,5 @@
--- The page has room for every output: the queries of an admitted catalogue have at most 2,048 bytes together.
+-- The page has room for every output (`lines-fit`): the queries of an admitted catalogue have at most 2,048 bytes together.
+-- Rests on the sizes of admitted catalogues being small.
 use mathlib.Core.Path.{_≡_, sym, ap, _∙_}
 use mathlib.Core.Bool.{true}
 use Prim.Native.Nat.{ℕ, suc, _+_, _-_, _*_, _^_, _≤_}

@@ -1,4 +1,4 @@
--- How long the parts of an output's lines are.
+-- How long the parts of an output's lines are: what stands before a query (`head-length`), and a refusal's line (`refusal-most`).
 use mathlib.Core.Path.{_≡_}
 use mathlib.Core.List.{_++_}
 use Prim.Native.Nat.{ℕ, _+_, _<_}

@@ -3,7 +3,7 @@ use native.Mathlib.Omega.{arith}
 use Rattle.lists.specs.Ascii.{ascii}
 use Rattle.text_lines.specs.Decimal.{decimal}
 use Rattle.text_lines.proofs.Decimal.{length-most}
-use Rattle.printing.proofs.Parts.{put-three}
+use Rattle.lists.proofs.Puts.{put-three}
 use Rattle.printing.proofs.Writing.{head-length}
 use borrow.Author.Needs.{needs}
 use Rattle.printing.proofs.put_head.Statement.{statement}

@@ -6,7 +6,7 @@ use Rattle.lists.specs.Ascii.{ascii}
 use Rattle.text_lines.proofs.Decimal.{length-most}
 use Rattle.number_lists.specs.NumberLists.{spaced}
 use Rattle.printing.specs.Output.{queryHead, queryLine}
-use Rattle.printing.proofs.Parts.{put-three}
+use Rattle.lists.proofs.Puts.{put-three}
 use Rattle.printing.proofs.Writing.{head-length}
 use borrow.Author.Needs.{needs}
 use Rattle.printing.proofs.put_line.Statement.{statement}

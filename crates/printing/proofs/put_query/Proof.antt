@@ -15,7 +15,7 @@ use Rattle.codes.proofs.Promises.{promises}
 use Rattle.session.specs.Calls.{beginVerdict}
 use Rattle.session.proofs.Begin.{begin-passed}
 use Rattle.printing.specs.Output.{queryLine}
-use Rattle.printing.proofs.Parts.{put-whole}
+use Rattle.lists.proofs.Puts.{put-whole}
 use Rattle.printing.proofs.Room.{query-fits}
 use Rattle.printing.proofs.put_query.Statement.{statement}
 use Rattle.printing.proofs.put_query.Tie as tie
