@@ -4,6 +4,7 @@ use mathlib.Core.Path.{_≡_, ap, _∙_}
 use Prim.Native.Nat.{ℕ, _+_, _*_, _≤_}
 use native.Mathlib.Nat.{mul-add, mul-left-comm}
 use native.Mathlib.Omega.{arith}
+use lib.ListN.{length, length-replicate}
 use Rattle.parameters.specs.Measures.{keyPlaces}
 use Rattle.catalogue.specs.declared.Catalogue.{Catalogue}
 use Rattle.catalogue.specs.Catalogue.{Admitted}
@@ -11,6 +12,7 @@ use Rattle.catalogue.proofs.Admitted.{admitted-numbers, admitted-small}
 use Rattle.codes.specs.Codes.{schemeOf}
 use Rattle.codes.proofs.Promises.{scheme-sizes}
 use Rattle.printing.specs.Output.{pageBytes}
+use Rattle.printing.specs.Steps.{blankPlaces}
 
 spread : (N q : ℕ) → N * (19 + 4 * q) ≡ N * 19 + 4 * (N * q)
 spread N q = mul-add N 19 (4 * q) ∙ ap (λ (n : ℕ). N * 19 + n) (mul-left-comm N 4 q)
@@ -23,7 +25,11 @@ lines-fit c a =
     let s = spread (c .servers) (schemeOf c .sizes .query) in
     omega arith
 
--- a key and a query fit into 2,048 bytes
+-- a key and a query fit into the blank places
+pub places-many : length blankPlaces ≡ keyPlaces
+unfolding blankPlaces
+places-many = length-replicate {A = ℕ} keyPlaces 0
+
 pub key-fits : (c : Catalogue) → Admitted c → schemeOf c .sizes .key ≤ keyPlaces
 key-fits c a = rw (scheme-sizes c) (admitted-small c a .key)
 

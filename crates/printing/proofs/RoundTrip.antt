@@ -75,7 +75,8 @@ numbers-written text (suc most) n (x ∷ numbers) at h b few e =
     let space : drop end text ≡ 32 ∷ rest = drop-after text (decimal n) (32 ∷ rest) at here in
     let byte = byte-at text rest end 32 space in
     let others : numbersFrom most text (end + 1) ≡ some (x ∷ numbers) =
-    numbers-written text most x numbers (end + 1) (b 0 (omega arith)) (λ i k. b (suc i) (omega arith)) (omega arith) (drop-after text (32 ∷ []) rest end space) in
+    numbers-written text most x numbers (end + 1) (b 0 (omega arith)) (λ i k. b (suc i) (omega arith)) (omega arith)
+    (drop-after text (32 ∷ []) rest end space) in
     at-more most text at n end
     (numeral-written text rest at n 32 h (below-digits 32 (omega arith)) here)
     (ends-not text rest end 32 space (λ z. let w : ⊥ = omega arith in w))
