@@ -1,3 +1,4 @@
+pub mod Numbers
 pub mod Chain
-pub mod Smallest
+pub mod Foremost
 pub mod Within
