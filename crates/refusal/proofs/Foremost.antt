@@ -1,8 +1,8 @@
--- Faults that are listed in ascending rank are checked by a chain, first to last: `foremost-chain`. What a test says of all listed refusals it
--- says of the one that is given (`of-foremost`).
-use mathlib.Core.Path.{_≡_, refl, ap, _∙_}
+-- Faults that are listed in ascending rank are checked by a chain, first to last: `foremost-chain`; or the first of them by a verdict of their own,
+-- and then the rest: `after-first`. What a test says of all listed refusals it says of the one that is given (`of-foremost`).
+use mathlib.Core.Path.{_≡_, refl, sym, ap, _∙_}
 use mathlib.Core.Bool.{Bool, true, false, cond, _&&_}
-use mathlib.Core.List.{List, [], _∷_}
+use mathlib.Core.List.{List, [], _∷_, _++_}
 use Prim.Native.Nat.{ℕ}
 use native.Mathlib.Omega.{arith}
 use lib.Dec.{leb}
@@ -11,7 +11,8 @@ use Rattle.refusal.specs.declared.Verdict.{Verdict}
 use Rattle.refusal.specs.declared.Verdict.the-variants.{Accepted, Refused}
 use Rattle.refusal.specs.Numbers.{rank}
 use Rattle.refusal.specs.Foremost.{Fault, earlier, foremost}
-use Rattle.refusal.specs.Chain.{chain}
+use Rattle.refusal.specs.Chain.{andThen, chain}
+use Rattle.refusal.proofs.Chain.{chain-append}
 
 both : (t u : Bool) → t && u ≡ true → (t ≡ true) × (u ≡ true)
 both true u e = (refl, e)
@@ -69,3 +70,9 @@ foremost-chain (f ∷ faults) e =
         → cond t (earlier (f .refusal) (foremost faults)) (foremost faults) ≡ cond t (Refused (f .refusal)) (chain faults)
     go true first rest = first
     go false first rest = rest
+
+-- v is the verdict on the first faults, r that on all
+pub after-first : (faults rest : List Fault) → ascending faults ≡ true → ascending (faults ++ rest) ≡ true → (v r : Verdict)
+    → v ≡ foremost faults → r ≡ andThen v (chain rest) → r ≡ foremost (faults ++ rest)
+after-first faults rest a b v r e p =
+    p ∙ ap (λ (w : Verdict). andThen w (chain rest)) (e ∙ foremost-chain faults a) ∙ sym (chain-append faults rest) ∙ sym (foremost-chain (faults ++ rest) b)

@@ -1,4 +1,5 @@
 pub mod Numbers
 pub mod Chain
 pub mod Foremost
+pub mod Accepted
 pub mod Within
