@@ -1,10 +1,11 @@
 -- A list of faults that goes on with another is checked by one chain and then the other: `chain-append`. A refusal is not accepted (`not-refused`).
-use mathlib.Core.Path.{_≡_, refl}
+use mathlib.Core.Path.{_≡_, refl, sym, ap, _∙_}
 use mathlib.Core.Bool.{Bool, true, false, cond}
 use mathlib.Core.List.{List, [], _∷_, _++_}
 use Prim.Native.Nat.{ℕ}
 use native.Mathlib.Omega.{arith}
 use Rattle.refusal.specs.declared.Refusal.{Refusal}
+use Rattle.refusal.specs.declared.Verdict.{Verdict}
 use Rattle.refusal.specs.declared.Verdict.the-variants.{Accepted, Refused}
 use Rattle.refusal.specs.Foremost.{Fault}
 use Rattle.refusal.specs.Chain.{andThen, chain}
@@ -20,3 +21,7 @@ chain-append (f ∷ faults) rest = go (f .there) (chain-append faults rest)
         → cond there (Refused (f .refusal)) (chain (faults ++ rest)) ≡ andThen (cond there (Refused (f .refusal)) (chain faults)) (chain rest)
     go true e = refl
     go false e = e
+
+-- v is the verdict of the first chain, r that of both
+pub chain-after : (faults rest : List Fault) (v r : Verdict) → v ≡ chain faults → r ≡ andThen v (chain rest) → r ≡ chain (faults ++ rest)
+chain-after faults rest v r e p = p ∙ ap (λ (w : Verdict). andThen w (chain rest)) e ∙ sym (chain-append faults rest)

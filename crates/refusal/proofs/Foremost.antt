@@ -12,7 +12,7 @@ use Rattle.refusal.specs.declared.Verdict.the-variants.{Accepted, Refuse
 use Rattle.refusal.specs.Numbers.{rank}
 use Rattle.refusal.specs.Foremost.{Fault, earlier, foremost}
 use Rattle.refusal.specs.Chain.{andThen, chain}
-use Rattle.refusal.proofs.Chain.{chain-append}
+use Rattle.refusal.proofs.Chain.{chain-after}
 
 both : (t u : Bool) → t && u ≡ true → (t ≡ true) × (u ≡ true)
 both true u e = (refl, e)
@@ -75,4 +75,4 @@ foremost-chain (f ∷ faults) e =
 pub after-first : (faults rest : List Fault) → ascending faults ≡ true → ascending (faults ++ rest) ≡ true → (v r : Verdict)
     → v ≡ foremost faults → r ≡ andThen v (chain rest) → r ≡ foremost (faults ++ rest)
 after-first faults rest a b v r e p =
-    p ∙ ap (λ (w : Verdict). andThen w (chain rest)) (e ∙ foremost-chain faults a) ∙ sym (chain-append faults rest) ∙ sym (foremost-chain (faults ++ rest) b)
+    chain-after faults rest v r (e ∙ foremost-chain faults a) p ∙ sym (foremost-chain (faults ++ rest) b)

@@ -1,6 +1,7 @@
 pub mod Places
-pub mod Links
+pub mod Goes
 pub mod Sound
+pub mod Links
 pub mod Begin
 pub mod Issue
 pub mod Take
