@@ -9,3 +9,5 @@ pub mod Recover
 pub mod Slots
 pub mod Promised
 pub mod ByteBound
+pub mod Numbers
+pub mod Unused
