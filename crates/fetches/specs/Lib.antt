@@ -4,8 +4,5 @@ pub mod Right
 pub mod Claim
 pub mod Plain
 pub mod Received
-pub mod Numbers
-pub mod Faults
 pub mod ByHistory
 pub mod Reached
-pub mod Unused
