@@ -1,10 +1,11 @@
 -- `printing::put_page` meets its contract: the length, the catalogue's lines, the wanted message's and the key's are read in this order, and each
 -- ends the reading with refusal 1 or goes on.
 use mathlib.Core.Path.{_≡_, sym, ap, _∙_}
-use Prim.Native.Nat.{_+_}
+use Prim.Native.Nat.{_+_, _<_}
 use native.Mathlib.Omega.{arith}
 use borrow.Author.Needs.{needs}
 use borrow.Author.Tests.{lt-ltb, le-ltb}
+use lib.ListN.{length}
 use Rattle.refusal.specs.declared.Refusal.the-variants.{Text}
 use Rattle.codes.specs.Codes.{schemeOf}
 use Rattle.number_lists.specs.NumberLists.{numbersAt, scanOf, listOf}
@@ -26,8 +27,8 @@ returns : tie.Need-returns
 unfolding printed inputAsks linesAsk
 returns c =
     let a = c .before .before .before .before .before .before .before .args in
-    let text = a .input .now in
-    let e : printed schemeOf text ≡ refusalLine Text = simp (lt-ltb _ _ (c .before .before .before .before .if1 .taken)) in
+    let long : 65536 < length (a .input .now) = omega (arith, c .before .before .before .before .if1 .taken) in
+    let e : printed schemeOf (a .input .now) ≡ refusalLine Text = simp (lt-ltb _ _ long) in
     written-as _ _ (a .out .now) _ _ e (c .before .before .put-refusal .ensures)
 
 four-lines-requires : tie.Need-four-lines-requires
