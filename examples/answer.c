@@ -1,8 +1,9 @@
 /* answer CATALOGUE STORE MIRROR < request > answer
  *
  * One mirror's answer to one request. CATALOGUE is a file with the catalogue's text, STORE a file with the
- * packs, which is mapped and not read in, MIRROR this mirror's number. A refusal goes to standard error, with
- * its meaning, and its number is the exit status; 64 is bad usage, 66 a file that cannot be used.
+ * packs, which is mapped and not read in, so that nobody may write it or make it shorter meanwhile, MIRROR this
+ * mirror's number. A refusal goes to standard error, with its meaning, and its number is the exit status; 64 is
+ * bad usage, 66 a file that cannot be used.
  */
 #include <errno.h>
 #include <fcntl.h>

@@ -1,6 +1,7 @@
 /* Runs the real archive from C: the bench cards B2 to B6, both codes against a plain reference, every refusal from both sides
  * of its condition, and buffers of exact, longer and shorter length. Every buffer lies between guard bytes; with the argument
- * `exact` each is an allocation of just its length instead, so that valgrind sees every byte outside.
+ * `exact` each is an allocation of just its length instead, so that valgrind sees every byte outside. A call with buffers of
+ * length 0 is made once for each choice of those whose pointer is NULL, none and all of them included.
  */
 #include <inttypes.h>
 #include <stdio.h>
@@ -48,10 +49,17 @@ static int guarded(const struct buffer *b) {
 
 /* ---- one call, with all buffers watched; the answer's expected bytes, or nothing written where `want` is a refusal or empty */
 
-static void call(const char *what, const char *catalogue, size_t catalogue_len, uint64_t mirror, const uint8_t *store, size_t store_len,
-                 const uint8_t *request, size_t request_len, size_t room, int64_t want, const uint8_t *bytes) {
+enum { CATALOGUE = 1, STORE = 2, REQUEST = 4, ANSWER = 8 };
+
+static uint8_t *pointer(const struct buffer *b, unsigned nulls, unsigned which) {
+    return nulls & which ? NULL : b->at;
+}
+
+static void once(const char *what, const char *catalogue, size_t catalogue_len, uint64_t mirror, const uint8_t *store, size_t store_len,
+                 const uint8_t *request, size_t request_len, size_t room, int64_t want, const uint8_t *bytes, unsigned nulls) {
     struct buffer c = make(catalogue_len, catalogue), s = make(store_len, store), q = make(request_len, request), a = make(room, NULL);
-    int64_t got = gozimpe_answer(c.at, c.length, mirror, s.at, s.length, q.at, q.length, a.at, a.length);
+    int64_t got = gozimpe_answer(pointer(&c, nulls, CATALOGUE), c.length, mirror, pointer(&s, nulls, STORE), s.length,
+                                 pointer(&q, nulls, REQUEST), q.length, pointer(&a, nulls, ANSWER), a.length);
     size_t written = want > 0 ? (size_t)want : 0;
     expect(got == want, what, (long)got);
     if (got == want) {
@@ -64,6 +72,23 @@ static void call(const char *what, const char *catalogue, size_t catalogue_len, 
     expect(memcmp(c.at, catalogue, catalogue_len) == 0 && (store_len == 0 || memcmp(s.at, store, store_len) == 0)
                && (request_len == 0 || memcmp(q.at, request, request_len) == 0), what, -103);
     free(c.base), free(s.base), free(q.base), free(a.base);
+}
+
+static void call(const char *what, const char *catalogue, size_t catalogue_len, uint64_t mirror, const uint8_t *store, size_t store_len,
+                 const uint8_t *request, size_t request_len, size_t room, int64_t want, const uint8_t *bytes) {
+    unsigned empty = (catalogue_len == 0 ? CATALOGUE : 0u) | (store_len == 0 ? STORE : 0u) | (request_len == 0 ? REQUEST : 0u)
+                     | (room == 0 ? ANSWER : 0u);
+    for (unsigned nulls = 0; nulls <= empty; nulls++)
+        if ((nulls & ~empty) == 0)
+            once(what, catalogue, catalogue_len, mirror, store, store_len, request, request_len, room, want, bytes, nulls);
+}
+
+static void longest(const char *what, const char *catalogue, size_t length, int64_t want) {
+    struct buffer c = make(length, catalogue);
+    expect(gozimpe_longest_answer(c.at, length) == want, what, -104);
+    if (length == 0) expect(gozimpe_longest_answer(NULL, 0) == want, what, -105);
+    expect(guarded(&c) && memcmp(c.at, catalogue, length) == 0, what, -106);
+    free(c.base);
 }
 
 static void text(char *out, const char *code, int n, int k, int s) {
@@ -140,7 +165,7 @@ static void even(int n, int k, int s) {
     size_t len = (size_t)(w.rows * s);
     text(cat, "even", n, k, s);
     size_t cat_len = strlen(cat);
-    expect(gozimpe_longest_answer((const uint8_t *)cat, cat_len) == (int64_t)len, "even: longest", n * 10 + k);
+    longest("even: longest", cat, cat_len, (int64_t)len);
     call("even: exact", cat, cat_len, (uint64_t)draw((unsigned)n), store, store_len, request, (size_t)query, len, (int64_t)len, answer);
     call("even: longer", cat, cat_len, 0, store, store_len, request, (size_t)query, len + 7, (int64_t)len, answer);
     call("even: room one short", cat, cat_len, 0, store, store_len, request, (size_t)query, len - 1, -9, NULL);
@@ -178,7 +203,7 @@ static void shorter(int n, int k, int s) {
     text(cat, "short", n, k, s);
     size_t cat_len = strlen(cat);
     int64_t len = some ? s : 0;
-    expect(gozimpe_longest_answer((const uint8_t *)cat, cat_len) == s, "short: longest", s);
+    longest("short: longest", cat, cat_len, s);
     call("short: exact", cat, cat_len, mirror, store, store_len, request, (size_t)k, (size_t)s, len, answer);
     call("short: longer", cat, cat_len, mirror, store, store_len, request, (size_t)k, (size_t)s + 9, len, answer);
     call("short: room one short", cat, cat_len, mirror, store, store_len, request, (size_t)k, (size_t)s - 1, some ? -9 : 0, answer);
@@ -199,7 +224,7 @@ static void shorter(int n, int k, int s) {
 static void refused_text(const char *what, const char *cat, size_t len, int64_t want) {
     uint8_t digit = 1, room[1];
     call(what, cat, len, 0, &digit, 1, &digit, 1, sizeof room, want, NULL);
-    expect(gozimpe_longest_answer((const uint8_t *)cat, len) == want, what, -104);
+    longest(what, cat, len, want);
 }
 
 static void catalogues(void) {
@@ -227,6 +252,11 @@ static void catalogues(void) {
     uint8_t one = 1;
     call("8 before 9", good, strlen(good), 1, NULL, 0, &one, 1, 0, -8, NULL);
     call("9", good, strlen(good), 1, &one, 1, &one, 1, 0, -9, NULL);
+    /* every buffer of length 0, and each of them alone */
+    call("all empty", "", 0, 0, NULL, 0, NULL, 0, 0, -1, NULL);
+    call("no catalogue", "", 0, 0, &one, 1, &one, 1, 1, -1, NULL);
+    call("no store", good, strlen(good), 1, NULL, 0, &one, 1, 1, -8, NULL);
+    call("no request", good, strlen(good), 1, &one, 1, NULL, 0, 1, -7, NULL);
 }
 
 static void cards(void) {
