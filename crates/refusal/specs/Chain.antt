@@ -1,6 +1,6 @@
 -- Verdicts as chains of checks, the form that code follows: the first link that refuses decides.
 use Prim.Native.Nat.{ℕ}
-use mathlib.Core.Bool.{Bool, cond}
+use mathlib.Core.Bool.{Bool, true, false, cond}
 use mathlib.Core.List.{List, [], _∷_}
 use Rattle.refusal.specs.declared.Verdict.{Verdict}
 use Rattle.refusal.specs.declared.Verdict.the-variants.{Accepted, Refused}
@@ -14,6 +14,11 @@ refused number = Refused (refusalOf number)
 -- a link: refused with this number if the fault is there, else as the rest of the chain says
 abbrev pub refuseIf : Bool → ℕ → Verdict → Verdict
 refuseIf there number rest = cond there (refused number) rest
+
+-- whether a verdict refuses
+abbrev pub refuses : Verdict → Bool
+refuses Accepted = false
+refuses (Refused refusal) = true
 
 -- a verdict as a link: its refusal, else as the rest of the chain says
 abbrev pub andThen : Verdict → Verdict → Verdict
