@@ -1,13 +1,13 @@
 pub mod Throughout
 pub mod Steps
 pub mod View
+pub mod Told
 pub mod Recovery
 pub mod Exchange
 pub mod Theorem
 pub mod Plain
 pub mod Served
 pub mod Received
-pub mod ByHistory
 pub mod Reached
 pub mod Closed
 pub mod Numbers

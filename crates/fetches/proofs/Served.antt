@@ -1,4 +1,5 @@
--- What the plain fetch shows each server: its one query, and the honest answer that it writes.
+-- The plain fetch is right (`plain-fetch`): it shows each server its one query, and the honest answer that the server writes (`served`), and ends with
+-- the wanted message (`plain-ends`).
 use mathlib.Core.Path.{_≡_, refl, sym, ap, _∙_}
 use mathlib.Core.Bool.{Bool, true, false, cond}
 use mathlib.Core.List.{List, [], _∷_, _++_, map}
@@ -22,7 +23,7 @@ use Rattle.server.proofs.Laws.{answer-accepted, answer-by, writes-answer}
 use Rattle.fetches.specs.Fetches.{Call, issuing, taking, recovering, history}
 use Rattle.fetches.specs.Shown.{Shown, asked, issues, asking, shownTo}
 use Rattle.fetches.specs.Claim.{Promises}
-use Rattle.fetches.specs.Plain.{queryTo, answerOf, plain, PlainFetch}
+use Rattle.fetches.specs.Plain.{queryTo, answerOf, plainFetch, PlainFetches}
 use Rattle.fetches.proofs.View.{seen, seenOf}
 use Rattle.fetches.proofs.Theorem.{fetch-shown}
 use Rattle.fetches.proofs.Plain.{plain-ends}
@@ -81,10 +82,10 @@ module _ (schemeOf : Catalogue → Scheme) (c : Catalogue) (admitted : Admitted 
       (ap (asked query (Value (schemeOf c .answerLength query))) (rw by at written) ∙ ap (λ (size : ℕ). asked query (Value size) answer) (sym sized))
 
   pub served : (answers queryBuffer answerBuffer message : List ℕ) → schemeOf c .sizes .query ≤ length queryBuffer → schemeOf c .sizes .slot ≤ length answerBuffer
-      → shownTo schemeOf c store n (history schemeOf c (plain schemeOf c store wanted key answers queryBuffer answerBuffer message))
+      → shownTo schemeOf c store n (history schemeOf c (plainFetch schemeOf c store wanted key answers queryBuffer answerBuffer message))
       ≡ asked query (Value (length answer)) answer ∷ []
   served answers queryBuffer answerBuffer message query-fits answer-fits =
-      fetch-shown schemeOf c admitted laws store n below (plain schemeOf c store wanted key answers queryBuffer answerBuffer message) inside valid
+      fetch-shown schemeOf c admitted laws store n below (plainFetch schemeOf c store wanted key answers queryBuffer answerBuffer message) inside valid
       ∙ seen-once schemeOf c store n query queryBuffer answerBuffer _ (no-issues (answerOf schemeOf c store wanted key) message (c .servers) 0) (c .servers) 0
       (omega arith) (omega (arith, zero-add (c .servers)))
       ∙ ap (λ (s : Shown). s ∷ []) once
@@ -104,7 +105,7 @@ whole-message servers messages scheme laws store long wanted inside =
     cut-length (wanted * scheme .sizes .message) (scheme .sizes .message) store
     (omega (arith, slot-end wanted messages (scheme .sizes .message) inside, laws .store-whole))
 
-pub plain-fetch : (schemeOf : Catalogue → Scheme) → Promises schemeOf → PlainFetch schemeOf
+pub plain-fetch : (schemeOf : Catalogue → Scheme) → Promises schemeOf → PlainFetches schemeOf
 plain-fetch schemeOf promises c admitted store bytes long wanted inside key valid answers query answer message slots-fit query-fits answer-fits message-fits =
     record {
       whole = whole-message (c .servers) (c .messages) (schemeOf c) (promises c admitted) store long wanted inside;

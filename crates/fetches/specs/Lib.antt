@@ -1,11 +1,12 @@
 pub mod Fetches
 pub mod Shown
+pub mod Past
+pub mod Told
 pub mod Right
 pub mod Claim
 pub mod Plain
 pub mod Received
 pub mod Numbers
 pub mod Faults
-pub mod ByHistory
 pub mod Reached
 pub mod Unused
