@@ -1,7 +1,7 @@
 pub mod Throughout
 pub mod Steps
-pub mod View
 pub mod Told
+pub mod View
 pub mod Recovery
 pub mod Exchange
 pub mod Theorem

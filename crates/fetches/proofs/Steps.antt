@@ -123,18 +123,18 @@ module _ (schemeOf : Catalogue → Scheme) (c : Catalogue) (admitted : Admitted 
       where
         go : (v : Verdict) → v ≡ issueVerdict schemeOf s server (length buffer) → Next schemeOf c wanted key room past at (issuing server buffer answer)
         go Accepted e =
-            let by = issue-by schemeOf s server buffer Accepted e in
+            let done = issue-by schemeOf s server buffer Accepted e in
             record {
               issued = set issued server true;
               taken = taken;
               answers = answers;
-              is = rw by;
-              kept = rw by (issue-kept server (issue-passed schemeOf s server (length buffer) (sym e) .below));
-              held = rw by (λ store h honest. h);
+              is = rw done;
+              kept = rw done (issue-kept server (issue-passed schemeOf s server (length buffer) (sym e) .below));
+              held = rw done (λ store h honest. h);
             }
         go (Refused refusal) e =
-            let by = issue-by schemeOf s server buffer (Refused refusal) e in
-            record { issued = issued; taken = taken; answers = answers; is = rw by; kept = rw by k; held = rw by (λ store h honest. h) }
+            let done = issue-by schemeOf s server buffer (Refused refusal) e in
+            record { issued = issued; taken = taken; answers = answers; is = rw done; kept = rw done k; held = rw done (λ store h honest. h) }
 
     next-recover : (message : List ℕ) → Next schemeOf c wanted key room past at (recovering message)
     next-recover message = record {

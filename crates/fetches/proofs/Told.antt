@@ -15,11 +15,11 @@ use Rattle.scheme.specs.Laws.{Laws}
 use Rattle.catalogue.specs.declared.Catalogue.{Catalogue}
 use Rattle.catalogue.specs.Catalogue.{Admitted}
 use Rattle.session.specs.declared.Session.{Session}
-use Rattle.session.specs.Calls.{issueVerdict, issue, takeVerdict}
+use Rattle.session.specs.Calls.{issueVerdict, takeVerdict}
 use Rattle.session.proofs.Issue.{issue-by, issue-says}
 use Rattle.session.proofs.Take.{take-says}
 use Rattle.session.proofs.Sound.{Sound}
-use Rattle.fetches.specs.Fetches.{Call, issuing, taking, recovering, make, run}
+use Rattle.fetches.specs.Fetches.{Call, issuing, taking, recovering, Made, make, run}
 use Rattle.fetches.specs.Past.{Past, Throughout, end, step}
 use Rattle.fetches.specs.Told.{issueSays, takeSays, Told}
 use Rattle.fetches.proofs.Throughout.{from-state}
@@ -55,9 +55,20 @@ module _ (schemeOf : Catalogue → Scheme) (c : Catalogue) (admitted : Admitted 
     good : Sound schemeOf s
     good = sound schemeOf c admitted laws wanted inside key valid issued taken (k .marks)
 
-    issue-told : (server size : ℕ) → issueVerdict schemeOf s server size ≡ issueSays schemeOf c server size
+    abbrev made : Call → Made
+    made call = make schemeOf (stateOf c wanted key issued taken answers) call
+
+    issue-told : (server : ℕ) (query answer : List ℕ) → made (issuing server query answer) .verdict ≡ issueSays schemeOf c server (length query)
     unfolding issueVerdict
-    issue-told server size = rw (good .admitted, lt-leb (c .messages) wanted inside, good .good, good .marks)
+    issue-told server query answer = issue-says schemeOf s server query ∙ rw (good .admitted, lt-leb (c .messages) wanted inside, good .good, good .marks)
+
+    query-told : (server : ℕ) (query answer : List ℕ) → made (issuing server query answer) .verdict ≡ Accepted
+        → made (issuing server query answer) .left ≡ put 0 (schemeOf c .query wanted server key) query
+    query-told server query answer e =
+        rw (
+          issue-by schemeOf s server query Accepted (sym e ∙ issue-says schemeOf s server query),
+          kept-query schemeOf c admitted laws wanted inside key valid issued taken server,
+        )
 
     take-told : (server size : ℕ) → takeVerdict schemeOf s server size (length answers) ≡ takeSays schemeOf c wanted key room past server size
     unfolding takeVerdict
@@ -80,20 +91,10 @@ module _ (schemeOf : Catalogue → Scheme) (c : Catalogue) (admitted : Admitted 
               k .agree server below,
             )
 
-    query-told : (server : ℕ) (query : List ℕ) → issue schemeOf s server query .handed .verdict ≡ Accepted
-        → issue schemeOf s server query .buffer ≡ put 0 (schemeOf c .query wanted server key) query
-    query-told server query e =
-        rw (
-          issue-by schemeOf s server query Accepted (sym e ∙ issue-says schemeOf s server query),
-          kept-query schemeOf c admitted laws wanted inside key valid issued taken server,
-        )
-
-    told : (call : Call) → Told schemeOf c wanted key room past (make schemeOf (stateOf c wanted key issued taken answers) call)
+    told : (call : Call) → Told schemeOf c wanted key room past (made call)
     told (issuing server query answer) = record {
-      issues = λ other query′ answer′ e.
-          let same = same-issue e in
-          rw (← same .0, ← same .1) (issue-says schemeOf s server query ∙ issue-told server (length query));
-      queries = λ other query′ answer′ e v. let same = same-issue e in rw (← same .0, ← same .1) (query-told server query v);
+      issues = λ other query′ answer′ e. let same = same-issue e in rw (← same .0, ← same .1) (issue-told server query answer);
+      queries = λ other query′ answer′ e v. let same = same-issue e in rw (← same .0, ← same .1) (query-told server query answer v);
       takes = λ other own e. not-take e;
     }
     told (taking server answer) = record {

@@ -21,9 +21,10 @@ use Rattle.catalogue.specs.declared.Catalogue.{Catalogue}
 use Rattle.catalogue.specs.Catalogue.{Admitted}
 use Rattle.server.specs.Answering.{answerVerdict}
 use Rattle.server.proofs.Laws.{answer-by, writes-answer}
-use Rattle.session.specs.Calls.{issueVerdict, issue}
+use Rattle.session.specs.declared.Session.{Session}
+use Rattle.session.specs.Calls.{issueVerdict}
 use Rattle.session.proofs.Issue.{issue-verdict, issue-by}
-use Rattle.fetches.specs.Fetches.{Call, issuing, taking, recovering, run}
+use Rattle.fetches.specs.Fetches.{Call, issuing, taking, recovering, Made, make, run}
 use Rattle.fetches.specs.Shown.{Shown, asked, Issue, issues, asking, showing, shownTo}
 use Rattle.fetches.specs.Past.{Past}
 use Rattle.fetches.proofs.Steps.{sessionOf, stateOf, Kept, kept-query, sound, next}
@@ -76,28 +77,31 @@ module _ (schemeOf : Catalogue → Scheme) (c : Catalogue) (admitted : Admitted 
 
   -- an issue to the server
   module _ (room : ℕ) (past : Past) (issued taken : List Bool) (answers : List ℕ) (k : Kept schemeOf c room past issued taken answers) where
+    abbrev s : Session
+    s = sessionOf c wanted key issued taken
+
+    abbrev issueMade : ℕ → List ℕ → List ℕ → Made
+    issueMade server buffer answer = make schemeOf (stateOf c wanted key issued taken answers) (issuing server buffer answer)
+
     issue-shown : (buffer answer : List ℕ)
-        → showing schemeOf c store n (issue schemeOf (sessionOf c wanted key issued taken) n buffer .buffer) answer
-        (issue schemeOf (sessionOf c wanted key issued taken) n buffer .handed .verdict)
+        → showing schemeOf c store n (issueMade n buffer answer .left) answer (issueMade n buffer answer .verdict)
         ≡ seen schemeOf c store n query (length buffer) (length answer)
     issue-shown buffer answer =
         go (refuseIf (ltb (length buffer) (schemeOf c .sizes .query)) Room Accepted)
-        (sym (issue-verdict schemeOf (sessionOf c wanted key issued taken) n
-        (sound schemeOf c admitted laws wanted inside key valid issued taken (k .marks)) below (length buffer)))
+        (sym (issue-verdict schemeOf s n (sound schemeOf c admitted laws wanted inside key valid issued taken (k .marks)) below (length buffer)))
       where
-        go : (v : Verdict) → v ≡ issueVerdict schemeOf (sessionOf c wanted key issued taken) n (length buffer)
-            → showing schemeOf c store n (issue schemeOf (sessionOf c wanted key issued taken) n buffer .buffer) answer
-            (issue schemeOf (sessionOf c wanted key issued taken) n buffer .handed .verdict)
+        go : (v : Verdict) → v ≡ issueVerdict schemeOf s n (length buffer)
+            → showing schemeOf c store n (issueMade n buffer answer .left) answer (issueMade n buffer answer .verdict)
             ≡ showing schemeOf c store n query (replicate (length answer) 0) v
         go Accepted e =
             rw (
-              issue-by schemeOf (sessionOf c wanted key issued taken) n buffer Accepted e,
+              issue-by schemeOf s n buffer Accepted e,
               kept-query schemeOf c admitted laws wanted inside key valid issued taken n,
               take-at query (drop (length query) buffer) (schemeOf c .sizes .query) long,
               take-all (schemeOf c .sizes .query) query (omega (arith, long)),
             )
             (same-room schemeOf c laws store n query answer)
-        go (Refused refusal) e = rw (issue-by schemeOf (sessionOf c wanted key issued taken) n buffer (Refused refusal) e)
+        go (Refused refusal) e = rw (issue-by schemeOf s n buffer (Refused refusal) e)
 
   -- the calls of a fetch
   pub view : (calls : List Call) (room : ℕ) (past : Past) (issued taken : List Bool) (answers : List ℕ) → Kept schemeOf c room past issued taken answers
@@ -107,9 +111,8 @@ module _ (schemeOf : Catalogue → Scheme) (c : Catalogue) (admitted : Admitted 
       let x = next schemeOf c admitted laws wanted inside key valid room past issued taken answers k (issuing server buffer answer) in
       rw (x .is, view calls room _ (x .issued) (x .taken) (x .answers) (x .kept)) (go (eqb server n) refl)
     where
-      go : (t : Bool) → eqb server n ≡ t
-          → cond t (showing schemeOf c store server (issue schemeOf (sessionOf c wanted key issued taken) server buffer .buffer) answer
-          (issue schemeOf (sessionOf c wanted key issued taken) server buffer .handed .verdict) ∷ []) [] ++ seenOf schemeOf c store n query (issues calls)
+      go : (t : Bool) → eqb server n ≡ t → let made = issueMade room past issued taken answers k server buffer answer in
+          cond t (showing schemeOf c store server (made .left) answer (made .verdict) ∷ []) [] ++ seenOf schemeOf c store n query (issues calls)
           ≡ cond t (seen schemeOf c store n query (length buffer) (length answer) ∷ []) [] ++ seenOf schemeOf c store n query (issues calls)
       go true e = rw (eqb-true server n e, issue-shown room past issued taken answers k buffer answer)
       go false e = refl
