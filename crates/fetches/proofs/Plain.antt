@@ -24,7 +24,7 @@ use Rattle.session_parts.proofs.Marks.{mark-set, mark-other}
 use Rattle.session.proofs.Issue.{issue-accepted, issue-by}
 use Rattle.session.proofs.Take.{Takes, take-accepted, take-by}
 use Rattle.fetches.specs.Fetches.{Call, issuing, taking, recovering, Made, run, history}
-use Rattle.fetches.specs.Past.{Past, nothing}
+use Rattle.fetches.specs.Past.{Past}
 use Rattle.fetches.specs.Plain.{Ends, last, later, queryTo, answerOf, plainFetch}
 use Rattle.fetches.proofs.Steps.{sessionOf, stateOf, Kept, Held, kept-query, sound, issue-kept, take-kept, take-held}
 use Rattle.fetches.proofs.Recovery.{recover-right, recover-message}
@@ -53,14 +53,16 @@ module _ (schemeOf : Catalogue → Scheme) (c : Catalogue) (admitted : Admitted 
   -- all were issued, and those before `from` are taken
   takes-end : (count from : ℕ) → from + count ≡ c .servers → (issued taken : List Bool) (past : Past) (answers : List ℕ)
       → Kept schemeOf c room past issued taken answers → Held schemeOf c store wanted key past answers
-      → ((i : ℕ) → i < c .servers → marked issued i ≡ true) → ((i : ℕ) → i < from → stands i (past .taken) ≡ true) → ((i : ℕ) → from ≤ i → stands i (past .taken) ≡ false)
+      → ((i : ℕ) → i < c .servers → marked issued i ≡ true) → ((i : ℕ) → i < from → stands i (past .taken) ≡ true)
+      → ((i : ℕ) → from ≤ i → stands i (past .taken) ≡ false)
       → Ends End (run schemeOf (stateOf c wanted key issued taken answers) (takesFrom from count))
   unfolding range stands
   takes-end zero from e issued taken past answers k held all had lacks =
       last
       (rw (le-ltb (length message) (schemeOf c .sizes .message) fits) at
       (recover-right schemeOf c admitted laws wanted inside key valid room past issued taken answers k message .all-taken (λ i h. had i (omega arith))))
-      (recover-message schemeOf c admitted laws wanted inside key valid room past issued taken answers k message store bytes held (λ i h. had i (omega arith)) fits)
+      (recover-message schemeOf c admitted laws wanted inside key valid room past issued taken answers k message store bytes held
+      (λ i h. had i (omega arith)) fits)
   takes-end (suc count) from e issued taken past answers k held all had lacks =
       let h : from < c .servers = omega arith in
       let t : Takes schemeOf (sessionOf c wanted key issued taken) from (length (answerFrom from)) (length answers) = record {
@@ -75,7 +77,8 @@ module _ (schemeOf : Catalogue → Scheme) (c : Catalogue) (admitted : Admitted 
       (sym (take-accepted schemeOf (sessionOf c wanted key issued taken) from (length (answerFrom from)) (length answers) t)) in
       rw by
       (later refl
-      (takes-end count (suc from) (omega arith) issued (set taken from true) (record { issued = past .issued; taken = from ∷ past .taken }) (put (from * schemeOf c .sizes .slot) (answerFrom from) answers)
+      (takes-end count (suc from) (omega arith) issued (set taken from true) (record { issued = past .issued; taken = from ∷ past .taken })
+      (put (from * schemeOf c .sizes .slot) (answerFrom from) answers)
       (take-kept schemeOf c admitted laws wanted inside key valid room past issued taken answers k from (answerFrom from) t)
       (take-held schemeOf c admitted laws wanted inside key valid room past issued taken answers k from (answerFrom from) t store held
       (record { store-long = long; as-coded = refl }))
@@ -92,11 +95,13 @@ module _ (schemeOf : Catalogue → Scheme) (c : Catalogue) (admitted : Admitted 
 
   -- those before `from` were issued
   issues-end : (query answer : List ℕ) → schemeOf c .sizes .query ≤ length query → (count from : ℕ) → from + count ≡ c .servers
-      → (issued : List Bool) (to answers : List ℕ) → Kept schemeOf c room (record { issued = to; taken = [] }) issued noMarks answers → ((i : ℕ) → i < from → marked issued i ≡ true)
+      → (issued : List Bool) (to answers : List ℕ) → Kept schemeOf c room (record { issued = to; taken = [] }) issued noMarks answers
+      → ((i : ℕ) → i < from → marked issued i ≡ true)
       → Ends End (run schemeOf (stateOf c wanted key issued noMarks answers) (issuesFrom query answer from count))
   unfolding range stands
   issues-end query answer room-for zero from e issued to answers k had =
-      takes-end (c .servers) 0 (omega (arith, zero-add (c .servers))) issued noMarks (record { issued = to; taken = [] }) answers k (held-first schemeOf c store wanted key answers)
+      takes-end (c .servers) 0 (omega (arith, zero-add (c .servers))) issued noMarks (record { issued = to; taken = [] }) answers k
+      (held-first schemeOf c store wanted key answers)
       (λ i h. had i (omega arith)) (λ i h. absurd (not-suc-le-zero h)) (λ i h. refl)
   issues-end query answer room-for (suc count) from e issued to answers k had =
       let h : from < c .servers = omega arith in

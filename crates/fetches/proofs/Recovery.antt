@@ -1,4 +1,5 @@
--- What recover does in a fetch: its verdict goes by the calls made, and after honest takes from all servers it gives the wanted message.
+-- What recover does in a fetch: its verdict goes by the calls made (`verdicts`), and after honest takes from all servers it gives the wanted message
+-- (`messages`). It rests on `next`, and on the law that the honest answers recover.
 use mathlib.Core.Path.{_≡_, sym, ap, _∙_}
 use mathlib.Core.Bool.{Bool, false, not}
 use mathlib.Core.List.{List, [], _∷_}
@@ -105,7 +106,8 @@ module _ (schemeOf : Catalogue → Scheme) (c : Catalogue) (admitted : Admitted 
   verdicts [] room past issued taken answers k = end
   verdicts (call ∷ calls) room past issued taken answers k =
       let x = next schemeOf c admitted laws wanted inside key valid room past issued taken answers k call in
-      step (says room past issued taken answers k call) (from-state schemeOf calls (x .is) (verdicts calls room _ (x .issued) (x .taken) (x .answers) (x .kept)))
+      step (says room past issued taken answers k call)
+      (from-state schemeOf calls (x .is) (verdicts calls room _ (x .issued) (x .taken) (x .answers) (x .kept)))
 
   module _ (store : List ℕ) (bytes : Below 256 store) where
     leaves : (room : ℕ) (past : Past) (issued taken : List Bool) (answers : List ℕ) → Kept schemeOf c room past issued taken answers
@@ -125,4 +127,5 @@ module _ (schemeOf : Catalogue → Scheme) (c : Catalogue) (admitted : Admitted 
         let x = next schemeOf c admitted laws wanted inside key valid room past issued taken answers k call in
         step (leaves room past issued taken answers k held call)
         (from-state schemeOf calls (x .is)
-        (messages calls room _ (x .issued) (x .taken) (x .answers) (x .kept) (x .held store held (now-holds honest)) (from-state schemeOf calls (sym (x .is)) (then-holds honest))))
+        (messages calls room _ (x .issued) (x .taken) (x .answers) (x .kept) (x .held store held (now-holds honest))
+        (from-state schemeOf calls (sym (x .is)) (then-holds honest))))

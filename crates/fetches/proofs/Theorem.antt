@@ -21,7 +21,7 @@ use Rattle.session.specs.Calls.{begin}
 use Rattle.session_parts.proofs.Marks.{none-marked, marks-none}
 use Rattle.session.proofs.Begin.{begin-accepted, begin-by}
 use Rattle.fetches.specs.Fetches.{Fetch, history}
-use Rattle.fetches.specs.Shown.{Issue, issues, issuesOf, issuesTo, shownTo, shown}
+use Rattle.fetches.specs.Shown.{Issue, issues, issuesTo, shownTo, shown}
 use Rattle.fetches.specs.Past.{nothing}
 use Rattle.fetches.specs.Right.{FetchRight}
 use Rattle.fetches.specs.Claim.{Each, nil, cons, KeyList, Exchange, Demand3, Promises}
@@ -107,7 +107,8 @@ module _ (schemeOf : Catalogue → Scheme) (c : Catalogue) (admitted : Admitted 
   all-alike store n below (f ∷ fs) (g ∷ gs) u v k l e i =
       let rest : shown schemeOf c store n fs ≡ shown schemeOf c store n gs = all-alike store n below fs gs
       (below-rest (c .messages) (f .wanted) (wantedOf fs) u) (below-rest (c .messages) (g .wanted) (wantedOf gs) v)
-      (other-keys (schemeOf c) (length (wantedOf fs)) (f .key) (keysOf fs) k) (other-keys (schemeOf c) (length (wantedOf gs)) (g .key) (keysOf gs) l) (cc) (cc) in
+      (other-keys (schemeOf c) (length (wantedOf fs)) (f .key) (keysOf fs) k)
+      (other-keys (schemeOf c) (length (wantedOf gs)) (g .key) (keysOf gs) l) (cc) (cc) in
       let p : f .wanted < c .messages = u 0 (omega arith) in
       let q : g .wanted < c .messages = v 0 (omega arith) in
       let vf = first-key (schemeOf c) (length (wantedOf fs)) (f .key) (keysOf fs) k in

@@ -115,4 +115,5 @@ module _ (schemeOf : Catalogue → Scheme) (c : Catalogue) (admitted : Admitted 
   all-told [] room past issued taken answers k = end
   all-told (call ∷ calls) room past issued taken answers k =
       let x = next schemeOf c admitted laws wanted inside key valid room past issued taken answers k call in
-      step (told room past issued taken answers k call) (from-state schemeOf calls (x .is) (all-told calls room _ (x .issued) (x .taken) (x .answers) (x .kept)))
+      step (told room past issued taken answers k call)
+      (from-state schemeOf calls (x .is) (all-told calls room _ (x .issued) (x .taken) (x .answers) (x .kept)))

@@ -1,5 +1,6 @@
 -- The plain fetch: a query issued to each server, the answer of each taken, the message recovered. What is promised of it, for every admitted catalogue,
--- store of the catalogue's length, wanted message and valid key, is `PlainRight`: it shuts out ends that refuse everything, or ask or answer nothing (demand 2).
+-- store of the catalogue's length, wanted message and valid key, shuts out ends that refuse everything, or ask or answer nothing (demand 2):
+-- `PlainFetches`.
 use mathlib.Core.Path.{_≡_}
 use mathlib.Core.List.{List, [], _∷_, _++_, map}
 use Prim.Native.Nat.{ℕ, _≤_, _<_}

@@ -1,4 +1,4 @@
--- What a server is shown of fetches, and the issues that two lists of fetches must agree on (document 01, 'Lists of fetches').
+-- What a server is shown of fetches (`shown`), and the issues that two lists of fetches must agree on (`issuesTo`): document 01, 'Lists of fetches'.
 use mathlib.Core.Bool.{cond}
 use mathlib.Core.List.{List, [], _∷_, _++_, map}
 use Prim.Native.Nat.{ℕ}
