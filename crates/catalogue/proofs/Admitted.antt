@@ -1,19 +1,19 @@
 -- What an admitted catalogue's numbers and sizes are bounded by, and that a catalogue which is not admitted is refused 2.
-use mathlib.Core.Path.{_≡_, refl, ap}
+use mathlib.Core.Path.{_≡_, refl, ap, _∙_}
 use mathlib.Core.Bool.{Bool, true, false, not}
 use mathlib.Core.Logic.{_⊎_, inl, inr}
 use Prim.Native.Nat.{ℕ, _≤_}
 use native.Mathlib.Omega.{arith}
 use borrow.Author.Tests.{not-false}
-use Rattle.refusal.specs.declared.Refusal.the-variants.{Bounds}
-use Rattle.refusal.specs.declared.Verdict.the-variants.{Accepted, Refused}
-use Rattle.refusal.specs.Chain.{refuseIf}
-use Rattle.refusal.proofs.Chain.{passed}
+use Rattle.refusal.specs.declared.Verdict.the-variants.{Accepted}
+use Rattle.refusal.specs.Chain.{refused, refuseIf}
+use Rattle.refusal.proofs.Accepted.{accepted-none}
 use Rattle.parameters.proofs.Bounds.{short-bounds, even-bounds}
 use Rattle.catalogue.specs.declared.Code.{Code}
 use Rattle.catalogue.specs.declared.Code.the-variants.{Short, Even}
 use Rattle.catalogue.specs.declared.Catalogue.{Catalogue}
-use Rattle.catalogue.specs.Catalogue.{fits, catalogueVerdict, Admitted, sizesOf}
+use Rattle.catalogue.specs.Catalogue.{fits, catalogueFaults, catalogueVerdict, Admitted, sizesOf}
+use Rattle.catalogue.proofs.Faults.{catalogue-chain}
 use Rattle.catalogue.proofs.SmallSizes.{Small, short-small, even-small}
 
 -- the bounds that hold in every code
@@ -32,7 +32,7 @@ fits-numbers Even N K S e = let b = even-bounds N K S e in omega arith
 pub admitted-fits : (c : Catalogue) → Admitted c → fits (c .code) (c .servers) (c .messages) (c .symbol) ≡ true
 unfolding catalogueVerdict
 admitted-fits c a =
-    let f = fits (c .code) (c .servers) (c .messages) (c .symbol) in not-false f (passed (not f) Bounds Accepted a .0)
+    not-false (fits (c .code) (c .servers) (c .messages) (c .symbol)) (accepted-none (catalogueFaults c) a .0)
 
 pub admitted-numbers : (c : Catalogue) → Admitted c → Numbers (c .servers) (c .messages) (c .symbol)
 admitted-numbers c a = fits-numbers (c .code) (c .servers) (c .messages) (c .symbol) (admitted-fits c a)
@@ -48,10 +48,9 @@ admitted-small c a = go (c .code) refl
         rw e (even-small (c .servers) (c .messages) (c .symbol) (even-bounds (c .servers) (c .messages) (c .symbol) (rw e at (admitted-fits c a))))
 
 -- a value is admitted or refused 2
-pub verdict-cases : (c : Catalogue) → (Admitted c) ⊎ (catalogueVerdict c ≡ Refused Bounds)
-unfolding catalogueVerdict
+pub verdict-cases : (c : Catalogue) → (Admitted c) ⊎ (catalogueVerdict c ≡ refused 2)
 verdict-cases c = go (not (fits (c .code) (c .servers) (c .messages) (c .symbol))) refl
   where
-    go : (t : Bool) → not (fits (c .code) (c .servers) (c .messages) (c .symbol)) ≡ t → (Admitted c) ⊎ (catalogueVerdict c ≡ Refused Bounds)
-    go true e = inr (ap (λ (f : Bool). refuseIf f Bounds Accepted) e)
-    go false e = inl (ap (λ (f : Bool). refuseIf f Bounds Accepted) e)
+    go : (t : Bool) → not (fits (c .code) (c .servers) (c .messages) (c .symbol)) ≡ t → (Admitted c) ⊎ (catalogueVerdict c ≡ refused 2)
+    go true e = inr (catalogue-chain c ∙ ap (λ (f : Bool). refuseIf f 2 Accepted) e)
+    go false e = inl (catalogue-chain c ∙ ap (λ (f : Bool). refuseIf f 2 Accepted) e)

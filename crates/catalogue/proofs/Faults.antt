@@ -1,26 +1,40 @@
--- A catalogue's verdict is its fault's, also as the first link of a call's chain (`catalogue-link`).
-use mathlib.Core.Path.{_≡_, refl, _∙_}
-use mathlib.Core.Bool.{Bool, true, false, not}
-use mathlib.Core.List.{List, [], _∷_}
-use Rattle.refusal.specs.declared.Refusal.the-variants.{Bounds}
+-- A catalogue's faults in front of a call's own: the catalogue's verdict decides, and else the chain of the others (`after-catalogue`), and the call
+-- is accepted exactly if the catalogue is and none of the others is there (`call-passed`, `call-accepted`).
+use mathlib.Core.Path.{_≡_, refl}
+use mathlib.Core.Bool.{Bool, true, not}
+use mathlib.Core.List.{List, _++_}
+use Rattle.lists.specs.Distinct.{stands}
 use Rattle.refusal.specs.declared.Verdict.{Verdict}
 use Rattle.refusal.specs.declared.Verdict.the-variants.{Accepted}
-use Rattle.refusal.specs.Chain.{refuseIf, andThen}
-use Rattle.refusal.specs.Smallest.{Fault, smallest}
-use Rattle.refusal.proofs.Smallest.{aboveAll, link, no-fault}
+use Rattle.refusal.specs.Foremost.{Fault, foremost}
+use Rattle.refusal.specs.Chain.{refuseIf, andThen, chain}
+use Rattle.refusal.specs.Within.{Within}
+use Rattle.refusal.proofs.Foremost.{ascending, foremost-chain, after-first}
+use Rattle.refusal.proofs.Accepted.{NoneThere, first-accepted, both-accepted}
+use Rattle.refusal.proofs.Within.{faults-within}
 use Rattle.catalogue.specs.declared.Catalogue.{Catalogue}
-use Rattle.catalogue.specs.Catalogue.{fits, catalogueVerdict}
-use Rattle.catalogue.specs.Faults.{unfit}
+use Rattle.catalogue.specs.Catalogue.{fits, catalogueFaults, catalogueNumbers, catalogueVerdict, Admitted}
 
-pub catalogue-link : (c : Catalogue) (rest : Verdict) (faults : List Fault) → aboveAll 2 faults ≡ true → rest ≡ smallest faults
-    → andThen (catalogueVerdict c) rest ≡ smallest (unfit c ∷ faults)
+-- its own fault is that of the bounds
+pub catalogue-chain : (c : Catalogue) → catalogueVerdict c ≡ refuseIf (not (fits (c .code) (c .servers) (c .messages) (c .symbol))) 2 Accepted
 unfolding catalogueVerdict
-catalogue-link c rest faults e r = go (not (fits (c .code) (c .servers) (c .messages) (c .symbol))) ∙ link Bounds _ rest faults e r
-  where
-    go : (t : Bool) → andThen (refuseIf t Bounds Accepted) rest ≡ refuseIf t Bounds rest
-    go true = refl
-    go false = refl
+catalogue-chain c = foremost-chain (catalogueFaults c) refl
 
-pub catalogue-smallest : (c : Catalogue) → catalogueVerdict c ≡ smallest (unfit c ∷ [])
-unfolding catalogueVerdict
-catalogue-smallest c = link Bounds _ Accepted [] refl no-fault
+pub catalogue-within : (c : Catalogue) → Within catalogueNumbers (catalogueVerdict c)
+unfolding catalogueVerdict stands
+catalogue-within c = faults-within catalogueNumbers (catalogueFaults c) _ refl refl
+
+module _ (c : Catalogue) (faults : List Fault) where
+  -- v is the verdict on the catalogue, r that on the call
+  pub after-catalogue : ascending (catalogueFaults c ++ faults) ≡ true → (v r : Verdict)
+      → v ≡ catalogueVerdict c → r ≡ andThen v (chain faults) → r ≡ foremost (catalogueFaults c ++ faults)
+  unfolding catalogueVerdict
+  after-catalogue e = after-first (catalogueFaults c) faults refl e
+
+  pub call-passed : foremost (catalogueFaults c ++ faults) ≡ Accepted → Admitted c × NoneThere faults
+  unfolding catalogueVerdict
+  call-passed = first-accepted (catalogueFaults c) faults
+
+  pub call-accepted : Admitted c → NoneThere faults → foremost (catalogueFaults c ++ faults) ≡ Accepted
+  unfolding catalogueVerdict
+  call-accepted = both-accepted (catalogueFaults c) faults

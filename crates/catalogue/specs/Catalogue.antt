@@ -1,11 +1,11 @@
 -- Catalogue values: which are admitted, and the sizes that follow (document 01, 'Catalogue').
 use mathlib.Core.Path.{_≡_}
 use mathlib.Core.Bool.{Bool, not}
+use mathlib.Core.List.{List, [], _∷_}
 use Prim.Native.Nat.{ℕ}
-use Rattle.refusal.specs.declared.Refusal.the-variants.{Bounds}
 use Rattle.refusal.specs.declared.Verdict.{Verdict}
 use Rattle.refusal.specs.declared.Verdict.the-variants.{Accepted, Refused}
-use Rattle.refusal.specs.Chain.{refuseIf}
+use Rattle.refusal.specs.Foremost.{Fault, fault, foremost}
 use Rattle.parameters.specs.declared.Sizes.{Sizes}
 use Rattle.parameters.specs.Bounds.{shortFits, evenFits}
 use Rattle.parameters.specs.Measures.{shortSizes, evenSizes}
@@ -20,9 +20,16 @@ abbrev pub fits : Code → ℕ → ℕ → ℕ → Bool
 fits Short = shortFits
 fits Even = evenFits
 
--- The verdict on a catalogue value: a link for each number that a value can be refused with
+-- What a catalogue value can be refused with ('Numbers a call can give'); every call that has a catalogue puts these faults in front of its own
+abbrev pub catalogueFaults : Catalogue → List Fault
+catalogueFaults c = fault 2 (not (fits (c .code) (c .servers) (c .messages) (c .symbol))) ∷ []
+
+-- their numbers
+abbrev pub catalogueNumbers : List ℕ
+catalogueNumbers = 2 ∷ []
+
 unfoldable pub catalogueVerdict : Catalogue → Verdict
-catalogueVerdict c = refuseIf (not (fits (c .code) (c .servers) (c .messages) (c .symbol))) Bounds Accepted
+catalogueVerdict c = foremost (catalogueFaults c)
 
 -- admitted (01, 'Lists of fetches'): breaks none of its bounds
 abbrev pub Admitted : Catalogue → Type 0

@@ -1,3 +1,2 @@
 pub mod Catalogue
 pub mod Most
-pub mod Faults

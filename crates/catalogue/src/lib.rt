@@ -98,7 +98,7 @@ fn in_bounds(c: Catalogue) -> bool
     }
 }
 
-// Whether the catalogue is admitted: refused 2 if it breaks a bound.
+// Whether the catalogue is admitted: it breaks none of its bounds.
 pub fn verdict(c: Catalogue) -> Verdict
     ensures { λ r. ⌜ r ≡ catalogueVerdict c ⌝ }
 {
@@ -157,7 +157,7 @@ fn even_sizes(n: usize, k: usize, s: usize) -> Sizes
     }
 }
 
-// The sizes that follow from the catalogue: refused 2 if it breaks a bound.
+// The sizes that follow from the catalogue, if it is admitted.
 pub fn sizes(c: Catalogue) -> Measured
     ensures { λ r. ⌜ r ≡ measuredOf c ⌝ }
 {

@@ -8,8 +8,8 @@ use native.Mathlib.Omega.{arith}
 use lib.ListN.{length, drop, length-append}
 use lib.Seq.{drop-append-seam}
 use Rattle.lists.proofs.Cuts.{drop-after}
-use Rattle.refusal.specs.declared.Refusal.the-variants.{Text}
 use Rattle.refusal.specs.declared.Verdict.the-variants.{Accepted}
+use Rattle.refusal.specs.Numbers.{refusalOf}
 use Rattle.text_lines.specs.declared.Line.{Line}
 use Rattle.text_lines.specs.declared.Line.the-variants.{Value, Refused}
 use Rattle.text_lines.specs.Lines.{numberText, begins, numberLine}
@@ -20,11 +20,11 @@ use Rattle.catalogue.specs.declared.Code.the-variants.{Short, Even}
 use Rattle.catalogue.specs.declared.Catalogue.{Catalogue}
 use Rattle.catalogue_text.specs.declared.Lines.{Lines}
 use Rattle.catalogue_text.specs.Text.{codeText, serversName, messagesName, symbolName, textOf, FiveDigits}
-use Rattle.catalogue_text.specs.Parsing.{codeOf, codeLine, refusedLines, onLine, fourLines}
+use Rattle.catalogue_text.specs.Parsing.{codeNamed, codeLine, refusedLines, onLine, fourLines}
 
 -- ---- the first line
 
-pub code-even : (n : ℕ) → (n ≡ 0 → ⊥) → Even ≡ codeOf n
+pub code-even : (n : ℕ) → (n ≡ 0 → ⊥) → Even ≡ codeNamed n
 code-even zero h = absurd (h refl)
 code-even (suc n) h = refl
 
@@ -32,7 +32,7 @@ abbrev codeNumber : Code → ℕ
 codeNumber Short = 0
 codeNumber Even = 1
 
-code-number : (code : Code) → codeOf (codeNumber code) ≡ code
+code-number : (code : Code) → codeNamed (codeNumber code) ≡ code
 code-number Short = refl
 code-number Even = refl
 
@@ -43,8 +43,8 @@ code-written Even rest = refl
 
 -- a first line that was read
 record CodeRead (text : List ℕ) (code next : ℕ) : Type 0 where
-  next-is : next ≡ length (codeText (codeOf code))
-  here : text ≡ codeText (codeOf code) ++ drop next text
+  next-is : next ≡ length (codeText (codeNamed code))
+  here : text ≡ codeText (codeNamed code) ++ drop next text
 
 code-read : (text : List ℕ) (code next : ℕ) → codeLine text ≡ Value code next → CodeRead text code next
 unfolding codeLine
@@ -100,10 +100,10 @@ pub record LinesRead (text : List ℕ) (found : Lines) : Type 0 where
 
 all-read : (text : List ℕ) (code a N b K d S e : ℕ) → CodeRead text code a
     → LineRead serversName text a N b → LineRead messagesName text b K d → LineRead symbolName text d S e
-    → LinesRead text (record { verdict = Accepted; catalogue = record { code = codeOf code; servers = N; messages = K; symbol = S }; next = e })
+    → LinesRead text (record { verdict = Accepted; catalogue = record { code = codeNamed code; servers = N; messages = K; symbol = S }; next = e })
 unfolding textOf
 all-read text code a N b K d S e first servers messages symbol =
-    let p = codeText (codeOf code) in
+    let p = codeText (codeNamed code) in
     let q = numberText serversName N in
     let r = numberText messagesName K in
     let s = numberText symbolName S in
@@ -126,13 +126,13 @@ all-read text code a N b K d S e first servers messages symbol =
 
 -- a line ends the reading or goes on
 on-line : (text : List ℕ) (line : Line) (continue : ℕ → ℕ → Lines)
-    → ((value next : ℕ) → line ≡ Value value next → (continue value next ≡ refusedLines Text) ⊎ LinesRead text (continue value next))
-    → (onLine line continue ≡ refusedLines Text) ⊎ LinesRead text (onLine line continue)
+    → ((value next : ℕ) → line ≡ Value value next → (continue value next ≡ refusedLines (refusalOf 1)) ⊎ LinesRead text (continue value next))
+    → (onLine line continue ≡ refusedLines (refusalOf 1)) ⊎ LinesRead text (onLine line continue)
 on-line text (Value value next) continue read = read value next refl
 on-line text Refused continue read = inl refl
 
 -- a text is refused 1, or it begins with a catalogue's text
-pub four-lines-cases : (text : List ℕ) → (fourLines text ≡ refusedLines Text) ⊎ LinesRead text (fourLines text)
+pub four-lines-cases : (text : List ℕ) → (fourLines text ≡ refusedLines (refusalOf 1)) ⊎ LinesRead text (fourLines text)
 unfolding fourLines
 four-lines-cases text =
     on-line text (codeLine text) _ λ code a first.

@@ -1,5 +1,5 @@
 pub mod TextParts
 pub mod FourLines
-pub mod RoundTrip
 pub mod Faults
+pub mod RoundTrip
 pub mod Numbers

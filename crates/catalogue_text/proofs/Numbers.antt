@@ -1,79 +1,60 @@
--- Reading gives 1 or 2 and writing 2 or 9 (`text-numbers`): a text is refused 1, or judged as its value is (`read-within`), and a writing's
--- verdict is the smallest of its faults'.
-use mathlib.Core.Path.{_≡_, refl, sym, ap, _∙_}
-use mathlib.Core.Bool.{true}
-use mathlib.Core.List.{List, [], _∷_}
-use mathlib.Core.Logic.{⊎-elim}
+-- Reading and writing give only their own numbers (`text-numbers`): their verdicts are the foremost of their faults (`read-within`).
+use mathlib.Core.Path.{_≡_, refl, sym, _∙_}
+use mathlib.Core.Bool.{true, false, true≢false}
+use mathlib.Core.List.{List, [], _∷_, _++_}
 use Prim.Native.Nat.{ℕ}
 use lib.ListN.{length}
 use Rattle.lists.specs.Distinct.{stands}
-use Rattle.refusal.specs.declared.Refusal.the-variants.{Text, Bounds}
 use Rattle.refusal.specs.declared.Verdict.{Verdict}
-use Rattle.refusal.specs.declared.Verdict.the-variants.{Refused}
+use Rattle.refusal.specs.declared.Verdict.the-variants.{Accepted, Refused}
 use Rattle.refusal.specs.declared.Outcome.{Outcome}
-use Rattle.refusal.specs.Smallest.{smallest, fault}
-use Rattle.refusal.specs.Within.{OneOf, Within, ValueWithin}
-use Rattle.refusal.proofs.Smallest.{no-fault}
-use Rattle.refusal.proofs.Within.{faults-within, value-within}
+use Rattle.refusal.specs.Foremost.{foremost}
+use Rattle.refusal.specs.Chain.{refuses}
+use Rattle.refusal.specs.Within.{Within, ValueWithin}
+use Rattle.refusal.proofs.Accepted.{accepted-none}
+use Rattle.refusal.proofs.Within.{faultsNamed, faults-within, value-within}
 use Rattle.catalogue.specs.declared.Catalogue.{Catalogue}
-use Rattle.catalogue.specs.Catalogue.{catalogueVerdict}
-use Rattle.catalogue.specs.Faults.{unfit}
-use Rattle.catalogue.proofs.Faults.{catalogue-smallest}
-use Rattle.catalogue_text.specs.declared.Lines.{Lines}
-use Rattle.catalogue_text.specs.declared.Reading.{Reading}
+use Rattle.catalogue.specs.Catalogue.{catalogueNumbers}
 use Rattle.catalogue_text.specs.Text.{textOf}
-use Rattle.catalogue_text.specs.Parsing.{fourLines, linesOf, readOf}
-use Rattle.catalogue_text.specs.Writing.{writeVerdict, outcomeBy, Wrote}
-use Rattle.catalogue_text.specs.Faults.{writeFaults}
+use Rattle.catalogue_text.specs.Parsing.{fourLines, lineFault, linesFaults, linesBy, linesOf, readFaults, readOf}
+use Rattle.catalogue_text.specs.Writing.{writeFaults, writeVerdict, outcomeBy, Wrote}
 use Rattle.catalogue_text.specs.Numbers.{TextNumbers}
-use Rattle.catalogue_text.proofs.Faults.{write-smallest}
-use Rattle.catalogue_text.proofs.FourLines.{four-lines-cases}
-use Rattle.catalogue_text.proofs.RoundTrip.{text-or-refused, text-verdict, starts-or-refused, lines-verdict}
+use Rattle.catalogue_text.proofs.Faults.{line-chain}
+use Rattle.catalogue_text.proofs.RoundTrip.{reading-verdict}
 
-module _ (numbers : List ℕ) (text-named : OneOf numbers Text) where
-  text-within : (v : Verdict) → v ≡ Refused Text → Within numbers v
-  unfolding smallest OneOf
-  text-within v e = faults-within numbers (fault Text true ∷ []) v (rw text-named) e
+pub read-verdict : (text : List ℕ) → readOf text .verdict ≡ foremost (readFaults text)
+unfolding readOf
+read-verdict text = reading-verdict (foremost (readFaults text)) (fourLines text .catalogue)
 
-  four-within : (text : List ℕ) → Within numbers (fourLines text .verdict)
-  four-within text =
-      ⊎-elim
-      (λ e. text-within (fourLines text .verdict) (ap (λ (l : Lines). l .verdict) e))
-      (λ r. faults-within numbers [] (fourLines text .verdict) refl (r .accepted ∙ no-fault))
-      (four-lines-cases text)
+pub read-within : (numbers text : List ℕ) → faultsNamed numbers (readFaults text) ≡ true → Within numbers (readOf text .verdict)
+read-within numbers text e = faults-within numbers (readFaults text) _ e (read-verdict text)
 
-  module _ (bounds-named : OneOf numbers Bounds) where
-    value-judged : (c : Catalogue) (v : Verdict) → v ≡ catalogueVerdict c → Within numbers v
-    unfolding OneOf
-    value-judged c v e = faults-within numbers (unfit c ∷ []) v (rw bounds-named) (e ∙ catalogue-smallest c)
+not-refusing : (v : Verdict) → refuses v ≡ false → v ≡ Accepted
+not-refusing Accepted e = refl
+not-refusing (Refused refusal) e = absurd (true≢false e)
 
-    pub read-within : (text : List ℕ) → Within numbers (readOf text .verdict)
-    read-within text =
-        ⊎-elim
-        (λ v. value-judged (v .0) (readOf text .verdict) (text-verdict (v .0) text (v .1) (v .2)))
-        (λ e. text-within (readOf text .verdict) (ap (λ (r : Reading). r .verdict) e))
-        (text-or-refused text)
+lines-verdict : (text : List ℕ) → linesOf text .verdict ≡ foremost (linesFaults text)
+unfolding linesOf
+lines-verdict text = go (foremost (linesFaults text)) refl
+  where
+    go : (v : Verdict) → foremost (linesFaults text) ≡ v → linesBy v (fourLines text) .verdict ≡ v
+    go Accepted e = not-refusing (fourLines text .verdict) (accepted-none (linesFaults text) e .0)
+    go (Refused refusal) e = refl
 
-    lines-within : (text : List ℕ) → Within numbers (linesOf text .verdict)
-    lines-within text =
-        ⊎-elim
-        (λ v. value-judged (v .0) (linesOf text .verdict) (lines-verdict (v .0) (v .1) text (v .2) (v .3)))
-        (λ e. text-within (linesOf text .verdict) (ap (λ (l : Lines). l .verdict) e))
-        (starts-or-refused text)
-
-write-within : (c : Catalogue) (buffer after : List ℕ) (outcome : Outcome) → Wrote c buffer outcome after → ValueWithin (2 ∷ 9 ∷ []) outcome
-unfolding stands
+write-within : (c : Catalogue) (buffer after : List ℕ) (outcome : Outcome) → Wrote c buffer outcome after
+    → ValueWithin (catalogueNumbers ++ (9 ∷ [])) outcome
+unfolding stands writeVerdict
 write-within c buffer after outcome wrote refusal e =
     value-within _ (λ (v : Verdict). outcomeBy v (textOf c)) (length (textOf c)) refl (λ other. refl)
     (writeVerdict c (length buffer))
-    (faults-within _ (writeFaults c (length buffer)) _ refl (write-smallest c (length buffer)))
+    (faults-within _ (writeFaults c (length buffer)) _ refl refl)
     refusal (sym (wrote .outcome-is) ∙ e)
 
 pub text-numbers : TextNumbers
-unfolding OneOf stands
+unfolding stands
 text-numbers = record {
-  reads = read-within (1 ∷ 2 ∷ []) refl refl;
-  lines = lines-within (1 ∷ 2 ∷ []) refl refl;
-  four-lines = four-within (1 ∷ []) refl;
+  reads = λ text. read-within (1 ∷ catalogueNumbers) text refl;
+  lines = λ text. faults-within (1 ∷ catalogueNumbers) (linesFaults text) _ refl (lines-verdict text);
+  four-lines = λ text. faults-within (1 ∷ []) (lineFault text ∷ []) _ refl (sym (line-chain text));
   writes = write-within;
 }

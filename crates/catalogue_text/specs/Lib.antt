@@ -1,5 +1,4 @@
 pub mod Text
 pub mod Parsing
 pub mod Writing
-pub mod Faults
 pub mod Numbers

@@ -1,19 +1,20 @@
--- Reading catalogue text (document 01, 'Catalogue' and refusals 1 and 2): each line yields its value and where the next line
--- begins, or ends the reading.
+-- Reading catalogue text (document 01, 'Catalogue' and 'Numbers a call can give'): each line yields its value and where the next line
+-- begins, or ends the reading. `readOf` is the reading of a whole text, `linesOf` that of its start.
 use Prim.Native.Nat.{ℕ, zero, suc}
 use mathlib.Core.Bool.{cond, not}
-use mathlib.Core.List.{List}
+use mathlib.Core.List.{List, [], _∷_}
 use lib.Dec.{eqb}
 use lib.ListN.{length}
 use Rattle.refusal.specs.declared.Refusal.{Refusal}
-use Rattle.refusal.specs.declared.Refusal.the-variants.{Text}
 use Rattle.refusal.specs.declared.Verdict.{Verdict}
 use Rattle.refusal.specs.declared.Verdict.the-variants.{Accepted, Refused}
-use Rattle.refusal.specs.Chain.{refuseIf, andThen}
+use Rattle.refusal.specs.Numbers.{refusalOf}
+use Rattle.refusal.specs.Foremost.{Fault, fault, foremost}
+use Rattle.refusal.specs.Chain.{refuses}
 use Rattle.catalogue.specs.declared.Code.{Code}
 use Rattle.catalogue.specs.declared.Code.the-variants.{Short, Even}
 use Rattle.catalogue.specs.declared.Catalogue.{Catalogue}
-use Rattle.catalogue.specs.Catalogue.{catalogueVerdict, zeroCatalogue}
+use Rattle.catalogue.specs.Catalogue.{catalogueFaults, zeroCatalogue}
 use Rattle.text_lines.specs.declared.Line.{Line}
 use Rattle.text_lines.specs.declared.Line.the-variants.{Value, Refused as NoLine}
 use Rattle.text_lines.specs.Lines.{begins, numberLine}
@@ -22,9 +23,9 @@ use Rattle.catalogue_text.specs.declared.Reading.{Reading}
 use Rattle.catalogue_text.specs.Text.{codeText, serversName, messagesName, symbolName}
 
 -- the code of a first line's value: 0 is short, 1 is even
-abbrev pub codeOf : ℕ → Code
-codeOf zero = Short
-codeOf (suc n) = Even
+abbrev pub codeNamed : ℕ → Code
+codeNamed zero = Short
+codeNamed (suc n) = Even
 
 -- the first line
 unfoldable pub codeLine : List ℕ → Line
@@ -39,7 +40,7 @@ refusedLines refusal = record { verdict = Refused refusal; catalogue = zeroCatal
 -- a line's value and the next place go on, or the reading ends
 abbrev pub onLine : Line → (ℕ → ℕ → Lines) → Lines
 onLine (Value value next) continue = continue value next
-onLine NoLine continue = refusedLines Text
+onLine NoLine continue = refusedLines (refusalOf 1)
 
 -- the four lines at the start of a text, in any bounds
 unfoldable pub fourLines : List ℕ → Lines
@@ -48,15 +49,26 @@ fourLines text =
     onLine (numberLine serversName text a) λ N b.
     onLine (numberLine messagesName text b) λ K d.
     onLine (numberLine symbolName text d) λ S e.
-    record { verdict = Accepted; catalogue = record { code = codeOf code; servers = N; messages = K; symbol = S }; next = e }
+    record { verdict = Accepted; catalogue = record { code = codeNamed code; servers = N; messages = K; symbol = S }; next = e }
+
+-- a line is not there or not in its form
+abbrev pub lineFault : List ℕ → Fault
+lineFault text = fault 1 (refuses (fourLines text .verdict))
+
+-- a byte follows the last line
+abbrev pub endFault : List ℕ → Fault
+endFault text = fault 1 (not (eqb (fourLines text .next) (length text)))
 
 abbrev pub linesBy : Verdict → Lines → Lines
 linesBy Accepted found = found
 linesBy (Refused refusal) found = refusedLines refusal
 
+abbrev pub linesFaults : List ℕ → List Fault
+linesFaults text = lineFault text ∷ catalogueFaults (fourLines text .catalogue)
+
 -- the four lines at the start of a text, in the catalogue's bounds
 unfoldable pub linesOf : List ℕ → Lines
-linesOf text = let found = fourLines text in linesBy (andThen (found .verdict) (catalogueVerdict (found .catalogue))) found
+linesOf text = linesBy (foremost (linesFaults text)) (fourLines text)
 
 -- a refused reading of a whole text holds zeros, too
 abbrev pub unread : Refusal → Reading
@@ -66,10 +78,9 @@ abbrev pub readingBy : Verdict → Catalogue → Reading
 readingBy Accepted c = record { verdict = Accepted; catalogue = c }
 readingBy (Refused refusal) c = unread refusal
 
--- the four lines as a whole text: the fault of a byte after the last line comes before that of the bounds
+abbrev pub readFaults : List ℕ → List Fault
+readFaults text = lineFault text ∷ endFault text ∷ catalogueFaults (fourLines text .catalogue)
+
+-- the four lines as a whole text
 unfoldable pub readOf : List ℕ → Reading
-readOf text =
-    let found = fourLines text in
-    readingBy
-    (andThen (found .verdict) (refuseIf (not (eqb (found .next) (length text))) Text (catalogueVerdict (found .catalogue))))
-    (found .catalogue)
+readOf text = readingBy (foremost (readFaults text)) (fourLines text .catalogue)

@@ -1,22 +1,25 @@
--- Writing catalogue text (refusals 2 and 9 of document 01): what the call answers, and what it leaves in the buffer.
+-- Writing catalogue text (document 01, 'Catalogue' and 'Numbers a call can give'): what the call answers, and what it leaves in the buffer (`Wrote`).
 use mathlib.Core.Path.{_≡_}
 use Prim.Native.Nat.{ℕ}
-use mathlib.Core.List.{List}
+use mathlib.Core.List.{List, [], _∷_, _++_}
 use lib.Dec.{ltb}
 use lib.ListN.{length}
 use Rattle.lists.specs.Parts.{put}
-use Rattle.refusal.specs.declared.Refusal.the-variants.{Room}
 use Rattle.refusal.specs.declared.Verdict.{Verdict}
 use Rattle.refusal.specs.declared.Verdict.the-variants.{Accepted, Refused}
 use Rattle.refusal.specs.declared.Outcome.{Outcome}
 use Rattle.refusal.specs.declared.Outcome.the-variants.{Value, Refused as NotWritten}
-use Rattle.refusal.specs.Chain.{refuseIf, andThen}
+use Rattle.refusal.specs.Foremost.{Fault, fault, foremost}
 use Rattle.catalogue.specs.declared.Catalogue.{Catalogue}
-use Rattle.catalogue.specs.Catalogue.{catalogueVerdict}
+use Rattle.catalogue.specs.Catalogue.{catalogueFaults}
 use Rattle.catalogue_text.specs.Text.{textOf}
 
+-- writeFaults c room
+abbrev pub writeFaults : Catalogue → ℕ → List Fault
+writeFaults c room = catalogueFaults c ++ (fault 9 (ltb room (length (textOf c))) ∷ [])
+
 unfoldable pub writeVerdict : Catalogue → ℕ → Verdict
-writeVerdict c room = andThen (catalogueVerdict c) (refuseIf (ltb room (length (textOf c))) Room Accepted)
+writeVerdict c room = foremost (writeFaults c room)
 
 abbrev pub outcomeBy : Verdict → List ℕ → Outcome
 outcomeBy Accepted text = Value (length text)

@@ -10,7 +10,7 @@ ghost use Prim.Native.Nat.{_≤_};
 ghost use lib.ListN.{length};
 ghost use Rattle.lists.specs.Parts.{put};
 ghost use Rattle.catalogue_text.specs.Text.{codeText, textOf};
-ghost use Rattle.catalogue_text.specs.Parsing.{codeOf, codeLine, refusedLines, fourLines, linesOf, unread, readOf};
+ghost use Rattle.catalogue_text.specs.Parsing.{codeNamed, codeLine, refusedLines, fourLines, linesOf, unread, readOf};
 ghost use Rattle.catalogue_text.specs.Writing.{Wrote};
 
 // The four lines at the start of a text, and where they end.
@@ -40,8 +40,8 @@ fn code_line(text: &[u8]) -> Line
 }
 
 // The code of a first line's value.
-fn code_of(value: usize) -> Code
-    ensures { λ r. ⌜ r ≡ codeOf value ⌝ }
+fn code_named(value: usize) -> Code
+    ensures { λ r. ⌜ r ≡ codeNamed value ⌝ }
 {
     if value == 0 { Code::Short } else { Code::Even }
 }
@@ -57,7 +57,7 @@ fn refused(refusal: Refusal) -> Lines
     }
 }
 
-// The four lines at the start of the text, in any bounds: refused 1. For an input that goes on after the catalogue.
+// The four lines at the start of the text, in any bounds. For an input that goes on after the catalogue.
 pub fn four_lines(text: &[u8]) -> Lines
     ensures { λ r. ⌜ r ≡ fourLines (now (text .entry)) ⌝ }
 {
@@ -80,7 +80,7 @@ pub fn four_lines(text: &[u8]) -> Lines
     Lines {
         verdict: Verdict::Accepted,
         catalogue: Catalogue {
-            code: code_of(code),
+            code: code_named(code),
             servers: n,
             messages: k,
             symbol: s,
@@ -89,7 +89,7 @@ pub fn four_lines(text: &[u8]) -> Lines
     }
 }
 
-// The catalogue at the start of the text, whatever follows it: refused 1 or 2.
+// The catalogue at the start of the text, whatever follows it.
 pub fn read_lines(text: &[u8]) -> Lines
     ensures { λ r. ⌜ r ≡ linesOf (now (text .entry)) ⌝ }
 {
@@ -115,7 +115,7 @@ fn refused_reading(refusal: Refusal) -> Reading
     }
 }
 
-// The catalogue whose text this is: refused 1 or 2.
+// The catalogue whose text this is.
 pub fn read(text: &[u8]) -> Reading
     ensures { λ r. ⌜ r ≡ readOf (now (text .entry)) ⌝ }
 {
@@ -184,7 +184,7 @@ fn text_length(c: Catalogue) -> usize
     d + text_lines::line_length(b"piece=", c.symbol)
 }
 
-// Writes the catalogue's text at the start of `out`, and gives its length: refused 2 or 9.
+// Writes the catalogue's text at the start of `out`, and gives its length.
 pub fn write(c: Catalogue, out: &mut [u8]) -> Outcome
     ensures { λ r. ⌜ Wrote c (now (out .entry)) r (now (out .exit)) ⌝ }
 {

@@ -10,7 +10,4 @@ pub mod Served
 pub mod Received
 pub mod Reached
 pub mod Closed
-pub mod Numbers
-pub mod Faults
-pub mod Unused
 pub mod Runs

@@ -13,10 +13,9 @@ use Rattle.lists.specs.Parts.{put}
 use Rattle.lists.specs.Below.{Below}
 use Rattle.lists.proofs.Every.{every-true, every-false}
 use Rattle.lists.proofs.Mapped.{map-range}
-use Rattle.refusal.specs.declared.Refusal.the-variants.{Room, Missing}
 use Rattle.refusal.specs.declared.Verdict.{Verdict}
 use Rattle.refusal.specs.declared.Verdict.the-variants.{Accepted, Refused}
-use Rattle.refusal.specs.Chain.{refuseIf}
+use Rattle.refusal.specs.Chain.{refused, refuseIf}
 use Rattle.scheme.specs.Scheme.{Scheme, Valid, messageOf, honestAnswers, answersIn, recoverIn}
 use Rattle.scheme.specs.Laws.{Laws}
 use Rattle.catalogue.specs.declared.Catalogue.{Catalogue}
@@ -25,7 +24,7 @@ use Rattle.session.specs.declared.Session.{Session}
 use Rattle.session_parts.specs.Marks.{marked, allTaken}
 use Rattle.session.specs.Calls.{slotsOf, recoveredMessage, recoverVerdict, recover}
 use Rattle.session.proofs.Begin.{key-kept}
-use Rattle.session.proofs.Recover.{recover-verdict, recover-by, recover-says}
+use Rattle.session.proofs.Recover.{recover-verdict, recover-by, recover-goes}
 use Rattle.fetches.specs.Fetches.{Call, issuing, taking, recovering, make, run}
 use Rattle.fetches.specs.Past.{Past, Throughout, end, step}
 use Rattle.fetches.specs.Right.{AllTaken, RecoverSays, RecoverVerdict, HonestTake, MessageLeft}
@@ -46,15 +45,15 @@ module _ (schemeOf : Catalogue → Scheme) (c : Catalogue) (admitted : Admitted 
     verdict = recoverVerdict schemeOf s (length answers) (length message)
 
     verdict-left : verdict
-        ≡ refuseIf (ltb room (slotsOf schemeOf c)) Room
-        (refuseIf (ltb (length message) (schemeOf c .sizes .message)) Room (refuseIf (not (allTaken (c .servers) taken)) Missing Accepted))
+        ≡ refuseIf (ltb room (slotsOf schemeOf c)) 9
+        (refuseIf (ltb (length message) (schemeOf c .sizes .message)) 9 (refuseIf (not (allTaken (c .servers) taken)) 12 Accepted))
     verdict-left = rw (← k .room-kept)
         (recover-verdict schemeOf s (sound schemeOf c admitted laws wanted inside key valid issued taken (k .marks))
         (length answers) (length message))
 
     -- all are taken, by the calls and so by the marks
     all-verdict : AllTaken schemeOf c past → verdict
-        ≡ refuseIf (ltb (length message) (schemeOf c .sizes .message)) Room Accepted
+        ≡ refuseIf (ltb (length message) (schemeOf c .sizes .message)) 9 Accepted
     unfolding allTaken
     all-verdict all =
         verdict-left
@@ -65,14 +64,14 @@ module _ (schemeOf : Catalogue → Scheme) (c : Catalogue) (admitted : Admitted 
 
     missing-verdict : (server : ℕ) → server < c .servers → stands server (past .taken) ≡ false
         → verdict
-        ≡ refuseIf (ltb room (slotsOf schemeOf c)) Room (refuseIf (ltb (length message) (schemeOf c .sizes .message)) Room (Refused Missing))
+        ≡ refuseIf (ltb room (slotsOf schemeOf c)) 9 (refuseIf (ltb (length message) (schemeOf c .sizes .message)) 9 (refused 12))
     unfolding allTaken
     missing-verdict server h lacks = verdict-left ∙ rw (every-false (c .servers) (marked taken) server h (k .agree server h ∙ lacks))
 
     pub recover-right : RecoverSays schemeOf c room past message (recover schemeOf s answers message .handed .verdict)
     recover-right = record {
-      all-taken = λ all. recover-says schemeOf s answers message ∙ all-verdict all;
-      missing = λ server h lacks. recover-says schemeOf s answers message ∙ missing-verdict server h lacks;
+      all-taken = λ all. recover-goes schemeOf s answers message .says ∙ all-verdict all;
+      missing = λ server h lacks. recover-goes schemeOf s answers message .says ∙ missing-verdict server h lacks;
     }
 
     -- the slots hold the honest answers

@@ -26,8 +26,8 @@ use Rattle.fetches.specs.Past.{nothing}
 use Rattle.fetches.specs.Right.{FetchRight}
 use Rattle.fetches.specs.Claim.{Each, nil, cons, KeyList, Exchange, Demand3, Promises}
 use Rattle.fetches.proofs.Steps.{Kept, Held}
-use Rattle.fetches.proofs.View.{seenOf, seen-named, view}
 use Rattle.fetches.proofs.Told.{all-told}
+use Rattle.fetches.proofs.View.{seenOf, seen-named, view}
 use Rattle.fetches.proofs.Recovery.{verdicts, messages}
 use Rattle.fetches.proofs.Throughout.{all-unchanged, all-answers-left}
 use Rattle.fetches.proofs.Exchange.{exchanges, first-key, other-keys, below-rest, exchanges-valid, exchanges-back}

@@ -8,9 +8,9 @@ use Rattle.scheme.specs.Scheme.{Scheme}
 use Rattle.scheme.specs.Laws.{Laws}
 use Rattle.catalogue.specs.declared.Catalogue.{Catalogue}
 use Rattle.server.proofs.Laws.{writes-only}
-use Rattle.session.proofs.Issue.{issue-unchanged}
-use Rattle.session.proofs.Take.{take-unchanged}
-use Rattle.session.proofs.Recover.{recover-unchanged}
+use Rattle.session.proofs.Issue.{issue-goes}
+use Rattle.session.proofs.Take.{take-goes}
+use Rattle.session.proofs.Recover.{recover-goes}
 use Rattle.fetches.specs.Fetches.{Call, issuing, taking, recovering, State, Made, make, run}
 use Rattle.fetches.specs.Past.{Past, since, Throughout, end, step}
 use Rattle.fetches.specs.Right.{Unchanged, AnswerLeft}
@@ -36,9 +36,9 @@ module _ (schemeOf : Catalogue → Scheme) where
   always p (call ∷ calls) past at = step (p past at call) (always p calls (since past (make schemeOf at call)) (make schemeOf at call .after))
 
   unchanged : (past : Past) (at : State) (call : Call) → Unchanged past (make schemeOf at call)
-  unchanged past at (issuing server query answer) refusal e = let q = issue-unchanged schemeOf (at .session) server query refusal e in rw q (refl, refl)
-  unchanged past at (taking server answer) refusal e = let q = take-unchanged schemeOf (at .session) server answer (at .answers) refusal e in rw q (refl, refl)
-  unchanged past at (recovering message) refusal e = let q = recover-unchanged schemeOf (at .session) (at .answers) message refusal e in rw q (refl, refl)
+  unchanged past at (issuing server query answer) refusal e = let q = issue-goes schemeOf (at .session) server query .unchanged refusal e in rw q (refl, refl)
+  unchanged past at (taking server answer) refusal e = let q = take-goes schemeOf (at .session) server answer (at .answers) .unchanged refusal e in rw q (refl, refl)
+  unchanged past at (recovering message) refusal e = let q = recover-goes schemeOf (at .session) (at .answers) message .unchanged refusal e in rw q (refl, refl)
 
   pub all-unchanged : (calls : List Call) (past : Past) (at : State) → Throughout Unchanged past (run schemeOf at calls)
   all-unchanged = always unchanged

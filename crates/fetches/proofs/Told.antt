@@ -1,23 +1,25 @@
 -- Issue and take say what the calls made before them call for (`all-told`): a fetch's session stays sound, so only its marks are left to ask, and these
 -- agree with the calls (`Kept`).
 use mathlib.Core.Path.{_≡_, refl, sym, _∙_}
-use mathlib.Core.Bool.{Bool, true, false}
+use mathlib.Core.Bool.{Bool, true, false, not}
 use mathlib.Core.List.{List, [], _∷_}
 use Prim.Native.Nat.{ℕ, _<_}
 use native.Mathlib.Omega.{arith}
-use borrow.Author.Tests.{lt-leb, leb-false}
-use lib.Dec.{leb}
+use borrow.Author.Tests.{leb-false}
+use lib.Dec.{leb, ltb, eqb}
 use lib.ListN.{length}
 use Rattle.lists.specs.Parts.{put}
 use Rattle.refusal.specs.declared.Verdict.the-variants.{Accepted}
+use Rattle.refusal.specs.Chain.{refuseIf}
 use Rattle.scheme.specs.Scheme.{Scheme, Valid}
 use Rattle.scheme.specs.Laws.{Laws}
 use Rattle.catalogue.specs.declared.Catalogue.{Catalogue}
 use Rattle.catalogue.specs.Catalogue.{Admitted}
 use Rattle.session.specs.declared.Session.{Session}
-use Rattle.session.specs.Calls.{issueVerdict, takeVerdict}
-use Rattle.session.proofs.Issue.{issue-by, issue-says}
-use Rattle.session.proofs.Take.{take-says}
+use Rattle.session_parts.specs.Marks.{marked}
+use Rattle.session.specs.Calls.{queryOf, slotsOf, takeVerdict}
+use Rattle.session.proofs.Issue.{issue-by, issue-goes, issue-sound}
+use Rattle.session.proofs.Take.{take-goes, take-sound}
 use Rattle.session.proofs.Sound.{Sound}
 use Rattle.fetches.specs.Fetches.{Call, issuing, taking, recovering, Made, make, run}
 use Rattle.fetches.specs.Past.{Past, Throughout, end, step}
@@ -59,32 +61,30 @@ module _ (schemeOf : Catalogue → Scheme) (c : Catalogue) (admitted : Admitted 
     made call = make schemeOf (stateOf c wanted key issued taken answers) call
 
     issue-told : (server : ℕ) (query answer : List ℕ) → made (issuing server query answer) .verdict ≡ issueSays schemeOf c server (length query)
-    unfolding issueVerdict
-    issue-told server query answer = issue-says schemeOf s server query ∙ rw (good .admitted, lt-leb (c .messages) wanted inside, good .good, good .marks)
+    issue-told server query answer = issue-goes schemeOf s server query .says ∙ issue-sound schemeOf s server good (length query)
 
     query-told : (server : ℕ) (query answer : List ℕ) → made (issuing server query answer) .verdict ≡ Accepted
         → made (issuing server query answer) .left ≡ put 0 (schemeOf c .query wanted server key) query
     query-told server query answer e =
         rw (
-          issue-by schemeOf s server query Accepted (sym e ∙ issue-says schemeOf s server query),
+          issue-by schemeOf s server query Accepted (sym e ∙ issue-goes schemeOf s server query .says),
           kept-query schemeOf c admitted laws wanted inside key valid issued taken server,
         )
 
     take-told : (server size : ℕ) → takeVerdict schemeOf s server size (length answers) ≡ takeSays schemeOf c wanted key room past server size
-    unfolding takeVerdict
-    take-told server size = go (leb (c .servers) server) refl
+    take-told server size = take-sound schemeOf s server good size (length answers) ∙ go (leb (c .servers) server) refl
       where
         go : (t : Bool) → leb (c .servers) server ≡ t
-            → takeVerdict schemeOf s server size (length answers) ≡ takeSays schemeOf c wanted key room past server size
-        go true e = rw (good .admitted, e)
+            → refuseIf (leb (c .servers) server) 3
+            (refuseIf (ltb (length answers) (slotsOf schemeOf c)) 9
+            (refuseIf (not (eqb size (schemeOf c .answerLength (queryOf schemeOf s server)))) 10
+            (refuseIf (not (marked issued server)) 11 (refuseIf (marked taken server) 11 Accepted))))
+            ≡ takeSays schemeOf c wanted key room past server size
+        go true e = rw e
         go false e =
             let below = leb-false (c .servers) server e in
             rw (
-              good .admitted,
               e,
-              lt-leb (c .messages) wanted inside,
-              good .good,
-              good .marks,
               k .room-kept,
               kept-query schemeOf c admitted laws wanted inside key valid issued taken server,
               k .agree-issued server below,
@@ -102,7 +102,7 @@ module _ (schemeOf : Catalogue → Scheme) (c : Catalogue) (admitted : Admitted 
       queries = λ other query answer′ e v. not-issue e;
       takes = λ other answer′ e.
           let same = same-take e in
-          rw (← same .0, ← same .1) (take-says schemeOf s server answer answers ∙ take-told server (length answer));
+          rw (← same .0, ← same .1) (take-goes schemeOf s server answer answers .says ∙ take-told server (length answer));
     }
     told (recovering message) = record {
       issues = λ other query answer e. recover-no-issue e;

@@ -10,7 +10,6 @@ use lib.Dec.{ltb, eqb}
 use lib.ListN.{length, drop, replicate, length-replicate}
 use lib.Seq.{take-at, take-all}
 use Rattle.lists.specs.Sums.{keep, keepIf}
-use Rattle.refusal.specs.declared.Refusal.the-variants.{Room}
 use Rattle.refusal.specs.declared.Verdict.{Verdict}
 use Rattle.refusal.specs.declared.Verdict.the-variants.{Accepted, Refused}
 use Rattle.refusal.specs.declared.Outcome.the-variants.{Value}
@@ -32,7 +31,7 @@ use Rattle.fetches.proofs.Steps.{sessionOf, stateOf, Kept, kept-query, 
 module _ (schemeOf : Catalogue → Scheme) (c : Catalogue) (store : List ℕ) (n : ℕ) (query : List ℕ) where
   -- what an issue shows that asks the query: as if into zeros
   abbrev pub seen : ℕ → ℕ → Shown
-  seen room answerRoom = showing schemeOf c store n query (replicate answerRoom 0) (refuseIf (ltb room (schemeOf c .sizes .query)) Room Accepted)
+  seen room answerRoom = showing schemeOf c store n query (replicate answerRoom 0) (refuseIf (ltb room (schemeOf c .sizes .query)) 9 Accepted)
 
   abbrev pub seenOf : List Issue → List Shown
   seenOf [] = []
@@ -87,7 +86,7 @@ module _ (schemeOf : Catalogue → Scheme) (c : Catalogue) (admitted : Admitted 
         → showing schemeOf c store n (issueMade n buffer answer .left) answer (issueMade n buffer answer .verdict)
         ≡ seen schemeOf c store n query (length buffer) (length answer)
     issue-shown buffer answer =
-        go (refuseIf (ltb (length buffer) (schemeOf c .sizes .query)) Room Accepted)
+        go (refuseIf (ltb (length buffer) (schemeOf c .sizes .query)) 9 Accepted)
         (sym (issue-verdict schemeOf s n (sound schemeOf c admitted laws wanted inside key valid issued taken (k .marks)) below (length buffer)))
       where
         go : (v : Verdict) → v ≡ issueVerdict schemeOf s n (length buffer)

@@ -6,7 +6,4 @@ pub mod Right
 pub mod Claim
 pub mod Plain
 pub mod Received
-pub mod Numbers
-pub mod Faults
 pub mod Reached
-pub mod Unused

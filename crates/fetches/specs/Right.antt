@@ -9,10 +9,9 @@ use lib.ListN.{length, take}
 use Rattle.lists.specs.Distinct.{stands}
 use Rattle.lists.specs.Parts.{put}
 use Rattle.refusal.specs.declared.Refusal.{Refusal}
-use Rattle.refusal.specs.declared.Refusal.the-variants.{Room, Missing}
 use Rattle.refusal.specs.declared.Verdict.{Verdict}
 use Rattle.refusal.specs.declared.Verdict.the-variants.{Accepted, Refused}
-use Rattle.refusal.specs.Chain.{refuseIf}
+use Rattle.refusal.specs.Chain.{refused, refuseIf}
 use Rattle.scheme.specs.Scheme.{Scheme, messageOf}
 use Rattle.catalogue.specs.declared.Catalogue.{Catalogue}
 use Rattle.server.specs.Answering.{Answered, writtenBy, answering}
@@ -35,10 +34,10 @@ module _ (schemeOf : Catalogue → Scheme) (c : Catalogue) where
   -- A recover into `message`, with an answer buffer of `room` bytes: once all are taken it is done, unless the message's buffer is too short (9);
   -- with an answer missing it is refused, 9 if a buffer is too short, else 12
   pub record RecoverSays (room : ℕ) (past : Past) (message : List ℕ) (verdict : Verdict) : Type 0 where
-    pub all-taken : AllTaken past → verdict ≡ refuseIf (ltb (length message) (schemeOf c .sizes .message)) Room Accepted
+    pub all-taken : AllTaken past → verdict ≡ refuseIf (ltb (length message) (schemeOf c .sizes .message)) 9 Accepted
     pub missing : (server : ℕ) → server < c .servers → stands server (past .taken) ≡ false
         → verdict
-        ≡ refuseIf (ltb room (slotsOf schemeOf c)) Room (refuseIf (ltb (length message) (schemeOf c .sizes .message)) Room (Refused Missing))
+        ≡ refuseIf (ltb room (slotsOf schemeOf c)) 9 (refuseIf (ltb (length message) (schemeOf c .sizes .message)) 9 (refused 12))
 
   abbrev pub RecoverVerdict : ℕ → Past → Made → Type 0
   RecoverVerdict room past made = (message : List ℕ) → made .call ≡ recovering message → RecoverSays room past message (made .verdict)

@@ -8,7 +8,6 @@ use lib.Dec.{leb, ltb, eqb}
 use lib.ListN.{length}
 use Rattle.lists.specs.Distinct.{stands}
 use Rattle.lists.specs.Parts.{put}
-use Rattle.refusal.specs.declared.Refusal.the-variants.{Server, Room, AnswerLength, History}
 use Rattle.refusal.specs.declared.Verdict.{Verdict}
 use Rattle.refusal.specs.declared.Verdict.the-variants.{Accepted}
 use Rattle.refusal.specs.Chain.{refuseIf}
@@ -21,17 +20,17 @@ use Rattle.fetches.specs.Past.{Past}
 module _ (schemeOf : Catalogue → Scheme) (c : Catalogue) where
   -- an issue into a buffer of `size` bytes
   abbrev pub issueSays : ℕ → ℕ → Verdict
-  issueSays server size = refuseIf (leb (c .servers) server) Server (refuseIf (ltb size (schemeOf c .sizes .query)) Room Accepted)
+  issueSays server size = refuseIf (leb (c .servers) server) 3 (refuseIf (ltb size (schemeOf c .sizes .query)) 9 Accepted)
 
   module _ (wanted : ℕ) (key : List ℕ) (room : ℕ) where
     -- a take of an answer of `size` bytes, with an answer buffer of `room` bytes
     abbrev pub takeSays : Past → ℕ → ℕ → Verdict
     takeSays past server size =
-        refuseIf (leb (c .servers) server) Server
-        (refuseIf (ltb room (slotsOf schemeOf c)) Room
-        (refuseIf (not (eqb size (schemeOf c .answerLength (schemeOf c .query wanted server key)))) AnswerLength
-        (refuseIf (not (stands server (past .issued))) History
-        (refuseIf (stands server (past .taken)) History
+        refuseIf (leb (c .servers) server) 3
+        (refuseIf (ltb room (slotsOf schemeOf c)) 9
+        (refuseIf (not (eqb size (schemeOf c .answerLength (schemeOf c .query wanted server key)))) 10
+        (refuseIf (not (stands server (past .issued))) 11
+        (refuseIf (stands server (past .taken)) 11
         Accepted))))
 
     pub record Told (past : Past) (made : Made) : Type 0 where

@@ -1,3 +1,4 @@
 pub mod Signed
 pub mod Outcomes
+pub mod Host
 pub mod Numbers

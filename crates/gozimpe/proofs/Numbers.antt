@@ -1,38 +1,42 @@
--- The calls from C give only their numbers (`host-numbers`): the text's 1 and 2, or those of answering.
+-- The calls from C give only their numbers (`host-numbers`): each goes by the foremost of its faults.
 use mathlib.Core.Path.{refl}
-use mathlib.Core.List.{List, [], _∷_}
+use mathlib.Core.List.{List, _∷_}
 use Prim.Native.Nat.{ℕ}
+use lib.ListN.{length}
 use Rattle.lists.specs.Distinct.{stands}
 use Rattle.refusal.specs.declared.Verdict.{Verdict}
-use Rattle.refusal.specs.declared.Verdict.the-variants.{Accepted, Refused}
-use Rattle.refusal.specs.Within.{OneOf, Within, ValueWithin}
-use Rattle.refusal.proofs.Within.{refused-within, value-within}
-use Rattle.catalogue_text.specs.Parsing.{readOf}
-use Rattle.catalogue_text.proofs.Numbers.{read-within}
+use Rattle.refusal.specs.Foremost.{foremost}
+use Rattle.refusal.specs.Within.{ValueWithin}
+use Rattle.refusal.proofs.Within.{faults-within, value-within}
+use Rattle.catalogue.specs.declared.Catalogue.{Catalogue}
+use Rattle.catalogue.specs.Catalogue.{catalogueNumbers}
+use Rattle.catalogue_text.specs.Parsing.{fourLines, readFaults}
 use Rattle.codes.specs.Codes.{schemeOf}
-use Rattle.server.proofs.Faults.{answer-within}
-use Rattle.gozimpe.specs.Host.{answeringBy, answeringText, longestBy, longestAnswer}
+use Rattle.server.specs.Answering.{answerBy}
+use Rattle.server.specs.Numbers.{answerNumbers}
+use Rattle.gozimpe.specs.Host.{answeringText, hostFaults, longestBy, longestAnswer}
 use Rattle.gozimpe.specs.Numbers.{HostNumbers}
-
--- 1 and 2 of the text, and those of answering
-abbrev numbers : List ℕ
-numbers = 1 ∷ 2 ∷ 3 ∷ 7 ∷ 8 ∷ 9 ∷ []
+use Rattle.gozimpe.proofs.Host.{host-foremost, longest-foremost}
 
 module _ (text : List ℕ) where
-  answer-numbers : (server : ℕ) (store query buffer : List ℕ)
-      → ValueWithin numbers (answeringText text server store query buffer .outcome)
-  unfolding answeringText OneOf stands
-  answer-numbers server store query buffer = go (readOf text .verdict) (read-within numbers refl refl text)
-    where
-      go : (v : Verdict) → Within numbers v → ValueWithin numbers (answeringBy v (readOf text .catalogue) server store query buffer .outcome)
-      go Accepted w = answer-within schemeOf (readOf text .catalogue) server numbers store query buffer refl
-      go (Refused refusal) w = refused-within numbers refusal w
+  abbrev c : Catalogue
+  c = fourLines text .catalogue
 
-  longest-numbers : ValueWithin (1 ∷ 2 ∷ []) (longestAnswer text)
-  unfolding longestAnswer OneOf stands
+  answer-numbers : (server : ℕ) (store query buffer : List ℕ)
+      → ValueWithin (1 ∷ answerNumbers) (answeringText text server store query buffer .outcome)
+  unfolding stands
+  answer-numbers server store query buffer =
+      let faults = hostFaults text server (length store) query (length buffer) in
+      rw (host-foremost text server store query buffer)
+      (value-within (1 ∷ answerNumbers) (λ (v : Verdict). answerBy schemeOf c store query buffer v .outcome) (schemeOf c .answerLength query)
+      refl (λ refusal. refl) (foremost faults) (faults-within _ faults _ refl refl))
+
+  longest-numbers : ValueWithin (1 ∷ catalogueNumbers) (longestAnswer text)
+  unfolding stands
   longest-numbers =
-      value-within (1 ∷ 2 ∷ []) (λ (v : Verdict). longestBy v (readOf text .catalogue)) (schemeOf (readOf text .catalogue) .sizes .slot)
-      refl (λ refusal. refl) (readOf text .verdict) (read-within (1 ∷ 2 ∷ []) refl refl text)
+      rw (longest-foremost text)
+      (value-within (1 ∷ catalogueNumbers) (λ (v : Verdict). longestBy v c) (schemeOf c .sizes .slot)
+      refl (λ refusal. refl) (foremost (readFaults text)) (faults-within _ (readFaults text) _ refl refl))
 
 pub host-numbers : HostNumbers
 host-numbers = record { answers = answer-numbers; longest = longest-numbers }

@@ -1,6 +1,6 @@
--- What a host program in C is given (document 01, 'Session', last paragraph): the catalogue is read from its text, refused 1 or 2,
--- and then the call is the answering end's.
-use mathlib.Core.List.{List}
+-- What a host program in C is given (document 01, 'Session', last paragraph): the catalogue is read from its text, and then the call is the
+-- answering end's (`answeringText`).
+use mathlib.Core.List.{List, _∷_}
 use Prim.Native.Nat.{ℕ}
 use lib.IntN.{ℤ, pos, negℤ}
 use Rattle.refusal.specs.declared.Verdict.{Verdict}
@@ -8,10 +8,11 @@ use Rattle.refusal.specs.declared.Verdict.the-variants.{Accepted, Refused}
 use Rattle.refusal.specs.declared.Outcome.{Outcome}
 use Rattle.refusal.specs.declared.Outcome.the-variants.{Value, Refused as NoValue}
 use Rattle.refusal.specs.Numbers.{numberOf}
+use Rattle.refusal.specs.Foremost.{Fault}
 use Rattle.catalogue.specs.declared.Catalogue.{Catalogue}
-use Rattle.catalogue_text.specs.Parsing.{readOf}
+use Rattle.catalogue_text.specs.Parsing.{fourLines, lineFault, endFault, readOf}
 use Rattle.codes.specs.Codes.{schemeOf}
-use Rattle.server.specs.Answering.{Answered, answering}
+use Rattle.server.specs.Answering.{Answered, answerFaults, answering}
 
 -- an outcome as one number: its value, or minus the refusal's number
 abbrev pub signed : Outcome → ℤ
@@ -25,6 +26,11 @@ answeringBy (Refused refusal) c server store query buffer = record { outcome = N
 -- answering under the catalogue whose text this is
 unfoldable pub answeringText : List ℕ → ℕ → List ℕ → List ℕ → List ℕ → Answered
 answeringText text = let reading = readOf text in answeringBy (reading .verdict) (reading .catalogue)
+
+-- hostFaults text server stored query room: those of the text's form, then those of answering under the catalogue of its lines
+abbrev pub hostFaults : List ℕ → ℕ → ℕ → List ℕ → ℕ → List Fault
+hostFaults text server stored query room =
+    lineFault text ∷ endFault text ∷ answerFaults schemeOf (fourLines text .catalogue) server stored query room
 
 abbrev pub longestBy : Verdict → Catalogue → Outcome
 longestBy Accepted c = Value (schemeOf c .sizes .slot)

@@ -1,10 +1,12 @@
 -- The numbers that the calls from C can give (document 01, 'Numbers a call can give'), for every input; the result is minus the number.
-use mathlib.Core.List.{List, [], _∷_}
+use mathlib.Core.List.{List, _∷_}
 use Prim.Native.Nat.{ℕ}
 use Rattle.refusal.specs.Within.{ValueWithin}
+use Rattle.catalogue.specs.Catalogue.{catalogueNumbers}
+use Rattle.server.specs.Numbers.{answerNumbers}
 use Rattle.gozimpe.specs.Host.{answeringText, longestAnswer}
 
 pub record HostNumbers : Type 0 where
   pub answers : (text : List ℕ) (server : ℕ) (store query buffer : List ℕ)
-      → ValueWithin (1 ∷ 2 ∷ 3 ∷ 7 ∷ 8 ∷ 9 ∷ []) (answeringText text server store query buffer .outcome)
-  pub longest : (text : List ℕ) → ValueWithin (1 ∷ 2 ∷ []) (longestAnswer text)
+      → ValueWithin (1 ∷ answerNumbers) (answeringText text server store query buffer .outcome)
+  pub longest : (text : List ℕ) → ValueWithin (1 ∷ catalogueNumbers) (longestAnswer text)

@@ -26,7 +26,7 @@ fn minus(refusal: Refusal) -> i64
     -(number as i64)
 }
 
-// Answers one request: the answer's length, or minus the refusal's number (1, 2, 3, 7, 8 or 9).
+// Answers one request: the answer's length, or minus the refusal's number.
 #[no_mangle]
 pub extern "C" fn gozimpe_answer(
     catalogue: &[u8],
@@ -51,7 +51,7 @@ pub extern "C" fn gozimpe_answer(
     }
 }
 
-// The length of the longest answer under a catalogue, or minus the refusal's number (1 or 2).
+// The length of the longest answer under a catalogue, or minus the refusal's number.
 #[no_mangle]
 pub extern "C" fn gozimpe_longest_answer(catalogue: &[u8]) -> i64
     ensures { λ r. ⌜ r ≡ signed (longestAnswer (now (catalogue .entry))) ⌝ }

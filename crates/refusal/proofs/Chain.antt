@@ -1,30 +1,27 @@
--- What an accepted chain of checks says of its links, each was passed; and a chain that another goes on.
-use mathlib.Core.Path.{_≡_, refl}
-use mathlib.Core.Bool.{Bool, true, false}
+-- A list of faults that goes on with another is checked by one chain and then the other: `chain-append`. A refusal is not accepted (`not-refused`).
+use mathlib.Core.Path.{_≡_, refl, sym, ap, _∙_}
+use mathlib.Core.Bool.{Bool, true, false, cond}
+use mathlib.Core.List.{List, [], _∷_, _++_}
 use Prim.Native.Nat.{ℕ}
 use native.Mathlib.Omega.{arith}
 use Rattle.refusal.specs.declared.Refusal.{Refusal}
 use Rattle.refusal.specs.declared.Verdict.{Verdict}
 use Rattle.refusal.specs.declared.Verdict.the-variants.{Accepted, Refused}
-use Rattle.refusal.specs.Chain.{refuseIf, andThen}
+use Rattle.refusal.specs.Foremost.{Fault}
+use Rattle.refusal.specs.Chain.{andThen, chain}
 
 pub not-refused : {A : Type 0} (refusal : Refusal) → Refused refusal ≡ Accepted → A
 not-refused refusal e = let z : _≡_ {A = ℕ} 0 1 = cc in absurd (let w : ⊥ = omega arith in w)
 
-pub passed : (fault : Bool) (refusal : Refusal) (rest : Verdict) → refuseIf fault refusal rest ≡ Accepted → (fault ≡ false) × (rest ≡ Accepted)
-passed true refusal rest e = not-refused refusal e
-passed false refusal rest e = (refl, e)
+pub chain-append : (faults rest : List Fault) → chain (faults ++ rest) ≡ andThen (chain faults) (chain rest)
+chain-append [] rest = refl
+chain-append (f ∷ faults) rest = go (f .there) (chain-append faults rest)
+  where
+    go : (there : Bool) → chain (faults ++ rest) ≡ andThen (chain faults) (chain rest)
+        → cond there (Refused (f .refusal)) (chain (faults ++ rest)) ≡ andThen (cond there (Refused (f .refusal)) (chain faults)) (chain rest)
+    go true e = refl
+    go false e = e
 
-pub both-accepted : (v rest : Verdict) → andThen v rest ≡ Accepted → (v ≡ Accepted) × (rest ≡ Accepted)
-both-accepted Accepted rest e = (refl, e)
-both-accepted (Refused refusal) rest e = not-refused refusal e
-
--- ---- chains one after another
-
-pub then-then : (v rest last : Verdict) → andThen (andThen v rest) last ≡ andThen v (andThen rest last)
-then-then Accepted rest last = refl
-then-then (Refused refusal) rest last = refl
-
-pub if-then : (fault : Bool) (refusal : Refusal) (rest last : Verdict) → andThen (refuseIf fault refusal rest) last ≡ refuseIf fault refusal (andThen rest last)
-if-then true refusal rest last = refl
-if-then false refusal rest last = refl
+-- v is the verdict of the first chain, r that of both
+pub chain-after : (faults rest : List Fault) (v r : Verdict) → v ≡ chain faults → r ≡ andThen v (chain rest) → r ≡ chain (faults ++ rest)
+chain-after faults rest v r e p = p ∙ ap (λ (w : Verdict). andThen w (chain rest)) e ∙ sym (chain-append faults rest)

@@ -1,3 +1,5 @@
+pub mod Numbers
 pub mod Chain
-pub mod Smallest
+pub mod Foremost
+pub mod Accepted
 pub mod Within

@@ -1,4 +1,4 @@
--- A call gives only numbers of its faults: its verdict is the smallest of them (`faults-within`), and an outcome goes by a verdict (`value-within`).
+-- A call gives only numbers of its faults: its verdict is the foremost of them (`faults-within`), and an outcome goes by a verdict (`value-within`).
 use mathlib.Core.Path.{_≡_, sym, ap, _∙_}
 use mathlib.Core.Bool.{Bool, true}
 use mathlib.Core.List.{List}
@@ -11,9 +11,9 @@ use Rattle.refusal.specs.declared.Verdict.the-variants.{Accepted, Refuse
 use Rattle.refusal.specs.declared.Outcome.{Outcome}
 use Rattle.refusal.specs.declared.Outcome.the-variants.{Value, Refused as NoValue}
 use Rattle.refusal.specs.Numbers.{numberOf}
-use Rattle.refusal.specs.Smallest.{Fault, smallest}
+use Rattle.refusal.specs.Foremost.{Fault, foremost}
 use Rattle.refusal.specs.Within.{OneOf, Within, ValueWithin}
-use Rattle.refusal.proofs.Smallest.{ofFaults, ofVerdict, of-smallest}
+use Rattle.refusal.proofs.Foremost.{ofFaults, ofVerdict, of-foremost}
 
 not-value : {A : Type 0} {size : ℕ} {refusal : Refusal} → Value size ≡ NoValue refusal → A
 not-value {A} {size} {refusal} e = let z : _≡_ {A = ℕ} 0 1 = cc in absurd (let w : ⊥ = omega arith in w)
@@ -29,9 +29,9 @@ module _ (numbers : List ℕ) where
   abbrev pub faultsNamed : List Fault → Bool
   faultsNamed = ofFaults named
 
-  pub faults-within : (faults : List Fault) (v : Verdict) → faultsNamed faults ≡ true → v ≡ smallest faults → Within numbers v
+  pub faults-within : (faults : List Fault) (v : Verdict) → faultsNamed faults ≡ true → v ≡ foremost faults → Within numbers v
   unfolding OneOf
-  faults-within faults v e s refusal r = ap (ofVerdict named) (sym r ∙ s) ∙ of-smallest named faults e
+  faults-within faults v e s refusal r = ap (ofVerdict named) (sym r ∙ s) ∙ of-foremost named faults e
 
   pub refused-within : (other : Refusal) → Within numbers (Refused other) → ValueWithin numbers (NoValue other)
   refused-within other w refusal e = w refusal (ap Refused (same-refusal e))

@@ -1,4 +1,4 @@
 pub mod Numbers
+pub mod Foremost
 pub mod Chain
-pub mod Smallest
 pub mod Within

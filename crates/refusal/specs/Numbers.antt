@@ -1,7 +1,11 @@
--- The number of each refusal (document 01, 'Numbers a call can give').
-use Prim.Native.Nat.{ℕ}
+-- The number of each refusal, the refusal of each number, and which refusal is given first where several apply (document 01, 'Numbers a call can give').
+use Prim.Native.Nat.{ℕ, _+_}
+use mathlib.Core.Bool.{cond}
+use mathlib.Core.List.{List, [], _∷_}
+use lib.Dec.{eqb}
 use Rattle.refusal.specs.declared.Refusal.{Refusal}
-use Rattle.refusal.specs.declared.Refusal.the-variants.{Text, Bounds, Server, Wanted, KeyLength, KeyEntry, Query, StoreLength, Room, AnswerLength, History, Missing}
+use Rattle.refusal.specs.declared.Refusal.the-variants.{Text, Bounds, Server, Wanted, KeyLength, KeyEntry}
+use Rattle.refusal.specs.declared.Refusal.the-variants.{Query, StoreLength, Room, AnswerLength, History, Missing}
 
 abbrev pub numberOf : Refusal → ℕ
 numberOf Text = 1
@@ -16,3 +20,28 @@ numberOf Room = 9
 numberOf AnswerLength = 10
 numberOf History = 11
 numberOf Missing = 12
+
+-- every refusal
+abbrev pub refusals : List Refusal
+refusals =
+    Text ∷ Bounds ∷ Server ∷ Wanted ∷ KeyLength ∷ KeyEntry ∷ Query ∷ StoreLength ∷ Room ∷ AnswerLength ∷ History ∷ Missing ∷ []
+
+abbrev withNumber : ℕ → List Refusal → Refusal
+withNumber n [] = Missing
+withNumber n (refusal ∷ rest) = cond (eqb n (numberOf refusal)) refusal (withNumber n rest)
+
+-- The refusal that has a number of the table; definitions name refusals by their numbers
+abbrev pub refusalOf : ℕ → Refusal
+refusalOf n = withNumber n refusals
+
+-- Which is given first: the numbers, from the first that is given to the last
+abbrev pub order : List ℕ
+order = 1 ∷ 2 ∷ 3 ∷ 4 ∷ 5 ∷ 6 ∷ 7 ∷ 8 ∷ 9 ∷ 10 ∷ 11 ∷ 12 ∷ []
+
+abbrev placeIn : List ℕ → ℕ → ℕ
+placeIn [] n = 0
+placeIn (m ∷ numbers) n = cond (eqb n m) 0 (1 + placeIn numbers n)
+
+-- a refusal's place in the order
+abbrev pub rank : Refusal → ℕ
+rank refusal = placeIn order (numberOf refusal)

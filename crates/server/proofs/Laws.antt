@@ -4,7 +4,6 @@ use mathlib.Core.Bool.{true, not}
 use mathlib.Core.List.{List}
 use Prim.Native.Nat.{ℕ, _≤_, _<_}
 use native.Mathlib.Omega.{arith}
-use lib.Dec.{leb, ltb, eqb}
 use lib.ListN.{length, take, drop}
 use lib.Seq.{take-at}
 use borrow.Author.Tests.{leb-false, lt-leb, ltb-false, le-ltb, eqb-true, eq-eqb, not-false}
@@ -13,11 +12,11 @@ use Rattle.refusal.specs.declared.Refusal.{Refusal}
 use Rattle.refusal.specs.declared.Verdict.{Verdict}
 use Rattle.refusal.specs.declared.Verdict.the-variants.{Accepted, Refused}
 use Rattle.refusal.specs.declared.Outcome.the-variants.{Value, Refused as NoValue}
-use Rattle.refusal.proofs.Chain.{passed, both-accepted}
 use Rattle.scheme.specs.Scheme.{Scheme}
 use Rattle.scheme.specs.Laws.{Laws}
 use Rattle.catalogue.specs.declared.Catalogue.{Catalogue}
-use Rattle.catalogue.specs.Catalogue.{Admitted, catalogueVerdict}
+use Rattle.catalogue.specs.Catalogue.{Admitted}
+use Rattle.catalogue.proofs.Faults.{call-passed, call-accepted}
 use Rattle.server.specs.Answering.{Answered, DidAnswer, writtenBy, answerVerdict, answerBy, answering}
 
 module _ (schemeOf : Catalogue → Scheme) where
@@ -33,29 +32,32 @@ module _ (schemeOf : Catalogue → Scheme) where
       → answerVerdict schemeOf c server stored query room ≡ Accepted → Answers c server stored query room
   unfolding answerVerdict
   answer-passed c server stored query room e =
-      let p = both-accepted (catalogueVerdict c) _ e in
-      let q = passed (leb (c .servers) server) _ _ (p .1) in
-      let r = passed (not (schemeOf c .admits server query)) _ _ (q .1) in
-      let s = passed (not (eqb stored (schemeOf c .sizes .store))) _ _ (r .1) in
-      let t = passed (ltb room (schemeOf c .answerLength query)) _ _ (s .1) in
+      let p = call-passed c _ e in
+      let n = p .1 in
       record {
         admitted = p .0;
-        below = leb-false (c .servers) server (q .0);
-        admits = not-false _ (r .0);
-        store-long = eqb-true stored (schemeOf c .sizes .store) (not-false _ (s .0));
-        roomy = ltb-false room (schemeOf c .answerLength query) (t .0);
+        below = leb-false (c .servers) server (n .0);
+        admits = not-false _ (n .1 .0);
+        store-long = eqb-true stored (schemeOf c .sizes .store) (not-false _ (n .1 .1 .0));
+        roomy = ltb-false room (schemeOf c .answerLength query) (n .1 .1 .1 .0);
       }
 
   pub answer-accepted : (c : Catalogue) (server stored : ℕ) (query : List ℕ) (room : ℕ)
       → Answers c server stored query room → answerVerdict schemeOf c server stored query room ≡ Accepted
   unfolding answerVerdict
   answer-accepted c server stored query room a =
-      rw (
-        a .admitted,
+      call-accepted c _ (a .admitted) (
         lt-leb (c .servers) server (a .below),
-        a .admits,
-        eq-eqb stored (schemeOf c .sizes .store) (a .store-long),
-        le-ltb room (schemeOf c .answerLength query) (a .roomy),
+        (
+          ap not (a .admits),
+          (
+            ap not (eq-eqb stored (schemeOf c .sizes .store) (a .store-long)),
+            (
+              le-ltb room (schemeOf c .answerLength query) (a .roomy),
+              tt,
+            ),
+          ),
+        ),
       )
 
   -- an empty answer needs no room

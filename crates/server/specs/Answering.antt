@@ -2,20 +2,19 @@
 -- (document 01, 'Numbers a call can give').
 use mathlib.Core.Path.{_≡_}
 use mathlib.Core.Bool.{not}
-use mathlib.Core.List.{List, []}
+use mathlib.Core.List.{List, [], _∷_, _++_}
 use Prim.Native.Nat.{ℕ}
 use lib.Dec.{leb, ltb, eqb}
 use lib.ListN.{length, take}
 use Rattle.lists.specs.Parts.{put}
-use Rattle.refusal.specs.declared.Refusal.the-variants.{Server, Query, StoreLength, Room}
 use Rattle.refusal.specs.declared.Verdict.{Verdict}
 use Rattle.refusal.specs.declared.Verdict.the-variants.{Accepted, Refused}
 use Rattle.refusal.specs.declared.Outcome.{Outcome}
 use Rattle.refusal.specs.declared.Outcome.the-variants.{Value, Refused as NoValue}
-use Rattle.refusal.specs.Chain.{refuseIf, andThen}
+use Rattle.refusal.specs.Foremost.{Fault, fault, foremost}
 use Rattle.scheme.specs.Scheme.{Scheme}
 use Rattle.catalogue.specs.declared.Catalogue.{Catalogue}
-use Rattle.catalogue.specs.Catalogue.{catalogueVerdict}
+use Rattle.catalogue.specs.Catalogue.{catalogueFaults}
 
 -- What answering returns, the answer's length unless it is refused, and the buffer as it leaves it
 pub record Answered : Type 0 where
@@ -33,15 +32,18 @@ pub record DidAnswer (answered : Answered) (result : Outcome) (after : List ℕ)
   pub buffer : after ≡ answered .buffer
 
 module _ (schemeOf : Catalogue → Scheme) where
-  -- refusals 2, 3, 7, 8, 9: from the lengths of the store (`stored`) and of the buffer (`room`). No room is too little for an empty answer
+  -- answerFaults c server stored query room: from the lengths of the store and of the buffer. No room is too little for an empty answer
+  abbrev pub answerFaults : Catalogue → ℕ → ℕ → List ℕ → ℕ → List Fault
+  answerFaults c server stored query room =
+      catalogueFaults c
+      ++ (fault 3 (leb (c .servers) server)
+      ∷ fault 7 (not (schemeOf c .admits server query))
+      ∷ fault 8 (not (eqb stored (schemeOf c .sizes .store)))
+      ∷ fault 9 (ltb room (schemeOf c .answerLength query))
+      ∷ [])
+
   unfoldable pub answerVerdict : Catalogue → ℕ → ℕ → List ℕ → ℕ → Verdict
-  answerVerdict c server stored query room =
-      andThen (catalogueVerdict c)
-      (refuseIf (leb (c .servers) server) Server
-      (refuseIf (not (schemeOf c .admits server query)) Query
-      (refuseIf (not (eqb stored (schemeOf c .sizes .store))) StoreLength
-      (refuseIf (ltb room (schemeOf c .answerLength query)) Room
-      Accepted))))
+  answerVerdict c server stored query room = foremost (answerFaults c server stored query room)
 
   abbrev pub answerBy : Catalogue → List ℕ → List ℕ → List ℕ → Verdict → Answered
   answerBy c store query buffer Accepted = record {

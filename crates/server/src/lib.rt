@@ -8,7 +8,7 @@ ghost use mathlib.Core.Path.{_≡_};
 ghost use Rattle.codes.specs.Codes.{schemeOf};
 ghost use Rattle.server.specs.Answering.{DidAnswer, answerVerdict, answering};
 
-// Whether the query is answered, from a store of `stored` bytes into a buffer of `room` bytes: refused 2, 3, 7, 8 or 9.
+// Whether the query is answered, from a store of `stored` bytes into a buffer of `room` bytes.
 fn verdict(c: Catalogue, server: usize, stored: usize, query: &[u8], room: usize) -> Verdict
     ensures { λ r. ⌜ r ≡ answerVerdict schemeOf c server stored (now (query .entry)) room ⌝ }
 {
@@ -30,7 +30,7 @@ fn verdict(c: Catalogue, server: usize, stored: usize, query: &[u8], room: usize
     Verdict::Accepted
 }
 
-// Writes the answer to the query at the start of `out`, and gives its length: refused 2, 3, 7, 8 or 9.
+// Writes the answer to the query at the start of `out`, and gives its length.
 pub fn answer(c: Catalogue, server: usize, store: &[u8], query: &[u8], out: &mut [u8]) -> Outcome
     ensures { λ r. ⌜ DidAnswer (answering schemeOf c server (now (store .entry)) (now (query .entry)) (now (out .entry))) r (now (out .exit)) ⌝ }
 {

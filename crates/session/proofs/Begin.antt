@@ -3,20 +3,18 @@ use mathlib.Core.Path.{_≡_, refl, sym, ap, _∙_}
 use mathlib.Core.Bool.{not}
 use mathlib.Core.List.{List}
 use Prim.Native.Nat.{ℕ, _-_, _<_}
-use lib.Dec.{leb, eqb}
 use lib.ListN.{length, replicate}
 use lib.Seq.{take-at}
 use borrow.Author.Tests.{leb-false, lt-leb, eqb-true, eq-eqb, not-false}
 use Rattle.refusal.specs.declared.Refusal.{Refusal}
 use Rattle.refusal.specs.declared.Verdict.{Verdict}
 use Rattle.refusal.specs.declared.Verdict.the-variants.{Accepted, Refused}
-use Rattle.refusal.proofs.Chain.{passed, both-accepted}
 use Rattle.parameters.specs.Measures.{keyPlaces}
 use Rattle.scheme.specs.Scheme.{Scheme, Valid}
 use Rattle.catalogue.specs.declared.Catalogue.{Catalogue}
-use Rattle.catalogue.specs.Catalogue.{Admitted, catalogueVerdict}
+use Rattle.catalogue.specs.Catalogue.{Admitted}
+use Rattle.catalogue.proofs.Faults.{call-passed, call-accepted}
 use Rattle.session.specs.declared.Handed.{Handed}
-use Rattle.session_parts.specs.Places.{paddedKey}
 use Rattle.session.specs.Fields.{newSession, zeroSession}
 use Rattle.session.specs.Calls.{keyOf, beginVerdict, beginBy, begin}
 use Rattle.session_parts.proofs.Marks.{marks-none}
@@ -32,19 +30,19 @@ module _ (schemeOf : Catalogue → Scheme) (c : Catalogue) (wanted : ℕ) (key :
   pub begin-passed : beginVerdict schemeOf c wanted key ≡ Accepted → Begins
   unfolding beginVerdict
   begin-passed e =
-      let p = both-accepted (catalogueVerdict c) _ e in
-      let q = passed (leb (c .messages) wanted) _ _ (p .1) in
-      let r = passed (not (eqb (length key) (schemeOf c .sizes .key))) _ _ (q .1) in
-      let t = passed (not (schemeOf c .keyGood key)) _ _ (r .1) in
+      let p = call-passed c _ e in
+      let n = p .1 in
       record {
         admitted = p .0;
-        inside = leb-false (c .messages) wanted (q .0);
-        valid = record { long = eqb-true (length key) (schemeOf c .sizes .key) (not-false _ (r .0)); good = not-false _ (t .0) };
+        inside = leb-false (c .messages) wanted (n .0);
+        valid = record { long = eqb-true (length key) (schemeOf c .sizes .key) (not-false _ (n .1 .0)); good = not-false _ (n .1 .1 .0) };
       }
 
   pub begin-accepted : Begins → beginVerdict schemeOf c wanted key ≡ Accepted
   unfolding beginVerdict
-  begin-accepted b = rw (b .admitted, lt-leb (c .messages) wanted (b .inside), eq-eqb (length key) (schemeOf c .sizes .key) (b .valid .long), b .valid .good)
+  begin-accepted b =
+      call-accepted c _ (b .admitted)
+      (lt-leb (c .messages) wanted (b .inside), (ap not (eq-eqb (length key) (schemeOf c .sizes .key) (b .valid .long)), (ap not (b .valid .good), tt)))
 
   -- begin goes by its verdict
   pub begin-by : (v : Verdict) → v ≡ beginVerdict schemeOf c wanted key → begin schemeOf c wanted key ≡ beginBy schemeOf c wanted key v
@@ -72,7 +70,6 @@ module _ (schemeOf : Catalogue → Scheme) (c : Catalogue) (wanted : ℕ) (key :
 
   -- the places that are used hold the key
   pub key-kept : length key ≡ schemeOf c .sizes .key → keyOf schemeOf (newSession c wanted key) ≡ key
-  unfolding paddedKey
   key-kept e = take-at key (replicate (keyPlaces - length key) 0) (schemeOf c .sizes .key) e
 
   pub new-sound : Begins → Sound schemeOf (newSession c wanted key)

@@ -1,27 +1,25 @@
--- Laws of issue: refused it changes nothing, done it writes the query and marks the server; what an accepted verdict says, and the verdict on a
--- sound session.
-use mathlib.Core.Path.{_≡_, refl, sym, ap, _∙_}
-use mathlib.Core.Bool.{not}
+-- Laws of issue: it goes by its verdict (`issue-goes`); what an accepted verdict says (`issue-passed`), which is accepted (`issue-accepted`), and the
+-- verdict on a sound session (`issue-sound`).
+use mathlib.Core.Path.{_≡_, refl, sym}
 use mathlib.Core.List.{List}
 use Prim.Native.Nat.{ℕ, _≤_, _<_}
 use lib.Dec.{leb, ltb}
 use lib.ListN.{length}
-use borrow.Author.Tests.{leb-false, lt-leb, ltb-false, le-ltb, not-false}
+use borrow.Author.Tests.{lt-leb, ltb-false, le-ltb, not-false}
 use Rattle.lists.specs.Parts.{put}
-use Rattle.refusal.specs.declared.Refusal.{Refusal}
-use Rattle.refusal.specs.declared.Refusal.the-variants.{Room}
 use Rattle.refusal.specs.declared.Verdict.{Verdict}
-use Rattle.refusal.specs.declared.Verdict.the-variants.{Accepted, Refused}
+use Rattle.refusal.specs.declared.Verdict.the-variants.{Accepted}
 use Rattle.refusal.specs.Chain.{refuseIf}
-use Rattle.refusal.proofs.Chain.{passed, both-accepted}
+use Rattle.refusal.proofs.Accepted.{first-accepted}
 use Rattle.scheme.specs.Scheme.{Scheme}
 use Rattle.catalogue.specs.declared.Catalogue.{Catalogue}
-use Rattle.catalogue.specs.Catalogue.{catalogueVerdict}
+use Rattle.catalogue.proofs.Faults.{after-catalogue}
 use Rattle.session.specs.declared.Session.{Session}
-use Rattle.session_parts.specs.Marks.{marksGood}
 use Rattle.session.specs.Fields.{markIssued}
-use Rattle.session.specs.Calls.{Out, Did, out, codeOf, keyOf, queryOf, issueVerdict, issueBy, issue}
+use Rattle.session.specs.Calls.{codeOf, queryOf, serverFaults, issueVerdict, issueBy, issue}
 use Rattle.session.proofs.Sound.{Sound}
+use Rattle.session.proofs.Links.{holds-sound, server-passed}
+use Rattle.session.proofs.Goes.{Goes, goes}
 
 module _ (schemeOf : Catalogue → Scheme) (s : Session) (server : ℕ) where
   -- what an accepted verdict says
@@ -33,60 +31,36 @@ module _ (schemeOf : Catalogue → Scheme) (s : Session) (server : ℕ) where
   pub issue-passed : (room : ℕ) → issueVerdict schemeOf s server room ≡ Accepted → Issues room
   unfolding issueVerdict
   issue-passed room e =
-      let p = both-accepted (catalogueVerdict (s .catalogue)) _ e in
-      let q = passed (leb (s .catalogue .servers) server) _ _ (p .1) in
-      let w = passed (leb (s .catalogue .messages) (s .wanted)) _ _ (q .1) in
-      let k = passed (not (codeOf schemeOf s .keyGood (keyOf schemeOf s))) _ _ (w .1) in
-      let r = passed (ltb room (codeOf schemeOf s .sizes .query)) _ _ (k .1) in
-      let m = passed (not (marksGood (s .catalogue .servers) (s .issued) (s .taken))) _ _ (r .1) in
+      let p = first-accepted (serverFaults schemeOf s server) _ e in
+      let a = server-passed schemeOf s server (p .0) in
       record {
-        sound = record {
-          admitted = p .0;
-          inside = leb-false (s .catalogue .messages) (s .wanted) (w .0);
-          good = not-false _ (k .0);
-          marks = not-false _ (m .0);
-        };
-        below = leb-false (s .catalogue .servers) server (q .0);
-        roomy = ltb-false room (codeOf schemeOf s .sizes .query) (r .0);
+        sound = holds-sound schemeOf s (a .holds) (not-false _ (p .1 .1 .0));
+        below = a .below;
+        roomy = ltb-false room (codeOf schemeOf s .sizes .query) (p .1 .0);
       }
 
-  -- of a sound session and a server that is there, only the room is left to ask
-  pub issue-verdict : Sound schemeOf s → server < s .catalogue .servers → (room : ℕ)
-      → issueVerdict schemeOf s server room ≡ refuseIf (ltb room (codeOf schemeOf s .sizes .query)) Room Accepted
+  -- of a sound session, the server and the room are left to ask
+  pub issue-sound : Sound schemeOf s → (room : ℕ)
+      → issueVerdict schemeOf s server room
+      ≡ refuseIf (leb (s .catalogue .servers) server) 3 (refuseIf (ltb room (codeOf schemeOf s .sizes .query)) 9 Accepted)
   unfolding issueVerdict
-  issue-verdict sound below room =
-      rw (sound .admitted, lt-leb (s .catalogue .servers) server below, lt-leb (s .catalogue .messages) (s .wanted) (sound .inside), sound .good, sound .marks)
+  issue-sound sound room =
+      sym (after-catalogue (s .catalogue) _ refl Accepted _ (sym (sound .admitted))
+      (rw (lt-leb (s .catalogue .messages) (s .wanted) (sound .inside), sound .good, sound .marks)))
+
+  -- and a server that is there, only the room
+  pub issue-verdict : Sound schemeOf s → server < s .catalogue .servers → (room : ℕ)
+      → issueVerdict schemeOf s server room ≡ refuseIf (ltb room (codeOf schemeOf s .sizes .query)) 9 Accepted
+  issue-verdict sound below room = rw (issue-sound sound room, lt-leb (s .catalogue .servers) server below)
 
   pub issue-accepted : (room : ℕ) → Issues room → issueVerdict schemeOf s server room ≡ Accepted
   issue-accepted room i = rw (issue-verdict (i .sound) (i .below) room, le-ltb room (codeOf schemeOf s .sizes .query) (i .roomy))
 
   module _ (buffer : List ℕ) where
-    abbrev verdict : Verdict
-    verdict = issueVerdict schemeOf s server (length buffer)
-
-    abbrev did : Out
-    did = issue schemeOf s server buffer
-
-    -- issue goes by its verdict
-    pub issue-by : (v : Verdict) → v ≡ verdict → did ≡ issueBy schemeOf s server buffer v
+    pub issue-goes : Goes (issue schemeOf s server buffer) (issueVerdict schemeOf s server (length buffer))
+        s (markIssued s server) buffer (put 0 (queryOf schemeOf s server) buffer)
     unfolding issue
-    issue-by v e = ap (issueBy schemeOf s server buffer) (sym e)
+    issue-goes = goes s (markIssued s server) buffer (put 0 (queryOf schemeOf s server) buffer) (issueVerdict schemeOf s server (length buffer))
 
-    -- its result says the verdict, and a result that says a refusal says that nothing changed
-    pub issue-says : did .handed .verdict ≡ verdict
-    issue-says = go verdict refl
-      where
-        go : (v : Verdict) → v ≡ verdict → did .handed .verdict ≡ verdict
-        go Accepted e = rw (issue-by Accepted e) e
-        go (Refused refusal) e = rw (issue-by (Refused refusal) e) e
-
-    pub issue-unchanged : (refusal : Refusal) → did .handed .verdict ≡ Refused refusal → did ≡ out (Refused refusal) s buffer
-    issue-unchanged refusal e = issue-by (Refused refusal) (sym e ∙ issue-says)
-
-    pub issue-refused : (v : Verdict) (refusal : Refusal) → v ≡ verdict → v ≡ Refused refusal → Did did (record { verdict = v; session = s }) buffer
-    issue-refused v refusal e p = rw (issue-by v e, p) (record { handed = refl; buffer = refl })
-
-    pub issue-done : (v : Verdict) (after : List ℕ) → v ≡ verdict → v ≡ Accepted
-        → after ≡ put 0 (queryOf schemeOf s server) buffer
-        → Did did (record { verdict = Accepted; session = markIssued s server }) after
-    issue-done v after e p a = rw (issue-by v e, p) (record { handed = refl; buffer = a })
+    pub issue-by : (v : Verdict) → v ≡ issueVerdict schemeOf s server (length buffer) → issue schemeOf s server buffer ≡ issueBy schemeOf s server buffer v
+    issue-by = issue-goes .by

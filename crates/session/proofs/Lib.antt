@@ -1,6 +1,7 @@
 pub mod Places
-pub mod Links
+pub mod Goes
 pub mod Sound
+pub mod Links
 pub mod Begin
 pub mod Issue
 pub mod Take
@@ -8,3 +9,5 @@ pub mod Recover
 pub mod Slots
 pub mod Promised
 pub mod ByteBound
+pub mod Numbers
+pub mod Unused

@@ -47,25 +47,10 @@ module _ (s : Session) (long : length (s .key) ≡ keyPlaces) (a : Admitted (s .
   own-key : Valid (codeOf schemeOf s) (keyOf schemeOf s)
   own-key = key-valid s long (codeOf schemeOf s .sizes) a refl good
 
-  pub query-long : length (queryOf schemeOf s server) ≡ codeOf schemeOf s .sizes .query
-  query-long = promises (s .catalogue) a .query-length (s .wanted) server (keyOf schemeOf s) inside below own-key
-
   pub answer-fits : codeOf schemeOf s .answerLength (queryOf schemeOf s server) ≤ codeOf schemeOf s .sizes .slot
   answer-fits =
       let laws = promises (s .catalogue) a in
       laws .answer-fits server (queryOf schemeOf s server) (laws .query-admitted (s .wanted) server (keyOf schemeOf s) inside below own-key)
-
-  -- the query, written at the start of a buffer with room for a key, and read again
-  module _ (sizes : Sizes) (e : sizes ≡ codeOf schemeOf s .sizes) (buffer after : List ℕ) (room : length buffer ≡ keyPlaces)
-      (written : after ≡ put 0 (queryOf schemeOf s server) buffer) where
-    fits : 0 + length (queryOf schemeOf s server) ≤ length buffer
-    fits = omega (arith, query-long, sizes-small (s .catalogue) (codeOf schemeOf s .sizes) a refl .query)
-
-    pub query-within : sizes .query ≤ length after
-    query-within = rw (written, put-length 0 (queryOf schemeOf s server) buffer fits, e, ← query-long) (omega (arith, fits))
-
-    pub query-read : take (sizes .query) after ≡ queryOf schemeOf s server
-    query-read = rw (e, ← query-long, written) (cut-put 0 (queryOf schemeOf s server) buffer fits)
 
 -- the part of the buffer that a take writes
 pub slot-holds : (s : Session) → length (s .key) ≡ keyPlaces → (sizes : Sizes) → sizes ≡ codeOf schemeOf s .sizes → (server size room : ℕ)

@@ -1,21 +1,21 @@
 -- The calls of a session, over the code of each catalogue (document 01, 'Session' and 'Numbers a call can give'): the whole result, and the
--- final bytes of the buffer that the call may write, for every input. A call goes by its verdict; refused, it changes nothing.
+-- final bytes of the buffer that the call may write, for every input. A call goes by its verdict, the foremost of its faults; refused, it changes
+-- nothing.
 use mathlib.Core.Path.{_≡_}
 use mathlib.Core.Bool.{not}
-use mathlib.Core.List.{List}
+use mathlib.Core.List.{List, [], _∷_, _++_}
 use Prim.Native.Nat.{ℕ, _*_}
 use lib.Dec.{leb, ltb, eqb}
 use lib.ListN.{length, take}
 use Rattle.lists.specs.Parts.{put}
-use Rattle.refusal.specs.declared.Refusal.the-variants.{Server, Wanted, KeyLength, KeyEntry, Room, AnswerLength, History, Missing}
 use Rattle.refusal.specs.declared.Verdict.{Verdict}
 use Rattle.refusal.specs.declared.Verdict.the-variants.{Accepted, Refused}
 use Rattle.refusal.specs.declared.Outcome.{Outcome}
 use Rattle.refusal.specs.declared.Outcome.the-variants.{Value, Refused as NoValue}
-use Rattle.refusal.specs.Chain.{refuseIf, andThen}
+use Rattle.refusal.specs.Foremost.{Fault, fault, foremost}
 use Rattle.scheme.specs.Scheme.{Scheme, recoverIn}
 use Rattle.catalogue.specs.declared.Catalogue.{Catalogue}
-use Rattle.catalogue.specs.Catalogue.{catalogueVerdict}
+use Rattle.catalogue.specs.Catalogue.{catalogueFaults, catalogueVerdict}
 use Rattle.session.specs.declared.Session.{Session}
 use Rattle.session.specs.declared.Handed.{Handed}
 use Rattle.session_parts.specs.Marks.{marked, marksGood, allTaken}
@@ -34,9 +34,22 @@ pub record Did (o : Out) (result : Handed) (after : List ℕ) : Type 0 where
   pub handed : result ≡ o .handed
   pub buffer : after ≡ o .buffer
 
--- the marks that no history of calls gives are refused with 11
-abbrev pub refuseMarks : Session → Verdict → Verdict
-refuseMarks s rest = refuseIf (not (marksGood (s .catalogue .servers) (s .issued) (s .taken))) History rest
+-- callBy s buffer after written: the session and the buffer after a call, done or refused
+abbrev pub callBy : Session → List ℕ → Session → List ℕ → Verdict → Out
+callBy s buffer after written Accepted = out Accepted after written
+callBy s buffer after written (Refused refusal) = out (Refused refusal) s buffer
+
+-- marks that no history of calls gives
+abbrev pub marksFault : Session → Fault
+marksFault s = fault 11 (not (marksGood (s .catalogue .servers) (s .issued) (s .taken)))
+
+-- the server's answer is not due: no query was issued to it, or its answer was taken
+abbrev pub dueFaults : Session → ℕ → List Fault
+dueFaults s server = fault 11 (not (marked (s .issued) server)) ∷ fault 11 (marked (s .taken) server) ∷ []
+
+-- an answer is missing
+abbrev pub missingFault : Session → Fault
+missingFault s = fault 12 (not (allTaken (s .catalogue .servers) (s .taken)))
 
 module _ (schemeOf : Catalogue → Scheme) where
   abbrev pub codeOf : Session → Scheme
@@ -54,18 +67,28 @@ module _ (schemeOf : Catalogue → Scheme) where
   abbrev pub slotsOf : Catalogue → ℕ
   slotsOf c = c .servers * schemeOf c .sizes .slot
 
-  -- wanted and key of a session are checked again: 4, 6
-  abbrev pub refuseFields : Session → Verdict → Verdict
-  refuseFields s rest = refuseIf (leb (s .catalogue .messages) (s .wanted)) Wanted (refuseIf (not (codeOf s .keyGood (keyOf s))) KeyEntry rest)
+  -- wanted and key of a session are checked again
+  abbrev pub fieldFaults : Session → List Fault
+  fieldFaults s = fault 4 (leb (s .catalogue .messages) (s .wanted)) ∷ fault 6 (not (codeOf s .keyGood (keyOf s))) ∷ []
 
-  -- begin catalogue wanted key. Refusals 2, 4, 5, 6
+  abbrev pub sessionFaults : Session → List Fault
+  sessionFaults s = catalogueFaults (s .catalogue) ++ fieldFaults s
+
+  -- of a call that names a server
+  abbrev pub serverFaults : Session → ℕ → List Fault
+  serverFaults s server = catalogueFaults (s .catalogue) ++ (fault 3 (leb (s .catalogue .servers) server) ∷ fieldFaults s)
+
+  -- begin catalogue wanted key
+  abbrev pub beginFaults : Catalogue → ℕ → List ℕ → List Fault
+  beginFaults c wanted key =
+      catalogueFaults c
+      ++ (fault 4 (leb (c .messages) wanted)
+      ∷ fault 5 (not (eqb (length key) (schemeOf c .sizes .key)))
+      ∷ fault 6 (not (schemeOf c .keyGood key))
+      ∷ [])
+
   unfoldable pub beginVerdict : Catalogue → ℕ → List ℕ → Verdict
-  beginVerdict c wanted key =
-      andThen (catalogueVerdict c)
-      (refuseIf (leb (c .messages) wanted) Wanted
-      (refuseIf (not (eqb (length key) (schemeOf c .sizes .key))) KeyLength
-      (refuseIf (not (schemeOf c .keyGood key)) KeyEntry
-      Accepted)))
+  beginVerdict c wanted key = foremost (beginFaults c wanted key)
 
   abbrev pub beginBy : Catalogue → ℕ → List ℕ → Verdict → Handed
   beginBy c wanted key Accepted = record { verdict = Accepted; session = newSession c wanted key }
@@ -74,68 +97,62 @@ module _ (schemeOf : Catalogue → Scheme) where
   unfoldable pub begin : Catalogue → ℕ → List ℕ → Handed
   begin c wanted key = beginBy c wanted key (beginVerdict c wanted key)
 
-  -- issue session server buffer: the query, at the start of the buffer. Refusals 2, 3, 4, 6, 9, 11
+  -- issue session server buffer: the query, at the start of the buffer
+  abbrev pub issueFaults : Session → ℕ → ℕ → List Fault
+  issueFaults s server room = serverFaults s server ++ (fault 9 (ltb room (codeOf s .sizes .query)) ∷ marksFault s ∷ [])
+
   unfoldable pub issueVerdict : Session → ℕ → ℕ → Verdict
-  issueVerdict s server room =
-      andThen (catalogueVerdict (s .catalogue))
-      (refuseIf (leb (s .catalogue .servers) server) Server
-      (refuseFields s
-      (refuseIf (ltb room (codeOf s .sizes .query)) Room
-      (refuseMarks s
-      Accepted))))
+  issueVerdict s server room = foremost (issueFaults s server room)
 
   abbrev pub issueBy : Session → ℕ → List ℕ → Verdict → Out
-  issueBy s server buffer Accepted = out Accepted (markIssued s server) (put 0 (queryOf s server) buffer)
-  issueBy s server buffer (Refused refusal) = out (Refused refusal) s buffer
+  issueBy s server buffer = callBy s buffer (markIssued s server) (put 0 (queryOf s server) buffer)
 
   unfoldable pub issue : Session → ℕ → List ℕ → Out
   issue s server buffer = issueBy s server buffer (issueVerdict s server (length buffer))
 
-  -- take session server answer buffer: the answer, at the start of the server's slot; of an empty answer nothing is written.
-  -- Refusals 2, 3, 4, 6, 9, 10, 11; 10 goes by the query that the session calls for there, issued or not
+  -- take session server answer buffer: the answer, at the start of the server's slot; of an empty answer nothing is written. The length goes by the
+  -- query that the session calls for there, issued or not
+  abbrev pub takeFaults : Session → ℕ → ℕ → ℕ → List Fault
+  takeFaults s server size room =
+      serverFaults s server
+      ++ (fault 9 (ltb room (slotsOf (s .catalogue)))
+      ∷ fault 10 (not (eqb size (codeOf s .answerLength (queryOf s server))))
+      ∷ marksFault s
+      ∷ dueFaults s server)
+
   unfoldable pub takeVerdict : Session → ℕ → ℕ → ℕ → Verdict
-  takeVerdict s server size room =
-      andThen (catalogueVerdict (s .catalogue))
-      (refuseIf (leb (s .catalogue .servers) server) Server
-      (refuseFields s
-      (refuseIf (ltb room (slotsOf (s .catalogue))) Room
-      (refuseIf (not (eqb size (codeOf s .answerLength (queryOf s server)))) AnswerLength
-      (refuseMarks s
-      (refuseIf (not (marked (s .issued) server)) History
-      (refuseIf (marked (s .taken) server) History
-      Accepted)))))))
+  takeVerdict s server size room = foremost (takeFaults s server size room)
 
   abbrev pub takeBy : Session → ℕ → List ℕ → List ℕ → Verdict → Out
-  takeBy s server answer buffer Accepted = out Accepted (markTaken s server) (put (server * codeOf s .sizes .slot) answer buffer)
-  takeBy s server answer buffer (Refused refusal) = out (Refused refusal) s buffer
+  takeBy s server answer buffer = callBy s buffer (markTaken s server) (put (server * codeOf s .sizes .slot) answer buffer)
 
   unfoldable pub takeAnswer : Session → ℕ → List ℕ → List ℕ → Out
   takeAnswer s server answer buffer = takeBy s server answer buffer (takeVerdict s server (length answer) (length buffer))
 
-  -- recover session answers buffer: the message, at the start of the buffer, from the answers in their slots; the session as it was.
-  -- Refusals 2, 4, 6, 9, 11, 12
+  -- recover session answers buffer: the message, at the start of the buffer, from the answers in their slots; the session as it was
+  abbrev pub recoverFaults : Session → ℕ → ℕ → List Fault
+  recoverFaults s answersRoom room =
+      sessionFaults s
+      ++ (fault 9 (ltb answersRoom (slotsOf (s .catalogue)))
+      ∷ fault 9 (ltb room (codeOf s .sizes .message))
+      ∷ marksFault s
+      ∷ missingFault s
+      ∷ [])
+
   unfoldable pub recoverVerdict : Session → ℕ → ℕ → Verdict
-  recoverVerdict s answersRoom room =
-      andThen (catalogueVerdict (s .catalogue))
-      (refuseFields s
-      (refuseIf (ltb answersRoom (slotsOf (s .catalogue))) Room
-      (refuseIf (ltb room (codeOf s .sizes .message)) Room
-      (refuseMarks s
-      (refuseIf (not (allTaken (s .catalogue .servers) (s .taken))) Missing
-      Accepted)))))
+  recoverVerdict s answersRoom room = foremost (recoverFaults s answersRoom room)
 
   -- the message that the answers in a buffer give
   abbrev pub recoveredMessage : Session → List ℕ → List ℕ
   recoveredMessage s answers = recoverIn (codeOf s) (s .catalogue .servers) (s .wanted) (keyOf s) answers
 
   abbrev pub recoverBy : Session → List ℕ → List ℕ → Verdict → Out
-  recoverBy s answers buffer Accepted = out Accepted s (put 0 (recoveredMessage s answers) buffer)
-  recoverBy s answers buffer (Refused refusal) = out (Refused refusal) s buffer
+  recoverBy s answers buffer = callBy s buffer s (put 0 (recoveredMessage s answers) buffer)
 
   unfoldable pub recover : Session → List ℕ → List ℕ → Out
   recover s answers buffer = recoverBy s answers buffer (recoverVerdict s (length answers) (length buffer))
 
-  -- an upper bound on the bytes that a fetch receives, from the catalogue alone. Refusal 2
+  -- an upper bound on the bytes that a fetch receives, from the catalogue alone
   abbrev pub boundBy : Catalogue → Verdict → Outcome
   boundBy c Accepted = Value (slotsOf c)
   boundBy c (Refused refusal) = NoValue refusal

@@ -1,2 +1,4 @@
 pub mod Fields
 pub mod Calls
+pub mod Numbers
+pub mod Unused

@@ -1,17 +1,17 @@
 // The verdicts of the session's calls, from the session's own fields and the call's inputs, and the query that a verdict and a call both need.
 ghost use mathlib.Core.Path.{_≡_};
-ghost use mathlib.Core.Bool.{true, not};
+ghost use mathlib.Core.Bool.{true};
+ghost use mathlib.Core.List.{[], _∷_};
 ghost use Prim.Native.Nat.{_≤_, _<_};
-ghost use lib.Dec.{leb};
 ghost use lib.ListN.{length};
 ghost use Rattle.lists.specs.Parts.{put};
-ghost use Rattle.refusal.specs.declared.Refusal.the-variants.{Server, History, Missing};
-ghost use Rattle.refusal.specs.declared.Verdict.the-variants.{Accepted};
-ghost use Rattle.refusal.specs.Chain.{refuseIf, andThen};
-ghost use Rattle.catalogue.specs.Catalogue.{Admitted, catalogueVerdict};
+ghost use Rattle.refusal.specs.Foremost.{foremost};
+ghost use Rattle.refusal.specs.Chain.{chain};
+ghost use Rattle.catalogue.specs.Catalogue.{Admitted};
 ghost use Rattle.codes.specs.Codes.{schemeOf};
-ghost use Rattle.session_parts.specs.Marks.{marked, allTaken};
-ghost use Rattle.session.specs.Calls.{codeOf, keyOf, queryOf, refuseFields, refuseMarks, beginVerdict, issueVerdict, takeVerdict, recoverVerdict};
+ghost use Rattle.session.specs.Calls.{codeOf, keyOf, queryOf};
+ghost use Rattle.session.specs.Calls.{marksFault, dueFaults, missingFault, fieldFaults, sessionFaults, serverFaults};
+ghost use Rattle.session.specs.Calls.{beginVerdict, issueVerdict, takeVerdict, recoverVerdict};
 use crate::Session;
 use catalogue::Catalogue;
 use catalogue::Measured;
@@ -37,7 +37,7 @@ pub fn sizes_of(c: Catalogue) -> Sizes
     }
 }
 
-// Whether a fetch can begin: refused 2, 4, 5, 6.
+// Whether a fetch can begin.
 pub fn begin_verdict(catalogue: Catalogue, wanted: usize, key: &[u8]) -> Verdict
     ensures { λ r. ⌜ r ≡ beginVerdict schemeOf catalogue wanted (now (key .entry)) ⌝ }
 {
@@ -68,10 +68,10 @@ fn own_key_good(s: Session) -> bool
     codes::key_good(s.catalogue, &key[..used])
 }
 
-// Whether wanted and key of the session are still good: refused 4, 6.
+// Whether wanted and key of the session are still good.
 fn fields_verdict(s: Session) -> Verdict
     requires { ⌜ Admitted (s .catalogue) ⌝ }
-    ensures { λ r. ⌜ r ≡ refuseFields schemeOf s Accepted ⌝ }
+    ensures { λ r. ⌜ r ≡ chain (fieldFaults schemeOf s) ⌝ }
 {
     if s.catalogue.messages <= s.wanted {
         return Verdict::Refused(Refusal::Wanted);
@@ -82,9 +82,9 @@ fn fields_verdict(s: Session) -> Verdict
     Verdict::Accepted
 }
 
-// Whether the session can ask this server: refused 2, 3, 4, 6.
+// Whether the session can ask this server.
 fn server_verdict(s: Session, server: usize) -> Verdict
-    ensures { λ r. ⌜ r ≡ andThen (catalogueVerdict (s .catalogue)) (refuseIf (leb (s .catalogue .servers) server) Server (refuseFields schemeOf s Accepted)) ⌝ }
+    ensures { λ r. ⌜ r ≡ foremost (serverFaults schemeOf s server) ⌝ }
 {
     if let Verdict::Refused(refusal) = catalogue::verdict(s.catalogue) {
         return Verdict::Refused(refusal);
@@ -95,9 +95,9 @@ fn server_verdict(s: Session, server: usize) -> Verdict
     fields_verdict(s)
 }
 
-// Whether the session can be recovered from, its answers and buffers apart: refused 2, 4, 6.
+// Whether the session can be recovered from, its answers and buffers apart.
 fn session_verdict(s: Session) -> Verdict
-    ensures { λ r. ⌜ r ≡ andThen (catalogueVerdict (s .catalogue)) (refuseFields schemeOf s Accepted) ⌝ }
+    ensures { λ r. ⌜ r ≡ foremost (sessionFaults schemeOf s) ⌝ }
 {
     if let Verdict::Refused(refusal) = catalogue::verdict(s.catalogue) {
         return Verdict::Refused(refusal);
@@ -105,9 +105,9 @@ fn session_verdict(s: Session) -> Verdict
     fields_verdict(s)
 }
 
-// Whether some history of calls gives the session its marks: refused 11.
+// Whether some history of calls gives the session its marks.
 fn marks_verdict(s: Session) -> Verdict
-    ensures { λ r. ⌜ r ≡ refuseMarks s Accepted ⌝ }
+    ensures { λ r. ⌜ r ≡ chain (marksFault s ∷ []) ⌝ }
 {
     if session_parts::marks_good(s.catalogue.servers, &s.issued, &s.taken) {
         Verdict::Accepted
@@ -137,14 +137,13 @@ fn answer_length(s: Session, server: usize) -> usize
     requires { ⌜ codeOf schemeOf s .keyGood (keyOf schemeOf s) ≡ true ⌝ }
     ensures { λ r. ⌜ r ≡ codeOf schemeOf s .answerLength (queryOf schemeOf s server) ⌝ }
 {
-    let mut query = [0; 2048];
-    write_query(s, server, &mut query);
     let sizes = sizes_of(s.catalogue);
-    let size = sizes.query;
-    codes::answer_length(s.catalogue, &query[..size])
+    let size = sizes.key;
+    let key = s.key;
+    codes::expected_length(s.catalogue, s.wanted, server, &key[..size])
 }
 
-// Whether a query can be issued: refused 2, 3, 4, 6, 9, 11.
+// Whether a query can be issued.
 pub fn issue_verdict(s: Session, server: usize, room: usize) -> Verdict
     ensures { λ r. ⌜ r ≡ issueVerdict schemeOf s server room ⌝ }
 {
@@ -158,10 +157,10 @@ pub fn issue_verdict(s: Session, server: usize, room: usize) -> Verdict
     marks_verdict(s)
 }
 
-// Whether the answer of a server is due: refused 11.
+// Whether the answer of a server is due.
 fn due_verdict(s: Session, server: usize) -> Verdict
     requires { ⌜ server < 16 ⌝ }
-    ensures { λ r. ⌜ r ≡ refuseMarks s (refuseIf (not (marked (s .issued) server)) History (refuseIf (marked (s .taken) server) History Accepted)) ⌝ }
+    ensures { λ r. ⌜ r ≡ chain (marksFault s ∷ dueFaults s server) ⌝ }
 {
     if let Verdict::Refused(refusal) = marks_verdict(s) {
         return Verdict::Refused(refusal);
@@ -175,7 +174,7 @@ fn due_verdict(s: Session, server: usize) -> Verdict
     Verdict::Accepted
 }
 
-// Whether an answer of `size` bytes can be taken: refused 2, 3, 4, 6, 9, 10, 11.
+// Whether an answer of `size` bytes can be taken.
 pub fn take_verdict(s: Session, server: usize, size: usize, room: usize) -> Verdict
     ensures { λ r. ⌜ r ≡ takeVerdict schemeOf s server size room ⌝ }
 {
@@ -192,10 +191,10 @@ pub fn take_verdict(s: Session, server: usize, size: usize, room: usize) -> Verd
     due_verdict(s, server)
 }
 
-// Whether every answer was taken: refused 11, 12.
+// Whether every answer was taken.
 fn missing_verdict(s: Session) -> Verdict
     requires { ⌜ s .catalogue .servers ≤ 16 ⌝ }
-    ensures { λ r. ⌜ r ≡ refuseMarks s (refuseIf (not (allTaken (s .catalogue .servers) (s .taken))) Missing Accepted) ⌝ }
+    ensures { λ r. ⌜ r ≡ chain (marksFault s ∷ missingFault s ∷ []) ⌝ }
 {
     if let Verdict::Refused(refusal) = marks_verdict(s) {
         return Verdict::Refused(refusal);
@@ -206,7 +205,7 @@ fn missing_verdict(s: Session) -> Verdict
     Verdict::Accepted
 }
 
-// Whether the message can be recovered: refused 2, 4, 6, 9, 11, 12.
+// Whether the message can be recovered.
 pub fn recover_verdict(s: Session, answers: usize, message: usize) -> Verdict
     ensures { λ r. ⌜ r ≡ recoverVerdict schemeOf s answers message ⌝ }
 {

@@ -11,7 +11,6 @@ use Rattle.session_parts.specs.Places.{paddedKey}
 
 pub padded-copy : (key : List ℕ) (n : ℕ) → n ≡ length key → length key ≤ keyPlaces
     → take n key ++ drop n (replicate {A = ℕ} keyPlaces 0) ≡ paddedKey key
-unfolding paddedKey
 padded-copy key n e h =
     ap₂ (λ (a b : List ℕ). a ++ b)
     (take-all n key (omega arith))

@@ -1,7 +1,7 @@
 -- `catalogue::verdict` meets its contract: the chain's one link is the test of the bounds.
 use mathlib.Core.Path.{sym, _∙_}
 use borrow.Author.Needs.{needs}
-use Rattle.catalogue.specs.Catalogue.{catalogueVerdict}
+use Rattle.catalogue.proofs.Faults.{catalogue-chain}
 use Rattle.catalogue.proofs.verdict.Statement.{statement}
 use Rattle.catalogue.proofs.verdict.Tie as tie
 
@@ -9,12 +9,10 @@ in-bounds-requires : tie.Need-in-bounds-requires
 in-bounds-requires c κs = search needs
 
 returns : tie.Need-returns
-unfolding catalogueVerdict
-returns c = simp (sym (c .before .in-bounds .ensures) ∙ c .if1 .taken)
+returns c = rw (catalogue-chain (c .before .before .args .c), sym (c .before .in-bounds .ensures) ∙ c .if1 .taken)
 
 returns-2 : tie.Need-returns-2
-unfolding catalogueVerdict
-returns-2 c = simp (sym (c .before .in-bounds .ensures) ∙ c .if1 .left)
+returns-2 c = rw (catalogue-chain (c .before .before .args .c), sym (c .before .in-bounds .ensures) ∙ c .if1 .left)
 
 pub verdict-spec : {M : Type 1} → statement M
 verdict-spec = tie.close (tie.spec in-bounds-requires returns returns-2)

@@ -38,7 +38,13 @@ refused-requires-2 c κs = search needs
 
 returns-2 : tie.Need-returns-2
 unfolding fourLines
-returns-2 c = c .refused2 .ensures ∙ simp (sym (c .before .before .before .before .before .before .before .before .code-line .ensures) ∙ c .before .before .before .before .before .before .code .given .1, sym (c .before .before .before .number-line .ensures) ∙ c .before .enum-told2 .given .1)
+returns-2 c =
+    let code = c .before .before .before .before .before .before in
+    c .refused2 .ensures
+    ∙ simp (
+      sym (code .before .before .code-line .ensures) ∙ code .code .given .1,
+      sym (c .before .before .before .number-line .ensures) ∙ c .before .enum-told2 .given .1,
+    )
 
 slice-aggregate-number-line-2 : tie.Need-slice-aggregate-number-line-2
 slice-aggregate-number-line-2 c = search needs
@@ -57,7 +63,15 @@ refused-requires-3 c κs = search needs
 
 returns-3 : tie.Need-returns-3
 unfolding fourLines
-returns-3 c = c .refused3 .ensures ∙ simp (sym (c .before .before .before .before .before .before .before .before .before .before .before .before .before .code-line .ensures) ∙ c .before .before .before .before .before .before .before .before .before .before .before .code .given .1, sym (c .before .before .before .before .before .before .before .before .number-line .ensures) ∙ c .before .before .before .before .before .before .n .given .1, sym (c .before .before .before .number-line2 .ensures) ∙ c .before .enum-told3 .given .1)
+returns-3 c =
+    let n = c .before .before .before .before .before .before in
+    let code = n .before .before .before .before .before in
+    c .refused3 .ensures
+    ∙ simp (
+      sym (code .before .before .code-line .ensures) ∙ code .code .given .1,
+      sym (n .before .before .number-line .ensures) ∙ n .n .given .1,
+      sym (c .before .before .before .number-line2 .ensures) ∙ c .before .enum-told3 .given .1,
+    )
 
 slice-aggregate-number-line-3 : tie.Need-slice-aggregate-number-line-3
 slice-aggregate-number-line-3 c = search needs
@@ -76,14 +90,35 @@ refused-requires-4 c κs = search needs
 
 returns-4 : tie.Need-returns-4
 unfolding fourLines
-returns-4 c = c .refused4 .ensures ∙ simp (sym (c .before .before .before .before .before .before .before .before .before .before .before .before .before .before .before .before .before .before .code-line .ensures) ∙ c .before .before .before .before .before .before .before .before .before .before .before .before .before .before .before .before .code .given .1, sym (c .before .before .before .before .before .before .before .before .before .before .before .before .before .number-line .ensures) ∙ c .before .before .before .before .before .before .before .before .before .before .before .n .given .1, sym (c .before .before .before .before .before .before .before .before .number-line2 .ensures) ∙ c .before .before .before .before .before .before .k .given .1, sym (c .before .before .before .number-line3 .ensures) ∙ c .before .enum-told4 .given .1)
+returns-4 c =
+    let k = c .before .before .before .before .before .before in
+    let n = k .before .before .before .before .before in
+    let code = n .before .before .before .before .before in
+    c .refused4 .ensures
+    ∙ simp (
+      sym (code .before .before .code-line .ensures) ∙ code .code .given .1,
+      sym (n .before .before .number-line .ensures) ∙ n .n .given .1,
+      sym (k .before .before .number-line2 .ensures) ∙ k .k .given .1,
+      sym (c .before .before .before .number-line3 .ensures) ∙ c .before .enum-told4 .given .1,
+    )
 
-code-of-requires : tie.Need-code-of-requires
-code-of-requires c κs = search needs
+code-named-requires : tie.Need-code-named-requires
+code-named-requires c κs = search needs
 
 returns-5 : tie.Need-returns-5
 unfolding fourLines
-returns-5 c = simp (sym (c .before .before .before .before .before .before .before .before .before .before .before .before .before .before .before .before .before .before .before .code-line .ensures) ∙ c .before .before .before .before .before .before .before .before .before .before .before .before .before .before .before .before .before .code .given .1, sym (c .before .before .before .before .before .before .before .before .before .before .before .before .before .before .number-line .ensures) ∙ c .before .before .before .before .before .before .before .before .before .before .before .before .n .given .1, sym (c .before .before .before .before .before .before .before .before .before .number-line2 .ensures) ∙ c .before .before .before .before .before .before .before .k .given .1, sym (c .before .before .before .before .number-line3 .ensures) ∙ c .before .before .s .given .1, c .code-of .ensures)
+returns-5 c =
+    let s = c .before .before in
+    let k = s .before .before .before .before .before in
+    let n = k .before .before .before .before .before in
+    let code = n .before .before .before .before .before in
+    simp (
+      sym (code .before .before .code-line .ensures) ∙ code .code .given .1,
+      sym (n .before .before .number-line .ensures) ∙ n .n .given .1,
+      sym (k .before .before .number-line2 .ensures) ∙ k .k .given .1,
+      sym (s .before .before .number-line3 .ensures) ∙ s .s .given .1,
+      c .code-named .ensures,
+    )
 
 pub four-lines-spec : {M : Type 1} → statement M
 four-lines-spec =
@@ -112,5 +147,5 @@ four-lines-spec =
     enum-told-4
     refused-requires-4
     returns-4
-    code-of-requires
+    code-named-requires
     returns-5)

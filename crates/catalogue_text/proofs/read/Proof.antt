@@ -1,7 +1,7 @@
 -- `catalogue_text::read` meets its contract: the lines, then the end of the text, then the catalogue's own verdict.
 use mathlib.Core.Path.{sym, _∙_}
 use borrow.Author.Tests.{eq-eqb, ne-eqb}
-use Rattle.catalogue_text.specs.Parsing.{readOf}
+use Rattle.catalogue_text.proofs.Faults.{read-is}
 use borrow.Author.Needs.{needs}
 use Rattle.catalogue_text.proofs.read.Statement.{statement}
 use Rattle.catalogue_text.proofs.read.Tie as tie
@@ -16,8 +16,9 @@ refused-reading-requires : tie.Need-refused-reading-requires
 refused-reading-requires c κs = search needs
 
 returns : tie.Need-returns
-unfolding readOf
-returns c = c .refused-reading .ensures ∙ simp (sym (c .before .before .before .before .before .four-lines .ensures), c .before .before .verdict .given .1)
+returns c =
+    let found = c .before .before .before .before .before in
+    c .refused-reading .ensures ∙ sym (read-is _ ∙ simp (sym (found .four-lines .ensures), c .before .before .verdict .given .1))
 
 enum-told : tie.Need-enum-told
 enum-told c = search needs
@@ -26,8 +27,11 @@ refused-reading-requires-2 : tie.Need-refused-reading-requires-2
 refused-reading-requires-2 c κs = search needs
 
 returns-2 : tie.Need-returns-2
-unfolding readOf
-returns-2 c = c .refused-reading2 .ensures ∙ simp (sym (c .before .before .before .before .before .four-lines .ensures), c .before .before .enum-told .given .1, ne-eqb _ _ (c .before .if1 .taken))
+returns-2 c =
+    let told = c .before .before in
+    let found = told .before .before .before in
+    c .refused-reading2 .ensures
+    ∙ sym (read-is _ ∙ simp (sym (found .four-lines .ensures), told .enum-told .given .1, ne-eqb _ _ (c .before .if1 .taken)))
 
 verdict-requires : tie.Need-verdict-requires
 verdict-requires c κs = search needs
@@ -39,15 +43,32 @@ refused-reading-requires-3 : tie.Need-refused-reading-requires-3
 refused-reading-requires-3 c κs = search needs
 
 returns-3 : tie.Need-returns-3
-unfolding readOf
-returns-3 c = c .refused-reading3 .ensures ∙ simp (sym (c .before .before .before .before .before .before .before .before .before .four-lines .ensures), c .before .before .before .before .before .before .enum-told .given .1, eq-eqb _ _ (c .before .before .before .before .before .if1 .left), sym (c .before .before .before .before .verdict2 .ensures) ∙ c .before .before .refusal .given .1)
+returns-3 c =
+    let asked = c .before .before .before .before in
+    let told = asked .before .before in
+    let found = told .before .before .before in
+    c .refused-reading3 .ensures
+    ∙ sym (read-is _ ∙ simp (
+      sym (found .four-lines .ensures),
+      told .enum-told .given .1,
+      eq-eqb _ _ (asked .before .if1 .left),
+      sym (asked .verdict2 .ensures) ∙ c .before .before .refusal .given .1,
+    ))
 
 enum-told-2 : tie.Need-enum-told-2
 enum-told-2 c = search needs
 
 returns-4 : tie.Need-returns-4
-unfolding readOf
-returns-4 c = simp (sym (c .before .before .before .before .before .before .before .four-lines .ensures), c .before .before .before .before .enum-told .given .1, eq-eqb _ _ (c .before .before .before .if1 .left), sym (c .before .before .verdict2 .ensures) ∙ c .enum-told2 .given .1)
+returns-4 c =
+    let asked = c .before .before in
+    let told = asked .before .before in
+    let found = told .before .before .before in
+    sym (read-is _ ∙ simp (
+      sym (found .four-lines .ensures),
+      told .enum-told .given .1,
+      eq-eqb _ _ (asked .before .if1 .left),
+      sym (asked .verdict2 .ensures) ∙ c .enum-told2 .given .1,
+    ))
 
 pub read-spec : {M : Type 1} → statement M
 read-spec =

@@ -1,10 +1,11 @@
 -- `server::verdict` meets its contract: its tests are the links of the chain, in their order.
-use mathlib.Core.Path.{_≡_, sym, ap, _∙_}
+use mathlib.Core.Path.{_≡_, refl, sym, ap, _∙_}
 use mathlib.Core.Bool.{true}
 use borrow.Author.Needs.{needs}
 use borrow.Author.Tests.{not-true, not-false}
 use Rattle.parameters.specs.declared.Sizes.{Sizes}
 use Rattle.catalogue.specs.Catalogue.{Admitted}
+use Rattle.catalogue.proofs.Faults.{after-catalogue}
 use Rattle.codes.specs.Codes.{schemeOf}
 use Rattle.codes.proofs.Measured.{measured, unmeasured}
 use Rattle.server.specs.Answering.{answerVerdict}
@@ -30,7 +31,7 @@ unfolding answerVerdict
 returns c =
     let from = c .before .before .before in
     let refused = unmeasured (from .before .before .args .c) (from .sizes .result) (c .before .enum-told .given .0 .0) (from .sizes .ensures) (c .before .enum-told .given .1) in
-    c .verdict .ensures ∙ simp refused
+    after-catalogue (from .before .before .args .c) _ refl (c .verdict .result) _ (c .verdict .ensures) (rw (c .verdict .ensures, refused))
 
 -- once the sizes are there: the catalogue is admitted, and they are its scheme's
 admitted : (c : tie.After-sizes2) → Admitted (c .before .before .before .before .args .c)

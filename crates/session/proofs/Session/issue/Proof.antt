@@ -3,7 +3,7 @@ use native.Mathlib.Omega.{arith}
 use mathlib.Core.Path.{refl, sym, _∙_}
 use lib.ListN.{length}
 use Rattle.codes.specs.Codes.{schemeOf}
-use Rattle.session.proofs.Issue.{issue-passed, issue-refused, issue-done}
+use Rattle.session.proofs.Issue.{issue-passed, issue-goes}
 use Rattle.session.proofs.Promised.{sizes-small}
 use borrow.Author.Needs.{needs}
 use Rattle.session.proofs.Session.issue.Statement.{statement}
@@ -21,7 +21,7 @@ returns c =
     let start = asked .before .before in
     let args = start .args in
     let v = asked .issue-verdict in
-    issue-refused schemeOf (args .self) (args .server) (args .query .now) (v .result) _ (v .ensures) (c .enum-told .given .1)
+    issue-goes schemeOf (args .self) (args .server) (args .query .now) .refused (v .result) _ (v .ensures) (c .enum-told .given .1)
 
 enum-told-2 : tie.Need-enum-told-2
 enum-told-2 c = search needs
@@ -58,7 +58,7 @@ returns-2 c =
     let args = start .args in
     let v = asked .issue-verdict in
     rw (c .mark-issued .ensures)
-    (issue-done schemeOf (args .self) (args .server) (args .query .now) (v .result) _ (v .ensures) (told .enum-told2 .given .1) (written .write-query .ensures))
+    (issue-goes schemeOf (args .self) (args .server) (args .query .now) .done (v .result) _ (v .ensures) (told .enum-told2 .given .1) (written .write-query .ensures))
 
 pub issue-spec : {M : Type 1} → statement M
 issue-spec =

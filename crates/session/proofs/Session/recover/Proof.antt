@@ -2,7 +2,7 @@
 use mathlib.Core.Path.{sym, _∙_}
 use lib.ListN.{length}
 use Rattle.codes.specs.Codes.{schemeOf}
-use Rattle.session.proofs.Recover.{recover-passed, recover-refused, recover-done}
+use Rattle.session.proofs.Recover.{recover-passed, recover-goes}
 use borrow.Author.Needs.{needs}
 use Rattle.session.proofs.Session.recover.Statement.{statement}
 use Rattle.session.proofs.Session.recover.Tie as tie
@@ -19,7 +19,7 @@ returns c =
     let start = asked .before .before .before in
     let args = start .args in
     let v = asked .recover-verdict in
-    recover-refused schemeOf (args .self) (args .answers .now) (args .message .now) (v .result) _ (v .ensures) (c .enum-told .given .1)
+    recover-goes schemeOf (args .self) (args .answers .now) (args .message .now) .refused (v .result) _ (v .ensures) (c .enum-told .given .1)
 
 enum-told-2 : tie.Need-enum-told-2
 enum-told-2 c = search needs
@@ -45,7 +45,7 @@ returns-2 c =
     let start = asked .before .before .before in
     let args = start .args in
     let v = asked .recover-verdict in
-    recover-done schemeOf (args .self) (args .answers .now) (args .message .now) (v .result) _ (v .ensures) (told .enum-told2 .given .1) (written .write-message .ensures)
+    recover-goes schemeOf (args .self) (args .answers .now) (args .message .now) .done (v .result) _ (v .ensures) (told .enum-told2 .given .1) (written .write-message .ensures)
 
 pub recover-spec : {M : Type 1} → statement M
 recover-spec =

@@ -7,7 +7,7 @@ use Rattle.lists.specs.Parts.{put}
 use Rattle.lists.proofs.Cuts.{slot-end}
 use Rattle.parameters.specs.declared.Sizes.{Sizes}
 use Rattle.codes.specs.Codes.{schemeOf}
-use Rattle.session.proofs.Take.{take-passed, take-refused, take-done}
+use Rattle.session.proofs.Take.{take-passed, take-goes}
 use Rattle.session.proofs.Places.{key-places}
 use Rattle.session.proofs.Promised.{sizes-small, slot-holds}
 use borrow.Author.Needs.{needs}
@@ -26,7 +26,7 @@ returns c =
     let start = asked .before .before .before in
     let args = start .args in
     let v = asked .take-verdict in
-    take-refused schemeOf (args .self) (args .server) (args .answer .now) (args .answers .now) (v .result) _ (v .ensures) (c .enum-told .given .1)
+    take-goes schemeOf (args .self) (args .server) (args .answer .now) (args .answers .now) .refused (v .result) _ (v .ensures) (c .enum-told .given .1)
 
 enum-told-2 : tie.Need-enum-told-2
 enum-told-2 c = search needs
@@ -97,7 +97,7 @@ returns-2 c =
     let args = start .args in
     let v = asked .take-verdict in
     rw (c .mark-taken .ensures)
-    (take-done schemeOf (args .self) (args .server) (args .answer .now) (args .answers .now) (v .result) _ (v .ensures) (told .enum-told2 .given .1)
+    (take-goes schemeOf (args .self) (args .server) (args .answer .now) (args .answers .now) .done (v .result) _ (v .ensures) (told .enum-told2 .given .1)
     (written .put-answer .ensures
     ∙ ap (λ (sizes : Sizes). put (args .server * sizes .slot) (args .answer .now) (args .answers .now)) (sized .sizes-of .ensures)))
 

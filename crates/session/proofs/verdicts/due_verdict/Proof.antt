@@ -1,8 +1,10 @@
 -- `session::verdicts::due_verdict` meets its contract: the verdict on the marks decides, and else the server's two marks.
+use mathlib.Core.List.{[], _∷_}
 use borrow.Author.Needs.{needs}
 use borrow.Author.Tests.{not-true, not-false}
 use Rattle.session_parts.specs.Marks.{marked}
-use Rattle.session.proofs.Links.{after-marks}
+use Rattle.refusal.proofs.Chain.{chain-after}
+use Rattle.session.specs.Calls.{marksFault, dueFaults}
 use Rattle.session.proofs.verdicts.due_verdict.Statement.{statement}
 use Rattle.session.proofs.verdicts.due_verdict.Tie as tie
 
@@ -14,12 +16,9 @@ enum-known-refusal c = search needs
 
 returns : tie.Need-returns
 returns c =
-    let told = c .before in
-    let asked = told .before .before in
-    let start = asked .before in
-    let v = asked .marks-verdict in
-    let args = start .args in
-    after-marks (args .t1) _ (v .result) _ (v .ensures) (rw (told .refusal .given .1))
+    let asked = c .before .before .before in
+    let args = asked .before .args in
+    chain-after (marksFault (args .t1) ∷ []) (dueFaults (args .t1) (args .server)) _ _ (asked .marks-verdict .ensures) (rw (c .before .refusal .given .1))
 
 enum-told : tie.Need-enum-told
 enum-told c = search needs
@@ -31,10 +30,9 @@ returns-2 : tie.Need-returns-2
 returns-2 c =
     let told = c .before .before in
     let asked = told .before .before in
-    let start = asked .before in
-    let v = asked .marks-verdict in
-    let args = start .args in
-    after-marks (args .t1) _ (v .result) _ (v .ensures) (rw (told .enum-told .given .1, not-true (marked (args .t1 .issued) (args .server)) (c .if1 .taken)))
+    let args = asked .before .args in
+    chain-after (marksFault (args .t1) ∷ []) (dueFaults (args .t1) (args .server)) _ _ (asked .marks-verdict .ensures)
+    (rw (told .enum-told .given .1, not-true (marked (args .t1 .issued) (args .server)) (c .if1 .taken)))
 
 element-copy-out-if2 : tie.Need-element-copy-out-if2
 element-copy-out-if2 c = search needs
@@ -44,20 +42,18 @@ returns-3 c =
     let first = c .before .before in
     let told = first .before .before in
     let asked = told .before .before in
-    let start = asked .before in
-    let v = asked .marks-verdict in
-    let args = start .args in
-    after-marks (args .t1) _ (v .result) _ (v .ensures) (rw (told .enum-told .given .1, not-false (marked (args .t1 .issued) (args .server)) (first .if1 .left), c .if2 .taken))
+    let args = asked .before .args in
+    chain-after (marksFault (args .t1) ∷ []) (dueFaults (args .t1) (args .server)) _ _ (asked .marks-verdict .ensures)
+    (rw (told .enum-told .given .1, not-false (marked (args .t1 .issued) (args .server)) (first .if1 .left), c .if2 .taken))
 
 returns-4 : tie.Need-returns-4
 returns-4 c =
     let first = c .before .before in
     let told = first .before .before in
     let asked = told .before .before in
-    let start = asked .before in
-    let v = asked .marks-verdict in
-    let args = start .args in
-    after-marks (args .t1) _ (v .result) _ (v .ensures) (rw (told .enum-told .given .1, not-false (marked (args .t1 .issued) (args .server)) (first .if1 .left), c .if2 .left))
+    let args = asked .before .args in
+    chain-after (marksFault (args .t1) ∷ []) (dueFaults (args .t1) (args .server)) _ _ (asked .marks-verdict .ensures)
+    (rw (told .enum-told .given .1, not-false (marked (args .t1 .issued) (args .server)) (first .if1 .left), c .if2 .left))
 
 pub due-verdict-spec : {M : Type 1} → statement M
 due-verdict-spec =

@@ -1,9 +1,13 @@
 -- `session::verdicts::issue_verdict` meets its contract: the first links are `server_verdict`'s, the last `marks_verdict`'s.
+use mathlib.Core.Path.{_≡_, refl, sym, _∙_}
 use borrow.Author.Needs.{needs}
 use borrow.Author.Tests.{lt-ltb, le-ltb}
+use Rattle.refusal.specs.declared.Verdict.the-variants.{Accepted}
+use Rattle.refusal.specs.Foremost.{foremost}
+use Rattle.refusal.proofs.Foremost.{after-first}
 use Rattle.codes.specs.Codes.{schemeOf}
-use Rattle.session.specs.Calls.{issueVerdict}
-use Rattle.session.proofs.Links.{after-server, server-passed}
+use Rattle.session.specs.Calls.{serverFaults, issueVerdict}
+use Rattle.session.proofs.Links.{Asks, server-passed}
 use Rattle.session.proofs.verdicts.issue_verdict.Statement.{statement}
 use Rattle.session.proofs.verdicts.issue_verdict.Tie as tie
 
@@ -16,32 +20,27 @@ enum-known-refusal c = search needs
 returns : tie.Need-returns
 unfolding issueVerdict
 returns c =
-    let told = c .before in
-    let asked = told .before .before in
-    let start = asked .before in
-    let v = asked .server-verdict in
-    after-server schemeOf (start .args .s) (start .args .server) _ (v .result) _ (v .ensures) (rw (told .refusal .given .1))
+    let asked = c .before .before .before in
+    after-first (serverFaults schemeOf (asked .before .args .s) (asked .before .args .server)) _ refl refl _ _ (asked .server-verdict .ensures) (rw (c .before .refusal .given .1))
 
 enum-told : tie.Need-enum-told
 enum-told c = search needs
 
+-- once the first links are passed
+accepted : (c : tie.After-enum-told) → let args = c .before .before .before .args in foremost (serverFaults schemeOf (args .s) (args .server)) ≡ Accepted
+accepted c = sym (c .before .before .server-verdict .ensures) ∙ c .enum-told .given .1
+
+asks : (c : tie.After-enum-told) → let args = c .before .before .before .args in Asks schemeOf (args .s) (args .server)
+asks c = let args = c .before .before .before .args in server-passed schemeOf (args .s) (args .server) (accepted c)
+
 sizes-of-requires : tie.Need-sizes-of-requires
-sizes-of-requires c κs =
-    let asked = c .before .before in
-    let start = asked .before in
-    let v = asked .server-verdict in
-    server-passed schemeOf (start .args .s) (start .args .server) (v .result) (v .ensures) (c .enum-told .given .1) .admitted
+sizes-of-requires c κs = asks c .holds .admitted
 
 returns-2 : tie.Need-returns-2
 unfolding issueVerdict
 returns-2 c =
     let sized = c .before .before in
-    let told = sized .before in
-    let asked = told .before .before in
-    let start = asked .before in
-    let v = asked .server-verdict in
-    after-server schemeOf (start .args .s) (start .args .server) _ (v .result) _ (v .ensures)
-    (rw (told .enum-told .given .1, ← sized .sizes-of .ensures, lt-ltb _ _ (c .if1 .taken)))
+    after-first _ _ refl refl Accepted _ (sym (accepted (sized .before))) (rw (← sized .sizes-of .ensures, lt-ltb _ _ (c .if1 .taken)))
 
 marks-verdict-requires : tie.Need-marks-verdict-requires
 marks-verdict-requires c κs = search needs
@@ -51,12 +50,8 @@ unfolding issueVerdict
 returns-3 c =
     let first = c .before in
     let sized = first .before .before in
-    let told = sized .before in
-    let asked = told .before .before in
-    let start = asked .before in
-    let v = asked .server-verdict in
-    after-server schemeOf (start .args .s) (start .args .server) _ (v .result) _ (v .ensures)
-    (rw (told .enum-told .given .1, ← sized .sizes-of .ensures, le-ltb _ _ (first .if1 .left)) (c .marks-verdict .ensures))
+    after-first _ _ refl refl Accepted _ (sym (accepted (sized .before)))
+    (rw (← sized .sizes-of .ensures, le-ltb _ _ (first .if1 .left)) (c .marks-verdict .ensures))
 
 pub issue-verdict-spec : {M : Type 1} → statement M
 issue-verdict-spec =

@@ -1,8 +1,10 @@
 -- `session::verdicts::missing_verdict` meets its contract: the verdict on the marks decides, and else whether all answers are taken.
 use mathlib.Core.Path.{sym, _∙_}
+use mathlib.Core.List.{[], _∷_}
 use borrow.Author.Needs.{needs}
 use borrow.Author.Tests.{not-true, not-false}
-use Rattle.session.proofs.Links.{after-marks}
+use Rattle.refusal.proofs.Chain.{chain-after}
+use Rattle.session.specs.Calls.{marksFault, missingFault}
 use Rattle.session.proofs.verdicts.missing_verdict.Statement.{statement}
 use Rattle.session.proofs.verdicts.missing_verdict.Tie as tie
 
@@ -14,11 +16,9 @@ enum-known-refusal c = search needs
 
 returns : tie.Need-returns
 returns c =
-    let told = c .before in
-    let asked = told .before .before in
-    let start = asked .before in
-    let v = asked .marks-verdict in
-    after-marks (start .args .t1) _ (v .result) _ (v .ensures) (rw (told .refusal .given .1))
+    let asked = c .before .before .before in
+    let s = asked .before .args .t1 in
+    chain-after (marksFault s ∷ []) (missingFault s ∷ []) _ _ (asked .marks-verdict .ensures) (rw (c .before .refusal .given .1))
 
 enum-told : tie.Need-enum-told
 enum-told c = search needs
@@ -31,18 +31,18 @@ returns-2 c =
     let checked = c .before in
     let told = checked .before .before .before in
     let asked = told .before .before in
-    let start = asked .before in
-    let v = asked .marks-verdict in
-    after-marks (start .args .t1) _ (v .result) _ (v .ensures) (rw (told .enum-told .given .1, sym (checked .all-taken .ensures) ∙ not-true _ (c .if1 .taken)))
+    let s = asked .before .args .t1 in
+    chain-after (marksFault s ∷ []) (missingFault s ∷ []) _ _ (asked .marks-verdict .ensures)
+    (rw (told .enum-told .given .1, sym (checked .all-taken .ensures) ∙ not-true _ (c .if1 .taken)))
 
 returns-3 : tie.Need-returns-3
 returns-3 c =
     let checked = c .before in
     let told = checked .before .before .before in
     let asked = told .before .before in
-    let start = asked .before in
-    let v = asked .marks-verdict in
-    after-marks (start .args .t1) _ (v .result) _ (v .ensures) (rw (told .enum-told .given .1, sym (checked .all-taken .ensures) ∙ not-false _ (c .if1 .left)))
+    let s = asked .before .args .t1 in
+    chain-after (marksFault s ∷ []) (missingFault s ∷ []) _ _ (asked .marks-verdict .ensures)
+    (rw (told .enum-told .given .1, sym (checked .all-taken .ensures) ∙ not-false _ (c .if1 .left)))
 
 pub missing-verdict-spec : {M : Type 1} → statement M
 missing-verdict-spec =

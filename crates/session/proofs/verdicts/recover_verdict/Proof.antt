@@ -1,10 +1,15 @@
 -- `session::verdicts::recover_verdict` meets its contract: the first links are `session_verdict`'s, the last `missing_verdict`'s.
+use mathlib.Core.Path.{_≡_, refl, sym, _∙_}
 use native.Mathlib.Omega.{arith}
 use borrow.Author.Needs.{needs}
 use borrow.Author.Tests.{lt-ltb, le-ltb}
+use Rattle.refusal.specs.declared.Verdict.the-variants.{Accepted}
+use Rattle.refusal.specs.Foremost.{foremost}
+use Rattle.refusal.proofs.Foremost.{after-first}
+use Rattle.catalogue.specs.Catalogue.{Admitted}
 use Rattle.codes.specs.Codes.{schemeOf}
-use Rattle.session.specs.Calls.{recoverVerdict}
-use Rattle.session.proofs.Links.{after-session, session-passed}
+use Rattle.session.specs.Calls.{sessionFaults, recoverVerdict}
+use Rattle.session.proofs.Links.{session-passed}
 use Rattle.session.proofs.Promised.{sizes-small}
 use Rattle.session.proofs.verdicts.recover_verdict.Statement.{statement}
 use Rattle.session.proofs.verdicts.recover_verdict.Tie as tie
@@ -18,64 +23,45 @@ enum-known-refusal c = search needs
 returns : tie.Need-returns
 unfolding recoverVerdict
 returns c =
-    let told = c .before in
-    let asked = told .before .before in
-    let start = asked .before in
-    let v = asked .session-verdict in
-    after-session schemeOf (start .args .s) _ (v .result) _ (v .ensures) (rw (told .refusal .given .1))
+    let asked = c .before .before .before in
+    after-first (sessionFaults schemeOf (asked .before .args .s)) _ refl refl _ _ (asked .session-verdict .ensures) (rw (c .before .refusal .given .1))
 
 enum-told : tie.Need-enum-told
 enum-told c = search needs
 
+-- once the first links are passed
+accepted : (c : tie.After-enum-told) → let args = c .before .before .before .args in foremost (sessionFaults schemeOf (args .s)) ≡ Accepted
+accepted c = sym (c .before .before .session-verdict .ensures) ∙ c .enum-told .given .1
+
+admitted : (c : tie.After-enum-told) → Admitted (c .before .before .before .args .s .catalogue)
+admitted c = session-passed schemeOf (c .before .before .before .args .s) (accepted c) .admitted
+
 sizes-of-requires : tie.Need-sizes-of-requires
-sizes-of-requires c κs =
-    let asked = c .before .before in
-    let start = asked .before in
-    let v = asked .session-verdict in
-    session-passed schemeOf (start .args .s) (v .result) (v .ensures) (c .enum-told .given .1)
+sizes-of-requires c κs = admitted c
 
 mul-if1 : tie.Need-mul-if1
 mul-if1 c =
     let sized = c .before .before in
-    let told = sized .before in
-    let asked = told .before .before in
-    let start = asked .before in
-    let v = asked .session-verdict in
-    let admitted = session-passed schemeOf (start .args .s) (v .result) (v .ensures) (told .enum-told .given .1) in
-    omega (arith, sizes-small (start .args .s .catalogue) (sized .sizes-of .result) admitted (sized .sizes-of .ensures) .slots)
+    omega (arith, sizes-small (sized .before .before .before .before .args .s .catalogue) (sized .sizes-of .result) (admitted (sized .before)) (sized .sizes-of .ensures) .slots)
 
 returns-2 : tie.Need-returns-2
 unfolding recoverVerdict
 returns-2 c =
     let sized = c .before .before .before in
-    let told = sized .before in
-    let asked = told .before .before in
-    let start = asked .before in
-    let v = asked .session-verdict in
-    after-session schemeOf (start .args .s) _ (v .result) _ (v .ensures)
-    (rw (told .enum-told .given .1, ← sized .sizes-of .ensures, lt-ltb _ _ (c .if1 .taken)))
+    after-first _ _ refl refl Accepted _ (sym (accepted (sized .before))) (rw (← sized .sizes-of .ensures, lt-ltb _ _ (c .if1 .taken)))
 
 returns-3 : tie.Need-returns-3
 unfolding recoverVerdict
 returns-3 c =
     let first = c .before .before in
     let sized = first .before .before .before in
-    let told = sized .before in
-    let asked = told .before .before in
-    let start = asked .before in
-    let v = asked .session-verdict in
-    after-session schemeOf (start .args .s) _ (v .result) _ (v .ensures)
-    (rw (told .enum-told .given .1, ← sized .sizes-of .ensures, le-ltb _ _ (first .if1 .left), lt-ltb _ _ (c .if2 .taken)))
+    after-first _ _ refl refl Accepted _ (sym (accepted (sized .before)))
+    (rw (← sized .sizes-of .ensures, le-ltb _ _ (first .if1 .left), lt-ltb _ _ (c .if2 .taken)))
 
 missing-verdict-requires : tie.Need-missing-verdict-requires
 missing-verdict-requires c κs =
     let sized = c .before .before .before .before .before in
-    let told = sized .before in
-    let asked = told .before .before in
-    let start = asked .before in
-    let v = asked .session-verdict in
-    let admitted = session-passed schemeOf (start .args .s) (v .result) (v .ensures) (told .enum-told .given .1) in
-    omega (arith, sizes-small (start .args .s .catalogue) (sized .sizes-of .result) admitted (sized .sizes-of .ensures) .servers)
+    omega (arith, sizes-small (sized .before .before .before .before .args .s .catalogue) (sized .sizes-of .result) (admitted (sized .before)) (sized .sizes-of .ensures) .servers)
 
 returns-4 : tie.Need-returns-4
 unfolding recoverVerdict
@@ -83,12 +69,8 @@ returns-4 c =
     let second = c .before in
     let first = second .before .before in
     let sized = first .before .before .before in
-    let told = sized .before in
-    let asked = told .before .before in
-    let start = asked .before in
-    let v = asked .session-verdict in
-    after-session schemeOf (start .args .s) _ (v .result) _ (v .ensures)
-    (rw (told .enum-told .given .1, ← sized .sizes-of .ensures, le-ltb _ _ (first .if1 .left), le-ltb _ _ (second .if2 .left)) (c .missing-verdict .ensures))
+    after-first _ _ refl refl Accepted _ (sym (accepted (sized .before)))
+    (rw (← sized .sizes-of .ensures, le-ltb _ _ (first .if1 .left), le-ltb _ _ (second .if2 .left)) (c .missing-verdict .ensures))
 
 pub recover-verdict-spec : {M : Type 1} → statement M
 recover-verdict-spec =

@@ -1,7 +1,10 @@
--- `session::verdicts::server_verdict` meets its contract: it makes the tests of the definition in their order.
-use mathlib.Core.Path.{sym, _∙_}
+-- `session::verdicts::server_verdict` meets its contract: its tests are the faults of the definition, in their order.
+use mathlib.Core.Path.{refl, sym, _∙_}
 use borrow.Author.Needs.{needs}
 use borrow.Author.Tests.{le-leb, lt-leb}
+use Rattle.refusal.specs.declared.Verdict.the-variants.{Accepted}
+use Rattle.catalogue.specs.Catalogue.{Admitted}
+use Rattle.catalogue.proofs.Faults.{after-catalogue}
 use Rattle.session.proofs.verdicts.server_verdict.Statement.{statement}
 use Rattle.session.proofs.verdicts.server_verdict.Tie as tie
 
@@ -12,29 +15,26 @@ enum-known-refusal : tie.Need-enum-known-refusal
 enum-known-refusal c = search needs
 
 returns : tie.Need-returns
-returns c = rw (sym (c .before .before .before .verdict .ensures) ∙ c .before .refusal .given .1)
+returns c =
+    let asked = c .before .before .before in
+    after-catalogue (asked .before .args .s .catalogue) _ refl _ _ (asked .verdict .ensures) (rw (c .before .refusal .given .1))
 
 enum-told : tie.Need-enum-told
 enum-told c = search needs
 
+-- once the catalogue is accepted
+admitted : (c : tie.After-enum-told) → Admitted (c .before .before .before .args .s .catalogue)
+admitted c = sym (c .before .before .verdict .ensures) ∙ c .enum-told .given .1
+
 returns-2 : tie.Need-returns-2
-returns-2 c =
-    let told = c .before .before in
-    let asked = told .before .before in
-    rw (sym (asked .verdict .ensures) ∙ told .enum-told .given .1, le-leb _ _ (c .if1 .taken))
+returns-2 c = after-catalogue _ _ refl Accepted _ (sym (admitted (c .before .before))) (rw (le-leb _ _ (c .if1 .taken)))
 
 fields-verdict-requires : tie.Need-fields-verdict-requires
-fields-verdict-requires c κs =
-    let told = c .before .before in
-    let asked = told .before .before in
-    sym (asked .verdict .ensures) ∙ told .enum-told .given .1
+fields-verdict-requires c κs = admitted (c .before .before)
 
 returns-3 : tie.Need-returns-3
 returns-3 c =
-    let first = c .before in
-    let told = first .before .before in
-    let asked = told .before .before in
-    rw (sym (asked .verdict .ensures) ∙ told .enum-told .given .1, lt-leb _ _ (first .if1 .left)) (c .fields-verdict .ensures)
+    after-catalogue _ _ refl Accepted _ (sym (admitted (c .before .before .before))) (rw (lt-leb _ _ (c .before .if1 .left)) (c .fields-verdict .ensures))
 
 pub server-verdict-spec : {M : Type 1} → statement M
 server-verdict-spec =

@@ -1,6 +1,9 @@
 -- `session::verdicts::session_verdict` meets its contract: the catalogue's verdict decides, and else that on the fields.
-use mathlib.Core.Path.{sym, _∙_}
+use mathlib.Core.Path.{refl, sym, _∙_}
 use borrow.Author.Needs.{needs}
+use Rattle.refusal.specs.declared.Verdict.the-variants.{Accepted}
+use Rattle.catalogue.specs.Catalogue.{Admitted}
+use Rattle.catalogue.proofs.Faults.{after-catalogue}
 use Rattle.session.proofs.verdicts.session_verdict.Statement.{statement}
 use Rattle.session.proofs.verdicts.session_verdict.Tie as tie
 
@@ -11,16 +14,22 @@ enum-known-refusal : tie.Need-enum-known-refusal
 enum-known-refusal c = search needs
 
 returns : tie.Need-returns
-returns c = rw (sym (c .before .before .before .verdict .ensures) ∙ c .before .refusal .given .1)
+returns c =
+    let asked = c .before .before .before in
+    after-catalogue (asked .before .args .s .catalogue) _ refl _ _ (asked .verdict .ensures) (rw (c .before .refusal .given .1))
 
 enum-told : tie.Need-enum-told
 enum-told c = search needs
 
+-- once the catalogue is accepted
+admitted : (c : tie.After-enum-told) → Admitted (c .before .before .before .args .s .catalogue)
+admitted c = sym (c .before .before .verdict .ensures) ∙ c .enum-told .given .1
+
 fields-verdict-requires : tie.Need-fields-verdict-requires
-fields-verdict-requires c κs = sym (c .before .before .verdict .ensures) ∙ c .enum-told .given .1
+fields-verdict-requires c κs = admitted c
 
 returns-2 : tie.Need-returns-2
-returns-2 c = rw (sym (c .before .before .before .verdict .ensures) ∙ c .before .enum-told .given .1) (c .fields-verdict .ensures)
+returns-2 c = after-catalogue _ _ refl Accepted _ (sym (admitted (c .before))) (c .fields-verdict .ensures)
 
 pub session-verdict-spec : {M : Type 1} → statement M
 session-verdict-spec =

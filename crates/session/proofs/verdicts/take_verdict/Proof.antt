@@ -1,10 +1,14 @@
 -- `session::verdicts::take_verdict` meets its contract: the first links are `server_verdict`'s, the last `due_verdict`'s.
+use mathlib.Core.Path.{_≡_, refl, sym, _∙_}
 use native.Mathlib.Omega.{arith}
 use borrow.Author.Needs.{needs}
 use borrow.Author.Tests.{lt-ltb, le-ltb, eq-eqb, ne-eqb}
+use Rattle.refusal.specs.declared.Verdict.the-variants.{Accepted}
+use Rattle.refusal.specs.Foremost.{foremost}
+use Rattle.refusal.proofs.Foremost.{after-first}
 use Rattle.codes.specs.Codes.{schemeOf}
-use Rattle.session.specs.Calls.{takeVerdict}
-use Rattle.session.proofs.Links.{after-server, server-passed}
+use Rattle.session.specs.Calls.{serverFaults, takeVerdict}
+use Rattle.session.proofs.Links.{Asks, server-passed}
 use Rattle.session.proofs.Promised.{sizes-small}
 use Rattle.session.proofs.verdicts.take_verdict.Statement.{statement}
 use Rattle.session.proofs.verdicts.take_verdict.Tie as tie
@@ -18,51 +22,38 @@ enum-known-refusal c = search needs
 returns : tie.Need-returns
 unfolding takeVerdict
 returns c =
-    let told = c .before in
-    let asked = told .before .before in
-    let start = asked .before in
-    let v = asked .server-verdict in
-    after-server schemeOf (start .args .s) (start .args .server) _ (v .result) _ (v .ensures) (rw (told .refusal .given .1))
+    let asked = c .before .before .before in
+    after-first (serverFaults schemeOf (asked .before .args .s) (asked .before .args .server)) _ refl refl _ _ (asked .server-verdict .ensures) (rw (c .before .refusal .given .1))
 
 enum-told : tie.Need-enum-told
 enum-told c = search needs
 
+-- once the first links are passed
+accepted : (c : tie.After-enum-told) → let args = c .before .before .before .args in foremost (serverFaults schemeOf (args .s) (args .server)) ≡ Accepted
+accepted c = sym (c .before .before .server-verdict .ensures) ∙ c .enum-told .given .1
+
+asks : (c : tie.After-enum-told) → let args = c .before .before .before .args in Asks schemeOf (args .s) (args .server)
+asks c = let args = c .before .before .before .args in server-passed schemeOf (args .s) (args .server) (accepted c)
+
 sizes-of-requires : tie.Need-sizes-of-requires
-sizes-of-requires c κs =
-    let asked = c .before .before in
-    let start = asked .before in
-    let v = asked .server-verdict in
-    server-passed schemeOf (start .args .s) (start .args .server) (v .result) (v .ensures) (c .enum-told .given .1) .admitted
+sizes-of-requires c κs = asks c .holds .admitted
 
 mul-if1 : tie.Need-mul-if1
 mul-if1 c =
     let sized = c .before .before in
-    let told = sized .before in
-    let asked = told .before .before in
-    let start = asked .before in
-    let v = asked .server-verdict in
-    let asks = server-passed schemeOf (start .args .s) (start .args .server) (v .result) (v .ensures) (told .enum-told .given .1) in
-    omega (arith, sizes-small (start .args .s .catalogue) (sized .sizes-of .result) (asks .admitted) (sized .sizes-of .ensures) .slots)
+    let passed = asks (sized .before) in
+    omega (arith, sizes-small (sized .before .before .before .before .args .s .catalogue) (sized .sizes-of .result) (passed .holds .admitted) (sized .sizes-of .ensures) .slots)
 
 returns-2 : tie.Need-returns-2
 unfolding takeVerdict
 returns-2 c =
     let sized = c .before .before .before in
-    let told = sized .before in
-    let asked = told .before .before in
-    let start = asked .before in
-    let v = asked .server-verdict in
-    after-server schemeOf (start .args .s) (start .args .server) _ (v .result) _ (v .ensures)
-    (rw (told .enum-told .given .1, ← sized .sizes-of .ensures, lt-ltb _ _ (c .if1 .taken)))
+    after-first _ _ refl refl Accepted _ (sym (accepted (sized .before))) (rw (← sized .sizes-of .ensures, lt-ltb _ _ (c .if1 .taken)))
 
 answer-length-requires : tie.Need-answer-length-requires
 answer-length-requires c κs =
-    let told = c .before .before .before .before in
-    let asked = told .before .before in
-    let start = asked .before in
-    let v = asked .server-verdict in
-    let asks = server-passed schemeOf (start .args .s) (start .args .server) (v .result) (v .ensures) (told .enum-told .given .1) in
-    (asks .admitted, ((asks .inside, asks .below), asks .good))
+    let passed = asks (c .before .before .before .before) in
+    (passed .holds .admitted, ((passed .holds .inside, passed .below), passed .holds .good))
 
 returns-3 : tie.Need-returns-3
 unfolding takeVerdict
@@ -70,28 +61,14 @@ returns-3 c =
     let checked = c .before in
     let first = checked .before in
     let sized = first .before .before .before in
-    let told = sized .before in
-    let asked = told .before .before in
-    let start = asked .before in
-    let v = asked .server-verdict in
-    after-server schemeOf (start .args .s) (start .args .server) _ (v .result) _ (v .ensures)
-    (rw (
-      told .enum-told .given .1,
-      ← checked .answer-length .ensures,
-      ne-eqb _ _ (c .if2 .taken),
-      ← sized .sizes-of .ensures,
-      le-ltb _ _ (first .if1 .left),
-    ))
+    after-first _ _ refl refl Accepted _ (sym (accepted (sized .before)))
+    (rw (← checked .answer-length .ensures, ne-eqb _ _ (c .if2 .taken), ← sized .sizes-of .ensures, le-ltb _ _ (first .if1 .left)))
 
 due-verdict-requires : tie.Need-due-verdict-requires
 due-verdict-requires c κs =
     let sized = c .before .before .before .before .before in
-    let told = sized .before in
-    let asked = told .before .before in
-    let start = asked .before in
-    let v = asked .server-verdict in
-    let asks = server-passed schemeOf (start .args .s) (start .args .server) (v .result) (v .ensures) (told .enum-told .given .1) in
-    omega (arith, asks .below, sizes-small (start .args .s .catalogue) (sized .sizes-of .result) (asks .admitted) (sized .sizes-of .ensures) .servers)
+    let passed = asks (sized .before) in
+    omega (arith, passed .below, sizes-small (sized .before .before .before .before .args .s .catalogue) (sized .sizes-of .result) (passed .holds .admitted) (sized .sizes-of .ensures) .servers)
 
 returns-4 : tie.Need-returns-4
 unfolding takeVerdict
@@ -100,18 +77,9 @@ returns-4 c =
     let checked = second .before in
     let first = checked .before in
     let sized = first .before .before .before in
-    let told = sized .before in
-    let asked = told .before .before in
-    let start = asked .before in
-    let v = asked .server-verdict in
-    after-server schemeOf (start .args .s) (start .args .server) _ (v .result) _ (v .ensures)
-    (rw (
-      told .enum-told .given .1,
-      ← checked .answer-length .ensures,
-      eq-eqb _ _ (second .if2 .left),
-      ← sized .sizes-of .ensures,
-      le-ltb _ _ (first .if1 .left),
-    ) (c .due-verdict .ensures))
+    after-first _ _ refl refl Accepted _ (sym (accepted (sized .before)))
+    (rw (← checked .answer-length .ensures, eq-eqb _ _ (second .if2 .left), ← sized .sizes-of .ensures, le-ltb _ _ (first .if1 .left))
+    (c .due-verdict .ensures))
 
 pub take-verdict-spec : {M : Type 1} → statement M
 take-verdict-spec =

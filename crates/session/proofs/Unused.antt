@@ -8,13 +8,13 @@ use Rattle.refusal.specs.declared.Verdict.{Verdict}
 use Rattle.refusal.specs.declared.Verdict.the-variants.{Accepted, Refused}
 use Rattle.scheme.specs.Scheme.{Scheme, recoverIn}
 use Rattle.catalogue.specs.declared.Catalogue.{Catalogue}
 use Rattle.session.specs.declared.Session.{Session}
 use Rattle.session.specs.Fields.{markIssued}
 use Rattle.session.specs.Calls.{out, codeOf, keyOf, queryOf, recoveredMessage, issueVerdict, issue, takeVerdict, takeAnswer, recoverVerdict, recover}
 use Rattle.session.proofs.Issue.{issue-by}
 use Rattle.session.proofs.Take.{take-by}
 use Rattle.session.proofs.Recover.{recover-by}
-use Rattle.fetches.specs.Unused.{withPlaces, handedWith, UnusedUnread}
+use Rattle.session.specs.Unused.{withPlaces, handedWith, UnusedUnread}
 
 module _ (schemeOf : Catalogue → Scheme) (s : Session) (places : List ℕ) (same : take (codeOf schemeOf s .sizes .key) places ≡ keyOf schemeOf s) where
   abbrev t : Session

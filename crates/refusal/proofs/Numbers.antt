@@ -1,0 +1,54 @@
+-- Number and refusal turn into each other (`refusal-kept`, `number-kept`), and among the numbers 1 to 12 the rank goes by the number
+-- (`rank-by-number`), which is document 01's rule of the smallest number. Each is one computed test over the table.
+use Prim.Native.Nat.{ℕ, _≤_}
+use mathlib.Core.Path.{_≡_, refl, sym, ap, _∙_}
+use mathlib.Core.Bool.{Bool, true, false, cond, _&&_}
+use mathlib.Core.List.{List, [], _∷_, map}
+use lib.Dec.{leb}
+use lib.ListN.{getD}
+use borrow.Author.Tests.{le-leb}
+use Rattle.refusal.specs.declared.Refusal.{Refusal}
+use Rattle.refusal.specs.declared.Refusal.the-variants.{Text, Bounds, Server, Wanted, KeyLength, KeyEntry}
+use Rattle.refusal.specs.declared.Refusal.the-variants.{Query, StoreLength, Room, AnswerLength, History, Missing}
+use Rattle.refusal.specs.Numbers.{numberOf, refusals, refusalOf, order, rank}
+
+-- two functions that agree over the list of refusals agree at each refusal
+module _ {A : Type 0} (f g : Refusal → A) (same : map f refusals ≡ map g refusals) where
+  at-place : (place : ℕ) → getD (map f refusals) place (f Text) ≡ getD (map g refusals) place (f Text)
+  at-place place = ap (λ (values : List A). getD values place (f Text)) same
+
+  pub at-each : (refusal : Refusal) → f refusal ≡ g refusal
+  at-each Text = at-place 0
+  at-each Bounds = at-place 1
+  at-each Server = at-place 2
+  at-each Wanted = at-place 3
+  at-each KeyLength = at-place 4
+  at-each KeyEntry = at-place 5
+  at-each Query = at-place 6
+  at-each StoreLength = at-place 7
+  at-each Room = at-place 8
+  at-each AnswerLength = at-place 9
+  at-each History = at-place 10
+  at-each Missing = at-place 11
+
+pub refusal-kept : (refusal : Refusal) → refusalOf (numberOf refusal) ≡ refusal
+refusal-kept = at-each (λ (r : Refusal). refusalOf (numberOf r)) (λ (r : Refusal). r) refl
+
+pub number-kept : map (λ (n : ℕ). numberOf (refusalOf n)) order ≡ order
+number-kept = refl
+
+-- both numbers are at most 12
+abbrev upTo12 : Refusal → Refusal → Bool
+upTo12 a b = leb (numberOf a) 12 && leb (numberOf b) 12
+
+abbrev byRank : Refusal → Refusal → Bool
+byRank a b = cond (upTo12 a b) (leb (rank a) (rank b)) true
+
+abbrev byNumber : Refusal → Refusal → Bool
+byNumber a b = cond (upTo12 a b) (leb (numberOf a) (numberOf b)) true
+
+pub rank-by-number : (a b : Refusal) → numberOf a ≤ 12 → numberOf b ≤ 12 → leb (rank a) (rank b) ≡ leb (numberOf a) (numberOf b)
+rank-by-number a b low high =
+    let table = at-each (λ (x : Refusal). map (byRank x) refusals) (λ (x : Refusal). map (byNumber x) refusals) refl in
+    let pair : byRank a b ≡ byNumber a b = at-each (byRank a) (byNumber a) (table a) b in
+    rw (le-leb (numberOf a) 12 low, le-leb (numberOf b) 12 high) at pair
