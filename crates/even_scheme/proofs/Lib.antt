@@ -4,6 +4,7 @@ pub mod Queries
 pub mod Exchange
 pub mod Reach
 pub mod Renaming
+pub mod EqualReach
 pub mod Examples
 pub mod Symbols
 pub mod Answers

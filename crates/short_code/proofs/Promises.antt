@@ -1,8 +1,10 @@
 -- The short code keeps the promises of a retrieval code, over any abelian group of symbols: `short-laws`. And over exclusive or: `short-promises`.
 use mathlib.Core.Path.{_≡_, refl}
 use mathlib.Core.Bool.{true}
-use Prim.Native.Nat.{ℕ}
+use Prim.Native.Nat.{ℕ, _-_}
 use native.Mathlib.Omega.{arith}
+use lib.ListN.{replicate, length-replicate}
+use Rattle.lists.proofs.Below.{below-allBelow, below-zeros}
 use Rattle.parameters.specs.Bounds.{shortFits}
 use Rattle.parameters.specs.Measures.{shortSizes}
 use Rattle.parameters.proofs.Bounds.{short-bounds}
@@ -26,6 +28,11 @@ short-laws sum N K S group fits =
       servers-fit = b .servers-high;
       key-fits = omega arith;
       store-whole = refl;
+      some-key = replicate (K - 1) 0;
+      some-key-valid = record {
+        long = length-replicate {A = ℕ} (K - 1) 0;
+        good = below-allBelow N (replicate (K - 1) 0) (below-zeros N (K - 1) (omega (arith, b .servers-low)));
+      };
       query-length = λ wanted n key w s v. query-long N K wanted n key w s (v .long) (v .good);
       query-admitted = λ wanted n key w s v. query-admits N K wanted n key w s (v .long) (v .good);
       answer-length = λ n store query whole a. answer-long sum N K S (group .plus-length) store whole (b .symbol-low) query (admits-row N K n query a);
