@@ -51,18 +51,40 @@ pub fn admits(c: Catalogue, server: usize, query: &[u8]) -> bool
     }
 }
 
+// The bytes of an answer slot.
+fn slot(c: Catalogue) -> usize
+    requires { ⌜ Admitted c ⌝ }
+    ensures { λ r. ⌜ r ≡ schemeOf c .sizes .slot ⌝ }
+{
+    let Measured::Of(sizes) = catalogue::sizes(c) else {
+        return 0;
+    };
+    sizes.slot
+}
+
 // The bytes that the query calls for.
 pub fn answer_length(c: Catalogue, query: &[u8]) -> usize
     requires { ⌜ Admitted c ⌝ }
     ensures { λ r. ⌜ r ≡ schemeOf c .answerLength (now (query .entry)) ⌝ }
 {
-    let Measured::Of(sizes) = catalogue::sizes(c) else {
-        return 0;
-    };
     let code = c.code;
     match code {
         Code::Short => short_code::answer_length(c.symbol, query),
-        Code::Even => sizes.slot,
+        Code::Even => slot(c),
+    }
+}
+
+// The bytes that a server's query for the wanted message calls for, without making the query.
+pub fn expected_length(c: Catalogue, wanted: usize, server: usize, key: &[u8]) -> usize
+    requires { ⌜ Admitted c ⌝ }
+    requires { ⌜ (wanted < c .messages) × (server < c .servers) ⌝ }
+    requires { ⌜ Valid (schemeOf c) (now key) ⌝ }
+    ensures { λ r. ⌜ r ≡ schemeOf c .answerLength (schemeOf c .query wanted server (now (key .entry))) ⌝ }
+{
+    let code = c.code;
+    match code {
+        Code::Short => short_code::expected_length(c.servers, c.symbol, wanted, server, key),
+        Code::Even => slot(c),
     }
 }
 

@@ -2,7 +2,8 @@
 use mathlib.Core.Path.{_≡_, refl, sym, ap, _∙_}
 use mathlib.Core.Bool.{Bool, true, false, cond}
 use mathlib.Core.List.{List, [], _∷_}
-use Prim.Native.Nat.{ℕ, zero, suc, _≤_}
+use Prim.Native.Nat.{ℕ, zero, suc, _+_, _%_, _≤_, _<_}
+use native.Mathlib.Nat.{zero-mod}
 use native.Mathlib.Omega.{arith}
 use borrow.Author.Tests.{le-ltb}
 use lib.ListN.{take, drop, take-append-drop}
@@ -10,7 +11,8 @@ use Rattle.lists.specs.Below.{allBelow}
 use Rattle.lists.specs.Inserts.{insertAt}
 use Rattle.lists.proofs.Below.{allBelow-below, below-joined}
 use Rattle.symbol.specs.Sum.{Sum, total}
-use Rattle.short_code.specs.Short.{allZero, named, shortAnswerLength, shortAnswer}
+use Rattle.short_code.specs.Short.{allZero, digitSum, balancing, named, shortQuery, shortAnswerLength, shortAnswer}
+use Rattle.short_code.proofs.Digits.{sum-insert, sum-zeros, balanced, balance-only}
 
 -- digit 0 more does not change it
 pub zeros-more : (at : ℕ) (key : List ℕ) → allZero (insertAt at 0 key) ≡ allZero key
@@ -29,6 +31,36 @@ zeros-broken at d key =
     neither : (t : Bool) → cond t false false ≡ false
     neither true = refl
     neither false = refl
+
+-- a row that is not all zeros stays so
+zeros-kept : (at d : ℕ) (key : List ℕ) → allZero key ≡ false → allZero (insertAt at d key) ≡ false
+zeros-kept at zero key e = zeros-more at key ∙ e
+zeros-kept at (suc d) key e = zeros-broken at d key
+
+-- server 0 is asked for the row of zeros exactly by the key of zeros, and no other server is asked for it
+module _ (N wanted : ℕ) (key : List ℕ) where
+  pub query-zeros : 0 < N → allZero (shortQuery N wanted 0 key) ≡ allZero key
+  unfolding shortQuery
+  query-zeros h = go (allZero key) refl
+    where
+      go : (t : Bool) → allZero key ≡ t → allZero (insertAt wanted (balancing N 0 key) key) ≡ allZero key
+      go true e =
+          ap (λ (d : ℕ). allZero (insertAt wanted d key))
+          (balance-only N 0 key h 0 h (ap (λ (x : ℕ). (0 + x) % N) (sum-zeros key e) ∙ zero-mod N))
+          ∙ zeros-more wanted key
+      go false e = zeros-kept wanted (balancing N 0 key) key e ∙ sym e
+
+  pub query-some : (n : ℕ) → n < N → 0 < n → allZero (shortQuery N wanted n key) ≡ false
+  unfolding shortQuery
+  query-some n h p = go (allZero (insertAt wanted (balancing N n key) key)) refl
+    where
+      go : (t : Bool) → allZero (insertAt wanted (balancing N n key) key) ≡ t → allZero (insertAt wanted (balancing N n key) key) ≡ false
+      go true e =
+          let none : 0 ≡ n =
+          sym (zero-mod N) ∙ ap (λ (x : ℕ). x % N) (sym (sum-zeros (insertAt wanted (balancing N n key) key) e) ∙ sum-insert wanted (balancing N n key) key)
+          ∙ balanced N n key h in
+          absurd (let w : ⊥ = omega arith in w)
+      go false e = e
 
 module _ (S : ℕ) (query : List ℕ) where
   pub length-none : allZero query ≡ true → shortAnswerLength S query ≡ 0

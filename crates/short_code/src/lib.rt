@@ -137,6 +137,17 @@ pub fn answer_length(s: usize, query: &[u8]) -> usize
     s
 }
 
+// The bytes that the server's query calls for, without the query: only server 0 can be asked for the row of zeros, by the key of zeros.
+pub fn expected_length(n: usize, s: usize, wanted: usize, server: usize, key: &[u8]) -> usize
+    requires { ⌜ server < n ⌝ }
+    ensures { λ r. ⌜ r ≡ shortAnswerLength s (shortQuery n wanted server (now (key .entry))) ⌝ }
+{
+    if server == 0 {
+        return answer_length(s, key);
+    }
+    s
+}
+
 // Gathers the symbol that digit d of message p names in `out`, and says whether one has begun it now. Digit 0 names none.
 fn gather_digit(
     n: usize,
