@@ -23,12 +23,12 @@ use Rattle.symbol.specs.Xor.{xor}
 use Rattle.symbol.proofs.XorBytes.{xor-length}
 use Rattle.symbol.proofs.XorGroup.{xor-group}
 use Rattle.symbol.proofs.Totals.{total-symbol}
-use Rattle.even_places.specs.Sets.{ones, members}
+use Rattle.even_places.specs.Sets.{onesIn, members}
 use Rattle.even_scheme.specs.Even.{symbolAt, rowAnswer, rowAnswers}
 use Rattle.even_answer.specs.Answering.{added}
 
-pub members-length : (q : ℕ) (A : List Bool) → length (members q A) ≡ ones A
-unfolding members ones sum bit
+pub members-length : (q : ℕ) (A : List Bool) → length (members q A) ≡ onesIn A
+unfolding members onesIn sum bit
 members-length q [] = refl
 members-length q (true ∷ A) = omega (arith, members-length (suc q) A)
 members-length q (false ∷ A) = omega (arith, members-length (suc q) A)
@@ -119,12 +119,12 @@ module _ (N K S : ℕ) (store : List ℕ) (whole : length store ≡ evenSizes N 
     unfolding rowAnswers
     answers-length numbers allNil b = sym (zero-mul S)
     answers-length numbers (allCons {x = A} {xs = L} e a) b =
-        let rest = drop (ones A) numbers in
+        let rest = drop (onesIn A) numbers in
         let many = length-append (rowAnswer xor N K S store A numbers) (rowAnswers xor N K S store L rest) in
-        omega (arith, many, row-is A numbers e b .long, answers-length rest a (below-drop (N ^ K) (ones A) numbers b), suc-mul (length L) S)
+        omega (arith, many, row-is A numbers e b .long, answers-length rest a (below-drop (N ^ K) (onesIn A) numbers b), suc-mul (length L) S)
 
 -- one row more of a set, whose rows have `size` numbers each
-pub set-more : (N K S : ℕ) (store : List ℕ) (A : List Bool) (numbers : List ℕ) (rows row size : ℕ) → row < rows → ones A ≡ size
+pub set-more : (N K S : ℕ) (store : List ℕ) (A : List Bool) (numbers : List ℕ) (rows row size : ℕ) → row < rows → onesIn A ≡ size
     → rowAnswers xor N K S store (replicate (rows - row) A) (drop (row * size) numbers)
     ≡ rowAnswer xor N K S store A (drop (row * size) numbers) ++ rowAnswers xor N K S store (replicate (rows - (row + 1)) A) (drop ((row + 1) * size) numbers)
 unfolding rowAnswers
@@ -133,4 +133,4 @@ set-more N K S store A numbers rows row size h e =
     let next : row * size + size ≡ (row + 1) * size = sym (ap (λ (n : ℕ). n * size) (add-one row) ∙ suc-mul row size) in
     ap (λ (n : ℕ). rowAnswers xor N K S store (replicate n A) (drop (row * size) numbers)) left
     ∙ ap (λ (l : List ℕ). rowAnswer xor N K S store A (drop (row * size) numbers) ++ rowAnswers xor N K S store (replicate (rows - (row + 1)) A) l)
-    (drop-drop (ones A) (row * size) numbers ∙ ap (λ (n : ℕ). drop n numbers) (ap (λ (n : ℕ). row * size + n) e ∙ next))
+    (drop-drop (onesIn A) (row * size) numbers ∙ ap (λ (n : ℕ). drop n numbers) (ap (λ (n : ℕ). row * size + n) e ∙ next))

@@ -12,12 +12,12 @@ use Rattle.lists.specs.Below.{Below}
 use Rattle.lists.proofs.Each.{All-replicate}
 use Rattle.parameters.specs.Measures.{evenSizes}
 use Rattle.symbol.specs.Xor.{xor}
-use Rattle.even_places.specs.Sets.{ones, members, allSets}
+use Rattle.even_places.specs.Sets.{onesIn, members, allSets}
 use Rattle.even_places.specs.Rule.{layout}
 use Rattle.even_places.proofs.Positions.{positions-length}
 use Rattle.even_places.proofs.AllSets.{layout-by-set}
 use Rattle.even_scheme.specs.Even.{rowAnswer, rowAnswers}
-use Rattle.even_layout.specs.Layout.{Bounds, rowsOf}
+use Rattle.even_layout.specs.Layout.{LayoutBounds, rowsOf}
 use Rattle.even_layout.proofs.Tables.{setPositions, positionsFrom, positions-all, positions-more}
 use Rattle.even_answer.proofs.RowLaws.{members-length, answers-length}
 
@@ -39,40 +39,40 @@ unfolding rowsFrom flatMap
 rows-more N K i h = rw (add-one i, drop-cons (allSets K) i [] h)
 
 -- the rows of a set take a number for each of its messages
-positions-rows : (A : List Bool) (n : ℕ) → length (flatMap (members 0) (replicate n A)) ≡ n * ones A
+positions-rows : (A : List Bool) (n : ℕ) → length (flatMap (members 0) (replicate n A)) ≡ n * onesIn A
 unfolding flatMap
-positions-rows A zero = sym (zero-mul (ones A))
+positions-rows A zero = sym (zero-mul (onesIn A))
 positions-rows A (suc n) =
-    omega (arith, length-append (members 0 A) (flatMap (members 0) (replicate n A)), members-length 0 A, positions-rows A n, suc-mul n (ones A))
+    omega (arith, length-append (members 0 A) (flatMap (members 0) (replicate n A)), members-length 0 A, positions-rows A n, suc-mul n (onesIn A))
 
 pub numbers-more : (N K i : ℕ) → i < length (allSets K)
-    → length (positionsFrom N K i) ≡ rowsOf N (getD (allSets K) i []) * ones (getD (allSets K) i []) + length (positionsFrom N K (i + 1))
+    → length (positionsFrom N K i) ≡ rowsOf N (getD (allSets K) i []) * onesIn (getD (allSets K) i []) + length (positionsFrom N K (i + 1))
 unfolding setPositions
 numbers-more N K i h =
     let A = getD (allSets K) i [] in
     ap length (positions-more N K i h) ∙ length-append (setPositions N A) (positionsFrom N K (i + 1))
     ∙ ap (λ (n : ℕ). n + length (positionsFrom N K (i + 1))) (positions-rows A (rowsOf N A))
 
-pub numbers-all : (N K : ℕ) → Bounds N K → length (positionsFrom N K 0) ≡ K * N ^ (K - 1)
+pub numbers-all : (N K : ℕ) → LayoutBounds N K → length (positionsFrom N K 0) ≡ K * N ^ (K - 1)
 numbers-all N K bounds = ap length (positions-all N K) ∙ positions-length N K (bounds .servers-low) (bounds .messages-low)
 
 module _ (N K S : ℕ) (store : List ℕ) where
   answers-append : (A : List Bool) (n : ℕ) (more : List (List Bool)) (numbers : List ℕ)
       → rowAnswers xor N K S store (replicate n A ++ more) numbers
-      ≡ rowAnswers xor N K S store (replicate n A) numbers ++ rowAnswers xor N K S store more (drop (n * ones A) numbers)
+      ≡ rowAnswers xor N K S store (replicate n A) numbers ++ rowAnswers xor N K S store more (drop (n * onesIn A) numbers)
   unfolding rowAnswers
-  answers-append A zero more numbers = rw (zero-mul (ones A))
+  answers-append A zero more numbers = rw (zero-mul (onesIn A))
   answers-append A (suc n) more numbers =
       let front = rowAnswer xor N K S store A numbers in
-      let rest = drop (ones A) numbers in
-      let next : ones A + n * ones A ≡ suc n * ones A = omega (arith, suc-mul n (ones A)) in
+      let rest = drop (onesIn A) numbers in
+      let next : onesIn A + n * onesIn A ≡ suc n * onesIn A = omega (arith, suc-mul n (onesIn A)) in
       ap (λ (l : List ℕ). front ++ l) (answers-append A n more rest)
-      ∙ sym (append-assoc front (rowAnswers xor N K S store (replicate n A) rest) (rowAnswers xor N K S store more (drop (n * ones A) rest)))
+      ∙ sym (append-assoc front (rowAnswers xor N K S store (replicate n A) rest) (rowAnswers xor N K S store more (drop (n * onesIn A) rest)))
       ∙ ap (λ (l : List ℕ). (front ++ rowAnswers xor N K S store (replicate n A) rest) ++ rowAnswers xor N K S store more l)
-      (drop-drop (n * ones A) (ones A) numbers ∙ ap (λ (m : ℕ). drop m numbers) next)
+      (drop-drop (n * onesIn A) (onesIn A) numbers ∙ ap (λ (m : ℕ). drop m numbers) next)
 
   -- one set more, whose rows take `taken` numbers
-  pub answers-more : (i at taken : ℕ) (query : List ℕ) → i < length (allSets K) → taken ≡ rowsOf N (getD (allSets K) i []) * ones (getD (allSets K) i [])
+  pub answers-more : (i at taken : ℕ) (query : List ℕ) → i < length (allSets K) → taken ≡ rowsOf N (getD (allSets K) i []) * onesIn (getD (allSets K) i [])
       → rowAnswers xor N K S store (rowsFrom N K i) (drop at query)
       ≡ rowAnswers xor N K S store (replicate (rowsOf N (getD (allSets K) i [])) (getD (allSets K) i [])) (drop at query)
       ++ rowAnswers xor N K S store (rowsFrom N K (i + 1)) (drop (at + taken) query)
@@ -82,7 +82,7 @@ module _ (N K S : ℕ) (store : List ℕ) where
       ap (λ (L : List (List Bool)). rowAnswers xor N K S store L (drop at query)) (rows-more N K i h)
       ∙ answers-append A (rowsOf N A) (rowsFrom N K (i + 1)) (drop at query)
       ∙ ap (λ (l : List ℕ). front ++ rowAnswers xor N K S store (rowsFrom N K (i + 1)) l)
-      (drop-drop (rowsOf N A * ones A) at query ∙ ap (λ (m : ℕ). drop (at + m) query) (sym e))
+      (drop-drop (rowsOf N A * onesIn A) at query ∙ ap (λ (m : ℕ). drop (at + m) query) (sym e))
 
   -- the answers to the rows of a set
   pub set-length : (A : List Bool) (n : ℕ) (numbers : List ℕ) → length store ≡ evenSizes N K S .store → Below 256 store → length A ≡ K → Below (N ^ K) numbers

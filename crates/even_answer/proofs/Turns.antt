@@ -14,7 +14,7 @@ use Rattle.lists.proofs.Below.{below-drop}
 use Rattle.lists.proofs.Cuts.{slot-end}
 use Rattle.lists.proofs.Writing.{Pending, pending-part, pending-as}
 use Rattle.symbol.specs.Xor.{xor}
-use Rattle.even_places.specs.Sets.{ones, byteOf, allSets}
+use Rattle.even_places.specs.Sets.{onesIn, byteOf, allSets}
 use Rattle.even_scheme.specs.Even.{rowAnswer, rowAnswers, evenAnswer}
 use Rattle.even_layout.specs.Layout.{setIn, rowsOf}
 use Rattle.even_layout.proofs.Bytes.{membersFrom, members-kept}
@@ -104,7 +104,7 @@ set-turn {N} {K} {S} {end} {rows} {store} {query} {buffer} {out} {table} i at gi
     let set = getD table i 0 in
     let b = byte-at N K i table (replicate (256 - length (allSets K)) 0) (layout-fits N K S (given .fits)) e h in
     let many : rows ≡ rowsOf N A = called ∙ b .rows in
-    let taken : rows * count set ≡ rowsOf N A * ones A = ap₂ (λ (x y : ℕ). x * y) many (b .counted) in
+    let taken : rows * count set ≡ rowsOf N A * onesIn A = ap₂ (λ (x y : ℕ). x * y) many (b .counted) in
     let numbers = numbers-more N K i h in
     let below = below-drop (N ^ K) at query (given .named) in
     let front = rowAnswers xor N K S store (replicate rows (setIn K set)) (drop at query) in
@@ -119,7 +119,7 @@ set-turn {N} {K} {S} {end} {rows} {store} {query} {buffer} {out} {table} i at gi
         whole = given .whole;
         named = below;
         some = b .some;
-        inside = ap ones (b .decoded) ∙ sym (b .counted);
+        inside = ap onesIn (b .decoded) ∙ sym (b .counted);
         enough = omega (arith, length-drop at query);
       };
       small = b .small;

@@ -9,7 +9,7 @@ use Rattle.lists.specs.Below.{Below}
 use Rattle.parameters.specs.Bounds.{evenFits}
 use Rattle.parameters.specs.Measures.{evenSizes}
 use Rattle.symbol.specs.Xor.{xor}
-use Rattle.even_places.specs.Sets.{ones}
+use Rattle.even_places.specs.Sets.{onesIn}
 use Rattle.even_layout.specs.Layout.{setIn}
 
 -- where message p's number is marked
@@ -35,5 +35,5 @@ pub record SetAnswerable (N K S : ℕ) (store : List ℕ) (set rows : ℕ) (numb
   pub whole : length store ≡ evenSizes N K S .store
   pub named : Below (N ^ K) numbers
   pub some : 1 ≤ count set
-  pub inside : ones (setIn K set) ≡ count set
+  pub inside : onesIn (setIn K set) ≡ count set
   pub enough : rows * count set ≤ length numbers

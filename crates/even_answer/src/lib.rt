@@ -9,7 +9,7 @@ ghost use Rattle.lists.specs.Below.{allBelow, Below};
 ghost use Rattle.lists.specs.Distinct.{distinct};
 ghost use Rattle.symbol.specs.Xor.{xor};
 ghost use Rattle.even_scheme.specs.Even.{evenAdmits, rowAnswer, rowAnswers, evenAnswer};
-ghost use Rattle.even_layout.specs.Layout.{Bounds, setIn};
+ghost use Rattle.even_layout.specs.Layout.{LayoutBounds, setIn};
 ghost use Rattle.even_answer.specs.Answering.{Answerable, SetAnswerable, cellOf, added};
 
 // Whether the numbers are below `size`, none twice for the same message; message p's number x is marked at p × `size` + x.
@@ -36,7 +36,7 @@ fn all_fresh(size: usize, messages: &[u8], numbers: &[u8]) -> bool
 
 // Whether a server admits the query, which is the same at every server.
 pub fn admits(n: usize, k: usize, server: usize, query: &[u8]) -> bool
-    requires { ⌜ Bounds n k ⌝ }
+    requires { ⌜ LayoutBounds n k ⌝ }
     ensures { λ r. ⌜ r ≡ evenAdmits n k server (now (query .entry)) ⌝ }
 {
     if query.len() != k * parameters::power(n, k - 1) {

@@ -8,7 +8,7 @@ use mathlib.Core.Bool.{Bool, true, false, false≢true}
 use lib.ListN.{length, take, drop, set}
 use lib.Count.{ones as count}
 use Rattle.lists.specs.Sums.{bit}
-use Rattle.even_places.specs.Sets.{has, ones, byteOf}
+use Rattle.even_places.specs.Sets.{has, onesIn, byteOf}
 use Rattle.even_places.proofs.Bytes.{byte-ones, byte-below}
 
 byte-split : (A : List Bool) (p : ℕ) → byteOf A ≡ byteOf (take p A) + 2 ^ p * byteOf (drop p A)
@@ -27,7 +27,7 @@ take-most [] (suc p) = omega arith
 take-most (a ∷ A) zero = omega arith
 take-most (a ∷ A) (suc p) = omega (arith, take-most A p)
 
-pub byte-before : (A : List Bool) (p : ℕ) → count (byteOf A % 2 ^ p) ≡ ones (take p A)
+pub byte-before : (A : List Bool) (p : ℕ) → count (byteOf A % 2 ^ p) ≡ onesIn (take p A)
 byte-before A p =
     let low : byteOf (take p A) < 2 ^ p = omega (arith, byte-below (take p A), pow-le-pow-right {n = 2} (omega arith) (take-most A p)) in
     ap count

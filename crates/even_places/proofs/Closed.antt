@@ -14,7 +14,7 @@ use Rattle.lists.specs.Ranges.{range}
 use Rattle.lists.proofs.Keep.{keep-append, keep-nothing}
 use Rattle.lists.proofs.Each.{All-imp, All-replicate}
 use Rattle.lists.proofs.Sums.{sum-mul, sum-ext, sum-keep}
-use Rattle.even_places.specs.Sets.{has, sets, with, ones, alike}
+use Rattle.even_places.specs.Sets.{has, sets, with, onesIn, alike}
 use Rattle.even_places.specs.Process.{afters}
 use Rattle.even_places.specs.Rule.{Row, same, give, next, after, number, join, ofSet, block, used, sideSets, sideRows, wantedRows, joins, sources}
 use Rattle.even_places.proofs.Rows.{Lacks, SetLacks, number-lacks, next-at, after-at, after-length, number-length, afters-length, afters-at}
@@ -97,7 +97,7 @@ module _ (K : ℕ) where
           ∙ ap some (omega (arith, afters-at K p c e (All-replicate q B h), with-replicate p q B, mul-add q (bit (has p B)) (with p (before A L))))
 
 module _ (N K k : ℕ) (wide : 1 < N) (known : k < K) where
-  lone-once : (b : ℕ) (A : List Bool) → length A ≡ K → ones A ≡ suc b → has k A ≡ false → sum (λ B. bit (alike A B)) (keep (λ B. not (has k B)) (sets K (suc b))) ≡ 1
+  lone-once : (b : ℕ) (A : List Bool) → length A ≡ K → onesIn A ≡ suc b → has k A ≡ false → sum (λ B. bit (alike A B)) (keep (λ B. not (has k B)) (sets K (suc b))) ≡ 1
   unfolding bit
   lone-once b A long many lack =
       sum-keep (λ B. bit (alike A B)) (λ B. not (has k B)) (sets K (suc b))
@@ -106,7 +106,7 @@ module _ (N K k : ℕ) (wide : 1 < N) (known : k < K) where
       ∙ rw (alike-one A K (suc b) long many, lack)
 
   -- the place of p in the row numbered r of set A, which lacks k, at server n
-  pub side-at : (b n r p : ℕ) (A : List Bool) → length A ≡ K → ones A ≡ suc b → has k A ≡ false → p < K → has p A ≡ true → r < (N - 1) ^ b
+  pub side-at : (b n r p : ℕ) (A : List Bool) → length A ≡ K → onesIn A ≡ suc b → has k A ≡ false → p < K → has p A ≡ true → r < (N - 1) ^ b
       → getD (getD (ofSet A (block N K k b n)) r []) p none ≡ some (used N (λ j. with p (sideSets N K k j)) b n + (N - 1) ^ b * with p (before A (keep (λ B. not (has k B)) (sets K (suc b)))) + r)
   unfolding sideSets fresh
   side-at b n r p A long many lack hp g l =
@@ -167,7 +167,7 @@ module _ (K k b : ℕ) (known : k < K) where
 
 module _ (N K k : ℕ) (wide : 1 < N) (known : k < K) where
   -- the place of k in the row numbered j (N-1)^b + r of set A at server n
-  pub wanted-at : (b n j r : ℕ) (A : List Bool) → n < N → length A ≡ K → ones A ≡ suc (suc b) → has k A ≡ true → j < N - 1 → r < (N - 1) ^ b
+  pub wanted-at : (b n j r : ℕ) (A : List Bool) → n < N → length A ≡ K → onesIn A ≡ suc (suc b) → has k A ≡ true → j < N - 1 → r < (N - 1) ^ b
       → getD (getD (ofSet A (block N K k (suc b) n)) (j * (N - 1) ^ b + r) []) k none
       ≡ some (used N (joins N K k) (suc b) n + j * length (sideSets N K k b) + (N - 1) ^ b * length (before (set A k false) (keep (λ B. not (has k B)) (sets K (suc b)))) + r)
   unfolding wantedRows sources sideSets ofSet flatMap
@@ -186,20 +186,20 @@ module _ (N K k : ℕ) (wide : 1 < N) (known : k < K) where
       P : ℕ
       P = q * length (before A′ (keep (λ B. not (has k B)) (sets K (suc b))))
 
-      ones′ : ones A′ ≡ suc b
-      ones′ = omega (arith, ones-drop A k g, many)
+      onesIn′ : onesIn A′ ≡ suc b
+      onesIn′ = omega (arith, ones-drop A k g, many)
 
       one : (x m : ℕ) → getD (getD (ofSet A (join k x (sideRows N K k b m))) r []) k none ≡ some (x + P + r)
       one x m =
           ap (λ s. getD (getD (ofSet A (join k x s)) r []) k none) (side-is N K k wide known b m)
           ∙ join-of-set K k (suc b) known A x q r (starts N K k wide known b m) (starts-length N K k wide known b m) (lone-lacks N K k wide known b)
-          (omega (arith, lone-once N K k wide known b A′ (length-set A k false ∙ long) ones′ (has-drop A k))) g hr
+          (omega (arith, lone-once N K k wide known b A′ (length-set A k false ∙ long) onesIn′ (has-drop A k))) g hr
 
       size : (x m : ℕ) → m < N → length (ofSet A (join k x (sideRows N K k b m))) ≡ q
       size x m h =
           sym (length-map (ofSet A (join k x (sideRows N K k b m))) (λ s. set s k none))
           ∙ ap length (join-keep A K k (suc b) x g known (side-lacks N K k wide known b m) ∙ sym (without-k N K k wide known b m A′ (has-drop A k)))
-          ∙ group-length N K k wide known b m A′ h (length-set A k false ∙ long) ones′
+          ∙ group-length N K k wide known b m A′ h (length-set A k false ∙ long) onesIn′
 
       more : (x m : ℕ) (ms : List ℕ)
           → ofSet A (join k x (sideRows N K k b m ++ flatMap (sideRows N K k b) ms)) ≡ ofSet A (join k x (sideRows N K k b m)) ++ ofSet A (join k (x + length (sideRows N K k b m)) (flatMap (sideRows N K k b) ms))
@@ -229,7 +229,7 @@ module _ (N K k : ℕ) (wide : 1 < N) (known : k < K) where
           ∙ ap some (omega (arith, side-length N K k wide known b m, suc-mul i S))
 
   -- in the first block, server n's one row of k alone has place n
-  pub wanted-first : (n : ℕ) (A : List Bool) → n < N → length A ≡ K → ones A ≡ 1 → has k A ≡ true → getD (getD (ofSet A (block N K k 0 n)) 0 []) k none ≡ some n
+  pub wanted-first : (n : ℕ) (A : List Bool) → n < N → length A ≡ K → onesIn A ≡ 1 → has k A ≡ true → getD (getD (ofSet A (block N K k 0 n)) 0 []) k none ≡ some n
   unfolding wantedRows sources ofSet keep keepIf join used joins sum range
   wanted-first n A l long many g = ap (λ s. getD (getD s 0 []) k none) (with-k N K k wide known 0 n A g) ∙ go (same A row) size
     where

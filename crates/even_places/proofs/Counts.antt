@@ -16,22 +16,22 @@ use Rattle.lists.proofs.Sums.{sum-append, sum-add, sum-mul, sum-ext, sum-one, s
 use Rattle.lists.proofs.Each.{All-append, All-map, All-imp, All-flatMap, All-every, All-replicate, All-keep}
 use Rattle.lists.proofs.Bits.{bit-either}
 use Rattle.lists.proofs.Replicate.{getD-replicate-same}
-use Rattle.even_places.specs.Sets.{has, sets, with, ones}
+use Rattle.even_places.specs.Sets.{has, sets, with, onesIn}
 use Rattle.even_places.specs.Rule.{Row, isSome, number, bySet, others, block, used, sideSets, sideRows, sources, joins, wantedRows, rows, rowCount}
 use Rattle.even_places.proofs.Choose.{tail, gen-tail, gen-one, none-not, swap-has}
 use Rattle.even_places.proofs.Rows.{somes, Lacks, SetLacks, Fits, number-lacks, number-length, join-sum, join-fits, others-sum}
 use Rattle.even_places.proofs.BySet.{bySet-sum}
 
 -- every set of `sets K b` has b of K messages
-pub sets-fit : (K b : ℕ) → All (λ A. (length A ≡ K) × (ones A ≡ b)) (sets K b)
-unfolding sets ones sum bit
+pub sets-fit : (K b : ℕ) → All (λ A. (length A ≡ K) × (onesIn A ≡ b)) (sets K b)
+unfolding sets onesIn sum bit
 sets-fit zero zero = allCons (refl, refl) allNil
 sets-fit zero (suc b) = allNil
-sets-fit (suc K) zero = All-map (λ A. false ∷ A) (All-imp (λ A h. (ap suc (h .0), zero-add (ones A) ∙ h .1)) (sets-fit K zero))
+sets-fit (suc K) zero = All-map (λ A. false ∷ A) (All-imp (λ A h. (ap suc (h .0), zero-add (onesIn A) ∙ h .1)) (sets-fit K zero))
 sets-fit (suc K) (suc b) =
     All-append
     (All-map (λ A. true ∷ A) (All-imp (λ A h. (ap suc (h .0), omega (arith, h .1))) (sets-fit K b)))
-    (All-map (λ A. false ∷ A) (All-imp (λ A h. (ap suc (h .0), zero-add (ones A) ∙ h .1)) (sets-fit K (suc b))))
+    (All-map (λ A. false ∷ A) (All-imp (λ A h. (ap suc (h .0), zero-add (onesIn A) ∙ h .1)) (sets-fit K (suc b))))
 
 pub up : (n : ℕ) → 0 < n → suc (n - 1) ≡ n
 up n h = omega arith

@@ -26,7 +26,7 @@ use Rattle.lists.proofs.Each.{All-at, All-get, All-both, All-imp, All-flatMap, 
 use Rattle.lists.proofs.Pairs.{under-cons, under-all}
 use Rattle.lists.proofs.Sums.{sum-append, sum-all, sum-one, sum-flatMap, sum-swap, sum-range, sum-same, sum-map, sum-at}
 use Rattle.even_places.specs.Rule.{Row, isSome, same, ofSet, bySet, block, rows, cells, queryCells}
-use Rattle.even_places.specs.Sets.{sets, ones}
+use Rattle.even_places.specs.Sets.{sets, onesIn}
 use Rattle.even_places.proofs.Rows.{below, below-lt, below-ge, is, hit, gives}
 use Rattle.even_places.proofs.Counts.{block-fits}
 use Rattle.even_places.proofs.Totals.{other-once, other-many, wanted-apart, wanted-many}
@@ -66,7 +66,7 @@ cells-messages (none ∷ r) q = All-imp (λ cell h. omega (arith, h)) (cells-mes
 cells-messages (some x ∷ r) q = allCons {x = (q, x)} (omega arith) (All-imp (λ cell h. omega (arith, h)) (cells-messages r (suc q)))
 
 cells-given : (r : Row) (q : ℕ) → length (cells q r) ≡ sum (λ p. gives p r) (range 0 (length r))
-unfolding ones setOf gives
+unfolding onesIn setOf gives
 cells-given r q = cells-length q r ∙ sum-map bit isSome r ∙ sum-at (λ x. bit (isSome x)) none r
 
 places-times : (p v : ℕ) (rs : List Row) → times v (placesOf p rs) ≡ sum (hit p v) rs

@@ -15,7 +15,7 @@ use Rattle.lists.proofs.Joined.{flatMap-all, map-flatMap}
 use Rattle.lists.proofs.Sums.{sum-append, sum-mul, sum-ext, sum-all, sum-flatMap, sum-same}
 use Rattle.lists.proofs.Each.{All-imp}
 use Rattle.lists.proofs.Bits.{bit-either}
-use Rattle.even_places.specs.Sets.{has, sets, ones, alike}
+use Rattle.even_places.specs.Sets.{has, sets, onesIn, alike}
 use Rattle.even_places.specs.Rule.{isSome, same, bySet, ofSet, others, block, used, sideRows, sources, joins, wantedRows, rows, layout}
 use Rattle.even_places.proofs.Rows.{join-sum, others-sum}
 use Rattle.even_places.proofs.SetLaws.{setOf, same-alike, alike-one, alike-carry, alike-join, ones-drop, setOf-set, number-sets, keep-sets, same-not, join-keep, join-have, has-drop}
@@ -62,7 +62,7 @@ module _ (N K k : ℕ) (wide : 1 < N) (known : k < K) where
       up = omega arith
 
   -- every server has (N - 1)^b rows of each set of block b
-  pub group-size : (b n : ℕ) (A : List Bool) → n < N → length A ≡ K → ones A ≡ suc b → sum (λ r. bit (same A r)) (block N K k b n) ≡ (N - 1) ^ b
+  pub group-size : (b n : ℕ) (A : List Bool) → n < N → length A ≡ K → onesIn A ≡ suc b → sum (λ r. bit (same A r)) (block N K k b n) ≡ (N - 1) ^ b
   unfolding block wantedRows bit
   group-size b n A l long many =
       sum-append (λ r. bit (same A r)) (sideRows N K k b n) (wantedRows N K k b n)

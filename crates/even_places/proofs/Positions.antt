@@ -17,7 +17,7 @@ use Rattle.lists.proofs.Joined.{map-flatMap, flatMap-map, flatMap-at}
 use Rattle.lists.proofs.Keep.{keep-all, keep-append}
 use Rattle.lists.proofs.Ranges.{range-length, range-at, range-around, All-from, All-range}
 use Rattle.lists.proofs.Each.{All-imp, All-keep}
-use Rattle.even_places.specs.Sets.{has, ones, members}
+use Rattle.even_places.specs.Sets.{has, onesIn, members}
 use Rattle.even_places.specs.Rule.{Row, isSome, same, ofSet, others, block, rows, cells, queryCells, layout, positions}
 use Rattle.even_places.proofs.SetLaws.{setOf, keep-sets, ones-drop}
 use Rattle.even_places.proofs.Joined.{same-layout, group-size, joined}
@@ -80,7 +80,7 @@ unfolding others
 others-below N n = All-imp (λ m h. h .0) (All-keep (λ m. not (eqb m n)) (All-range N (λ m h. h)))
 
 module _ (N K k : ℕ) (wide : 1 < N) (known : k < K) where
-  pub group-length : (b n : ℕ) (A : List Bool) → n < N → length A ≡ K → ones A ≡ suc b → length (ofSet A (block N K k b n)) ≡ (N - 1) ^ b
+  pub group-length : (b n : ℕ) (A : List Bool) → n < N → length A ≡ K → onesIn A ≡ suc b → length (ofSet A (block N K k b n)) ≡ (N - 1) ^ b
   group-length b n A l long many =
       sym (length-map (ofSet A (block N K k b n)) setOf)
       ∙ ap length (keep-sets A (block N K k b n))
@@ -88,7 +88,7 @@ module _ (N K k : ℕ) (wide : 1 < N) (known : k < K) where
       ∙ group-size N K k wide known b n A l long many
 
   -- by number: of server n's rows of a set with k, number j (N-1)^b + r is joined from row r of the set without k at the j-th other server
-  pub joined-at : (b n j r : ℕ) (A : List Bool) → n < N → has k A ≡ true → length A ≡ K → ones A ≡ suc (suc b) → j < N - 1 → r < (N - 1) ^ b
+  pub joined-at : (b n j r : ℕ) (A : List Bool) → n < N → has k A ≡ true → length A ≡ K → onesIn A ≡ suc (suc b) → j < N - 1 → r < (N - 1) ^ b
       → set (getD (ofSet A (block N K k (suc b) n)) (j * (N - 1) ^ b + r) []) k none ≡ getD (ofSet (set A k false) (block N K k b (getD (others N n) j 0))) r []
   joined-at b n j r A l e long many hj hr =
       sym (List·getD-map (λ s. set s k none) (ofSet A (block N K k (suc b) n)) (j * (N - 1) ^ b + r) [])

@@ -18,7 +18,7 @@ use Rattle.lists.proofs.Mapped.{mapped-at}
 use Rattle.lists.proofs.Each.{All-imp}
 use Rattle.lists.proofs.Ranges.{All-range}
 use Rattle.lists.proofs.Sums.{sum-all, sum-zero}
-use Rattle.even_places.specs.Process.{Made, idle, madeBy, rowsMade, afters, joinedFrom, turn, turned, turns, turnsDone, blocks, process}
+use Rattle.even_places.specs.Process.{TurnRows, idle, madeBy, rowsMade, afters, joinedFrom, turn, turned, turns, turnsDone, blocks, process}
 use Rattle.even_places.specs.Rule.{Row, give, next, after, number, join, used, sideSets, sideRows, sources, joins, wantedRows, bySet, block, rows}
 use Rattle.even_places.specs.Sets.{has, with, sets}
 use Rattle.even_places.proofs.Rows.{SetLacks, next-at, after-at, after-length, next-length, afters-length, afters-at}
@@ -57,7 +57,7 @@ module _ (K k b : ℕ) where
 
 module _ (N K k : ℕ) (wide : 1 < N) (known : k < K) where
   -- what the rule gives server n in block b
-  ruled : ℕ → ℕ → Made
+  ruled : ℕ → ℕ → TurnRows
   ruled b n = record { side = sideRows N K k b n; wanted = wantedRows N K k b n }
 
   -- c has the next places at server n's turn in block b
@@ -67,18 +67,18 @@ module _ (N K k : ℕ) (wide : 1 < N) (known : k < K) where
     own : getD c k 0 ≡ used N (joins N K k) b n
 
   -- `before` is what the rule gives in the block before
-  Earlier : ℕ → List Made → Type 0
+  Earlier : ℕ → List TurnRows → Type 0
   Earlier zero before = Unit {0}
   Earlier (suc b) before = before ≡ map (ruled b) (range 0 N)
 
-  joined-from : (b n : ℕ) (before : List Made) → Earlier b before → n < N → joinedFrom N K k b before n ≡ sources N K k b n
+  joined-from : (b n : ℕ) (before : List TurnRows) → Earlier b before → n < N → joinedFrom N K k b before n ≡ sources N K k b n
   unfolding joinedFrom sources Earlier ruled
   joined-from zero n before e l = refl
   joined-from (suc b) n before e l =
       flatMap-all (λ m. getD before m idle .side) (sideRows N K k b)
       (All-imp (λ m h. ap (λ made. getD made m idle .side) e ∙ ap (λ made. made .side) (mapped-at (ruled b) idle N m h)) (others-below N n))
 
-  module _ (b n : ℕ) (before : List Made) (c : List ℕ) (earlier : Earlier b before) (there : n < N) (r : Ready b n c) where
+  module _ (b n : ℕ) (before : List TurnRows) (c : List ℕ) (earlier : Earlier b before) (there : n < N) (r : Ready b n c) where
     lacks : All (λ A. length A ≡ K) (sideSets N K k b)
     lacks = All-imp (λ A l. l .long) (sideSets-lack N K k wide known b)
 
@@ -97,7 +97,7 @@ module _ (N K k : ℕ) (wide : 1 < N) (known : k < K) where
         ∙ ap (λ x. made (sideRows N K k b n) (join k x (joinedFrom N K k b before n))) own-after
         ∙ ap (λ rs. made (sideRows N K k b n) (join k (used N (joins N K k) b n) rs)) (joined-from b n before earlier there)
       where
-        made : List Row → List Row → Made
+        made : List Row → List Row → TurnRows
         made s w = record { side = s; wanted = w }
 
         side-same : number c (sideSets N K k b) ≡ sideRows N K k b n
@@ -130,7 +130,7 @@ module _ (N K k : ℕ) (wide : 1 < N) (known : k < K) where
         done-long = afters-length K c (r .long) lacks
 
   -- the turns of the servers from n on
-  turns-are : (b n count : ℕ) (before : List Made) (c : List ℕ) → Earlier b before → n + count ≡ N → Ready b n c
+  turns-are : (b n count : ℕ) (before : List TurnRows) (c : List ℕ) → Earlier b before → n + count ≡ N → Ready b n c
       → (turns N K k b before n count c ≡ map (ruled b) (range n count)) × Ready b N (turnsDone N K k b before n count c)
   unfolding turns turnsDone range
   turns-are b n zero before c earlier e r = (refl, subst (λ (m : ℕ). Ready b m c) (sym (add-zero n) ∙ e) r)
@@ -148,7 +148,7 @@ module _ (N K k : ℕ) (wide : 1 < N) (known : k < K) where
         own = r .own ∙ sym (used-over N (joins N K k) b);
       }
 
-  blocks-are : (b count : ℕ) (before : List Made) (c : List ℕ) → Earlier b before → Ready b 0 c
+  blocks-are : (b count : ℕ) (before : List TurnRows) (c : List ℕ) → Earlier b before → Ready b 0 c
       → blocks N K k b count before c ≡ map (λ j. map (ruled j) (range 0 N)) (range b count)
   unfolding blocks range Earlier
   blocks-are b zero before c earlier r = refl
@@ -173,11 +173,11 @@ module _ (N K k : ℕ) (wide : 1 < N) (known : k < K) where
   -- a query lists what the process made for its server
   pub rows-made : (n : ℕ) → n < N → rows N K k n ≡ rowsMade N K k n
   unfolding rows block rowsMade
-  rows-made n there = flatMap-all _ _ (All-range K (λ b h. ap (λ (made : Made). bySet (sets K (suc b)) (made .side ++ made .wanted)) (sym (made-at b h))))
+  rows-made n there = flatMap-all _ _ (All-range K (λ b h. ap (λ (made : TurnRows). bySet (sets K (suc b)) (made .side ++ made .wanted)) (sym (made-at b h))))
     where
       made-at : (b : ℕ) → b < K → madeBy N K k b n ≡ record { side = sideRows N K k b n; wanted = wantedRows N K k b n }
       made-at b h =
-          ap (λ (all : List (List Made)). getD (getD all b []) n idle) process-is
-          ∙ ap (λ (all : List Made). getD all n idle)
+          ap (λ (all : List (List TurnRows)). getD (getD all b []) n idle) process-is
+          ∙ ap (λ (all : List TurnRows). getD all n idle)
           (mapped-at (λ b. map (λ n. record { side = sideRows N K k b n; wanted = wantedRows N K k b n }) (range 0 N)) [] K b h)
           ∙ mapped-at (λ n. record { side = sideRows N K k b n; wanted = wantedRows N K k b n }) idle N n there

@@ -18,7 +18,7 @@ use Rattle.lists.proofs.Keep.{keep-all, keep-map, keep-append, keep-nothing, ke
 use Rattle.lists.proofs.Joined.{flatMap-nothing, flatMap-append}
 use Rattle.lists.proofs.Mapped.{map-append}
 use Rattle.lists.proofs.Ranges.{range-around, All-from}
-use Rattle.even_places.specs.Sets.{has, ones, sets, allSets, alike}
+use Rattle.even_places.specs.Sets.{has, onesIn, sets, allSets, alike}
 use Rattle.even_places.proofs.SetLaws.{alike-self}
 use Rattle.even_places.proofs.Counts.{sets-fit, sets-zero, has-none}
 use Rattle.even_places.proofs.Closed.{before, beforeIf}
@@ -92,7 +92,7 @@ taken-out (suc K) (suc k) b h = out (sets K b) (sets K (suc b)) ∙ go b (λ c. 
 
 -- ---- The sets of one block among all sets
 
-pub of-block : (K b : ℕ) → b < K → keep (λ A. eqb (suc b) (ones A)) (allSets K) ≡ sets K (suc b)
+pub of-block : (K b : ℕ) → b < K → keep (λ A. eqb (suc b) (onesIn A)) (allSets K) ≡ sets K (suc b)
 unfolding allSets flatMap range
 of-block K b h =
     keep-flatMap t (λ j. sets K (suc j)) (range 0 K)
@@ -102,7 +102,7 @@ of-block K b h =
     (keep-all t (All-imp (λ A f. ap (eqb (suc b)) (f .1) ∙ eq-eqb (suc b) (suc b) refl) (sets-fit K (suc b))))
   where
     t : List Bool → Bool
-    t A = eqb (suc b) (ones A)
+    t A = eqb (suc b) (onesIn A)
 
     g : ℕ → List (List Bool)
     g j = keep t (sets K (suc j))

@@ -14,7 +14,7 @@ use Rattle.lists.specs.Sums.{bit, sum, All, allNil, allCons}
 use Rattle.lists.specs.Ranges.{range}
 use Rattle.lists.proofs.Sums.{sum-keep, sum-next}
 use Rattle.lists.proofs.Bits.{bit-step}
-use Rattle.even_places.specs.Sets.{has, with, ones}
+use Rattle.even_places.specs.Sets.{has, with, onesIn}
 use Rattle.even_places.specs.Process.{afters}
 use Rattle.even_places.specs.Rule.{Row, isSome, give, next, after, number, join, others}
 
@@ -84,8 +84,8 @@ unfolding give isSome
 give-some true x = refl
 give-some false x = refl
 
-next-somes : (A : List Bool) (c : List ℕ) → length A ≡ length c → somes (next A c) ≡ ones A
-unfolding next somes ones sum
+next-somes : (A : List Bool) (c : List ℕ) → length A ≡ length c → somes (next A c) ≡ onesIn A
+unfolding next somes onesIn sum
 next-somes [] c e = refl
 next-somes (a ∷ A) [] e = absurd (omega arith)
 next-somes (a ∷ A) (x ∷ c) e = omega (arith, ap bit (give-some a x), next-somes A c (omega arith))
@@ -98,7 +98,7 @@ pub record Lacks (K k b : ℕ) (r : Row) : Type 0 where
 
 pub record SetLacks (K k b : ℕ) (A : List Bool) : Type 0 where
   pub long : length A ≡ K
-  pub many : ones A ≡ b
+  pub many : onesIn A ≡ b
   pub lack : has k A ≡ false
 
 pub number-lacks : (K k b : ℕ) (c : List ℕ) {L : List (List Bool)} → length c ≡ K → All (SetLacks K k b) L → All (Lacks K k b) (number c L)

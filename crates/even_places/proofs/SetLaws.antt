@@ -13,7 +13,7 @@ use lib.ListN.{length, getD, set, replicate}
 use lib.Seq.{getD-set-same, getD-set-other, set-set, set-getD}
 use Rattle.lists.specs.Sums.{bit, keep, keepIf, sum, All, allNil, allCons}
 use Rattle.lists.proofs.Sums.{sum-zero}
-use Rattle.even_places.specs.Sets.{has, sets, ones, alike}
+use Rattle.even_places.specs.Sets.{has, sets, onesIn, alike}
 use Rattle.even_places.specs.Rule.{Row, isSome, same, give, next, after, number, join, ofSet, cells}
 use Rattle.even_places.proofs.Choose.{sets-none, sets-some}
 use Rattle.even_places.proofs.Rows.{after-length, Lacks}
@@ -46,20 +46,20 @@ alike-self (true ∷ A) = alike-self A
 alike-self (false ∷ A) = alike-self A
 
 -- a set stands once among the sets of its size
-alike-once : (A : List Bool) → sum (λ B. bit (alike A B)) (sets (length A) (ones A)) ≡ 1
-unfolding ones sum bit sets alike
+alike-once : (A : List Bool) → sum (λ B. bit (alike A B)) (sets (length A) (onesIn A)) ≡ 1
+unfolding onesIn sum bit sets alike
 alike-once [] = refl
-alike-once (false ∷ A) = rw (zero-add (ones A)) (go (ones A) (alike-once A))
+alike-once (false ∷ A) = rw (zero-add (onesIn A)) (go (onesIn A) (alike-once A))
   where
     go : (b : ℕ) → sum (λ B. bit (alike A B)) (sets (length A) b) ≡ 1 → sum (λ B. bit (alike (false ∷ A) B)) (sets (suc (length A)) b) ≡ 1
     go zero e = sets-none (λ B. bit (alike (false ∷ A) B)) (length A) ∙ e
     go (suc b) e = sets-some (λ B. bit (alike (false ∷ A) B)) (length A) b ∙ omega (arith, e, sum-zero (sets (length A) b))
 alike-once (true ∷ A) =
-    ap (λ b. sum (λ B. bit (alike (true ∷ A) B)) (sets (suc (length A)) b)) (add-comm 1 (ones A) ∙ add-one (ones A))
-    ∙ sets-some (λ B. bit (alike (true ∷ A) B)) (length A) (ones A)
-    ∙ omega (arith, alike-once A, sum-zero (sets (length A) (suc (ones A))))
+    ap (λ b. sum (λ B. bit (alike (true ∷ A) B)) (sets (suc (length A)) b)) (add-comm 1 (onesIn A) ∙ add-one (onesIn A))
+    ∙ sets-some (λ B. bit (alike (true ∷ A) B)) (length A) (onesIn A)
+    ∙ omega (arith, alike-once A, sum-zero (sets (length A) (suc (onesIn A))))
 
-pub alike-one : (A : List Bool) (K b : ℕ) → length A ≡ K → ones A ≡ b → sum (λ B. bit (alike A B)) (sets K b) ≡ 1
+pub alike-one : (A : List Bool) (K b : ℕ) → length A ≡ K → onesIn A ≡ b → sum (λ B. bit (alike A B)) (sets K b) ≡ 1
 alike-one A K b p q = subst (λ (j : ℕ). sum (λ B. bit (alike A B)) (sets j b) ≡ 1) p (subst (λ (j : ℕ). sum (λ B. bit (alike A B)) (sets (length A) j) ≡ 1) q (alike-once A))
 
 pub alike-carry : (f : List Bool → ℕ) (A B : List Bool) → f B * bit (alike A B) ≡ f A * bit (alike A B)
@@ -86,22 +86,22 @@ alike-join (a ∷ A) (b ∷ B) (suc k) e h = go (Bool·beq a b) (alike-join A B 
     go true ih = ih
     go false ih = mul-zero (bit (not (has k B))) ∙ sym (mul-zero (bit (has k A)))
 
-pub ones-drop : (A : List Bool) (k : ℕ) → has k A ≡ true → suc (ones (set A k false)) ≡ ones A
-unfolding has ones sum bit
+pub ones-drop : (A : List Bool) (k : ℕ) → has k A ≡ true → suc (onesIn (set A k false)) ≡ onesIn A
+unfolding has onesIn sum bit
 ones-drop [] k e = absurd (false≢true e)
 ones-drop (true ∷ A) zero e = omega arith
 ones-drop (false ∷ A) zero e = absurd (false≢true e)
 ones-drop (a ∷ A) (suc k) e = omega (arith, ones-drop A k e)
 
 -- a set of one message has no other
-has-empty : (A : List Bool) (p : ℕ) → ones A ≡ 0 → has p A ≡ false
-unfolding ones has sum bit
+has-empty : (A : List Bool) (p : ℕ) → onesIn A ≡ 0 → has p A ≡ false
+unfolding onesIn has sum bit
 has-empty [] p e = refl
 has-empty (true ∷ A) p e = absurd (omega arith)
 has-empty (false ∷ A) zero e = refl
 has-empty (false ∷ A) (suc p) e = has-empty A p (omega arith)
 
-pub has-lone : (A : List Bool) (k p : ℕ) → ones A ≡ 1 → has k A ≡ true → p ≢ k → has p A ≡ false
+pub has-lone : (A : List Bool) (k p : ℕ) → onesIn A ≡ 1 → has k A ≡ true → p ≢ k → has p A ≡ false
 unfolding has
 has-lone A k p many e d = sym (getD-set-other A k p false false d) ∙ has-empty (set A k false) p (omega (arith, ones-drop A k e))
 
@@ -126,8 +126,8 @@ setOf-has (y ∷ r) zero = refl
 setOf-has (y ∷ r) (suc k) = setOf-has r k
 
 -- a row has a cell for each message of its set
-pub cells-length : (q : ℕ) (r : Row) → length (cells q r) ≡ ones (setOf r)
-unfolding cells setOf isSome ones sum bit
+pub cells-length : (q : ℕ) (r : Row) → length (cells q r) ≡ onesIn (setOf r)
+unfolding cells setOf isSome onesIn sum bit
 cells-length q [] = refl
 cells-length q (none ∷ r) = omega (arith, cells-length (suc q) r)
 cells-length q (some x ∷ r) = omega (arith, cells-length (suc q) r)

@@ -11,8 +11,8 @@ unfoldable pub has : ℕ → List Bool → Bool
 has p A = getD A p false
 
 -- how many messages are in it: its block, counted from 1
-unfoldable pub ones : List Bool → ℕ
-ones A = sum bit A
+unfoldable pub onesIn : List Bool → ℕ
+onesIn A = sum bit A
 
 -- its messages, ascending, where the first element is message q's
 unfoldable pub members : ℕ → List Bool → List ℕ

@@ -16,7 +16,7 @@ ghost use Rattle.even_scheme.specs.Even.{evenQuery};
 ghost use Rattle.even_layout.specs.Layout.{setIn};
 ghost use Rattle.even_ranks.specs.Counts.{Stands, noCounts};
 ghost use Rattle.even_ranks.specs.Walk.{placeIn, placeOf, setPlaces, setsPlaces};
-ghost use Rattle.even_query.specs.Query.{Asks, Tables, Within, Keyed, entries};
+ghost use Rattle.even_query.specs.Query.{Asks, Tables, OriginWithin, Keyed, entries};
 
 // The place of message p in a row of one block, by whose turn it is, its set's rank and its number in the set.
 fn place_in(
@@ -49,7 +49,7 @@ fn place(
     o: Origin,
     p: usize,
 ) -> usize
-    requires { ⌜ Tables n wanted (now totals) (now taken) × Within o × (p < 8) × (p < length (now ranks)) × (placeOf n wanted (now totals) (now ranks) o p < 256) ⌝ }
+    requires { ⌜ Tables n wanted (now totals) (now taken) × OriginWithin o × (p < 8) × (p < length (now ranks)) × (placeOf n wanted (now totals) (now ranks) o p < 256) ⌝ }
     ensures { λ r. ⌜ r ≡ placeOf n wanted (now (totals .entry)) (now (ranks .entry)) o p ⌝ }
 {
     if p == wanted {
@@ -93,7 +93,7 @@ fn write_row(
     out: &mut [u8],
     at: usize,
 ) -> usize
-    requires { ⌜ Tables n wanted (now totals) (now taken) × Within o × (k ≤ 8) × (length (now ranks) ≡ k) × Below 256 (map (placeOf n wanted (now totals) (now ranks) o) (members 0 (setIn k set))) × (at + length (members 0 (setIn k set)) ≤ length (now out)) ⌝ }
+    requires { ⌜ Tables n wanted (now totals) (now taken) × OriginWithin o × (k ≤ 8) × (length (now ranks) ≡ k) × Below 256 (map (placeOf n wanted (now totals) (now ranks) o) (members 0 (setIn k set))) × (at + length (members 0 (setIn k set)) ≤ length (now out)) ⌝ }
     ensures { λ r. ⌜ (r ≡ at + length (members 0 (setIn k set))) × (now (out .exit) ≡ put at (map (placeOf n wanted (now (totals .entry)) (now (ranks .entry)) o) (members 0 (setIn k set))) (now (out .entry))) ⌝ }
 {
     let mut rest = set;

@@ -15,7 +15,7 @@ use Rattle.lists.proofs.Sums.{sum-append, sum-map, sum-ext, sum-all, sum-one, s
 use Rattle.lists.proofs.Each.{All-imp, All-keep, All-every}
 use Rattle.lists.proofs.Keep.{keep-and, keep-append}
 use Rattle.lists.proofs.Mapped.{map-append}
-use Rattle.even_places.specs.Sets.{has, ones, with, sets, allSets, alike}
+use Rattle.even_places.specs.Sets.{has, onesIn, with, sets, allSets, alike}
 use Rattle.even_places.specs.Rule.{sideSets, joins}
 use Rattle.even_places.proofs.SetLaws.{alike-one, ones-drop}
 use Rattle.even_places.proofs.Counts.{sets-zero, has-none, sideSets-sum}
@@ -39,7 +39,7 @@ module _ (K k : ℕ) (wanted : k < K) where
   of-kind : (t : Bool) (b : ℕ) → b < K → keep (ofKind k t b) (allSets K) ≡ keep (λ A. Bool·beq t (has k A)) (sets K (suc b))
   unfolding ofKind
   of-kind t b h =
-      keep-and (λ A. Bool·beq t (has k A)) (λ A. eqb (suc b) (ones A)) (allSets K) ∙ ap (keep (λ A. Bool·beq t (has k A))) (of-block K b h)
+      keep-and (λ A. Bool·beq t (has k A)) (λ A. eqb (suc b) (onesIn A)) (allSets K) ∙ ap (keep (λ A. Bool·beq t (has k A))) (of-block K b h)
 
   -- the sets of block b without k, and with it
   without : (b : ℕ) → b < K → keep (ofKind k false b) (allSets K) ≡ keep (λ A. not (has k A)) (sets K (suc b))
@@ -56,7 +56,7 @@ module _ (K k : ℕ) (wanted : k < K) where
   pub with-wanted : (b : ℕ) (D : List (List Bool)) → with k (keep (ofKind k true b) D) ≡ length (keep (ofKind k true b) D)
   unfolding with ofKind bit
   with-wanted b D =
-      sum-all (λ A. bit (has k A)) (λ A. 1) (All-imp (λ A h. ap bit (first (has k A) (eqb (suc b) (ones A)) (h .1))) (All-keep (ofKind k true b) (All-every {P = λ A. Unit} (λ A. tt) D)))
+      sum-all (λ A. bit (has k A)) (λ A. 1) (All-imp (λ A h. ap bit (first (has k A) (eqb (suc b) (onesIn A)) (h .1))) (All-keep (ofKind k true b) (All-every {P = λ A. Unit} (λ A. tt) D)))
       ∙ sum-one (keep (ofKind k true b) D)
     where
       first : (t u : Bool) → Bool·beq true t && u ≡ true → t ≡ true
@@ -75,7 +75,7 @@ module _ (K k : ℕ) (wanted : k < K) where
       ap length (sym (reduced b h)) ∙ length-map (keep (ofKind k true b) (allSets K)) (λ A. set A k false) ∙ sym (with-wanted b (allSets K))
 
   -- A stands among all sets, after those of D
-  module _ (D L : List (List Bool)) (A : List Bool) (split : D ++ A ∷ L ≡ allSets K) (b : ℕ) (low : b < K) (long : length A ≡ K) (many : ones A ≡ suc b) where
+  module _ (D L : List (List Bool)) (A : List Bool) (split : D ++ A ∷ L ≡ allSets K) (b : ℕ) (low : b < K) (long : length A ≡ K) (many : onesIn A ≡ suc b) where
     parted : (t : Bool) → has k A ≡ t → keep (ofKind k t b) (allSets K) ≡ keep (ofKind k t b) D ++ A ∷ keep (ofKind k t b) L
     unfolding keep keepIf ofKind
     parted t e =
@@ -84,7 +84,7 @@ module _ (K k : ℕ) (wanted : k < K) where
         ∙ ap (λ u. keep (ofKind k t b) D ++ keepIf u A (keep (ofKind k t b) L)) is-kind
       where
         is-kind : ofKind k t b A ≡ true
-        is-kind = rw (e, beq-self t) (eq-eqb (suc b) (ones A) (sym many))
+        is-kind = rw (e, beq-self t) (eq-eqb (suc b) (onesIn A) (sym many))
 
     pub rank-side : has k A ≡ false → before A (keep (λ B. not (has k B)) (sets K (suc b))) ≡ keep (ofKind k false b) D
     rank-side e = ap (before A) here ∙ before-seam A (keep (ofKind k false b) D) (keep (ofKind k false b) L) once

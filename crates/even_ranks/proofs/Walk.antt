@@ -15,7 +15,7 @@ use Rattle.lists.specs.Sums.{bit, sum, All}
 use Rattle.lists.proofs.Each.{All-imp, All-back, All-head}
 use Rattle.lists.proofs.Joined.{flatMap-flatMap, map-flatMap, flatMap-all}
 use Rattle.lists.proofs.Mapped.{map-append}
-use Rattle.even_places.specs.Sets.{has, ones, members, sets, allSets}
+use Rattle.even_places.specs.Sets.{has, onesIn, members, sets, allSets}
 use Rattle.even_places.specs.Rule.{Row, isSome, same, ofSet, bySet, block, rows, cells, queryCells}
 use Rattle.even_places.proofs.SetLaws.{setOf, keep-sets}
 use Rattle.even_places.proofs.Counts.{sets-fit}
@@ -23,7 +23,7 @@ use Rattle.even_places.proofs.Flat.{inside}
 use Rattle.even_places.proofs.Joined.{group-size}
 use Rattle.even_places.proofs.Positions.{group-length}
 use Rattle.even_places.proofs.AllSets.{IsSet, all-sets}
-use Rattle.even_ranks.specs.Counts.{noCounts, countersOf, counted, countedAll, totalsOf}
+use Rattle.even_ranks.specs.Counts.{noCounts, countersOf, setCounted, countedAll, totalsOf}
 use Rattle.even_ranks.specs.Walk.{placeOf, originOf, rowPlaces, setPlaces, setsPlaces, walked}
 use Rattle.even_ranks.proofs.Cells.{cell-is}
 
@@ -57,27 +57,27 @@ has-low A p g = go (decLt p (length A))
     go (yes h) = h
     go (no h) = absurd (false≢true (sym (List·getD-eq-default A false (omega arith)) ∙ g))
 
-countedAll-last : (k : ℕ) (D : List (List Bool)) (A : List Bool) (counts : List ℕ) → countedAll k (D ++ A ∷ []) counts ≡ counted k A (countedAll k D counts)
+countedAll-last : (k : ℕ) (D : List (List Bool)) (A : List Bool) (counts : List ℕ) → countedAll k (D ++ A ∷ []) counts ≡ setCounted k A (countedAll k D counts)
 unfolding countedAll
 countedAll-last k [] A counts = refl
-countedAll-last k (B ∷ D) A counts = countedAll-last k D A (counted k B counts)
+countedAll-last k (B ∷ D) A counts = countedAll-last k D A (setCounted k B counts)
 
 module _ (N K k n : ℕ) (wide : 1 < N) (wanted : k < K) (few : K ≤ 8) (server : n < N) where
   -- the rows of a set
   ofOne : List Bool → List Row
-  ofOne A = ofSet A (block N K k (ones A - 1) n)
+  ofOne A = ofSet A (block N K k (onesIn A - 1) n)
 
   set-is : (D L : List (List Bool)) (A : List Bool) → D ++ A ∷ L ≡ allSets K → setPlaces N k n (totalsOf K k) (cut (countersOf k A) (length A) (countedAll k D noCounts)) A ≡ placesIn (ofOne A)
   unfolding setPlaces rowPlaces ofOne
   set-is D L A split = sym (rows-are places 0 (ofOne A) row ∙ ap (λ s. flatMap places (range 0 s)) size)
     where
       b : ℕ
-      b = ones A - 1
+      b = onesIn A - 1
 
       known : IsSet K A
       known = All-head (All-back D (A ∷ L) (subst (All (IsSet K)) (sym split) (all-sets K)))
 
-      many : ones A ≡ suc b
+      many : onesIn A ≡ suc b
       many = omega (arith, known .some)
 
       ranks : List ℕ
@@ -121,7 +121,7 @@ module _ (N K k n : ℕ) (wide : 1 < N) (wanted : k < K) (few : K ≤ 8) (server
   unfolding rows bySet allSets ofOne
   rows-by-set =
       ap (λ g. flatMap g (range 0 K))
-      (fun-ext (λ b. flatMap-all (λ A. ofSet A (block N K k b n)) ofOne (All-imp (λ A h. ap (λ j. ofSet A (block N K k j n)) (let e : b ≡ ones A - 1 = omega (arith, h .1) in e)) (sets-fit K (suc b)))))
+      (fun-ext (λ b. flatMap-all (λ A. ofSet A (block N K k b n)) ofOne (All-imp (λ A h. ap (λ j. ofSet A (block N K k j n)) (let e : b ≡ onesIn A - 1 = omega (arith, h .1) in e)) (sets-fit K (suc b)))))
       ∙ sym (flatMap-flatMap ofOne (λ b. sets K (suc b)) (range 0 K))
 
   pub walked-is : walked N K k n ≡ map (λ e. e .1) (queryCells N K k n)

@@ -18,7 +18,7 @@ use Rattle.lists.proofs.Sums.{sum-append}
 use Rattle.lists.proofs.Keep.{keep-append}
 use Rattle.symbol.specs.Xor.{xor}
 use Rattle.scheme.specs.Scheme.{answersIn}
-use Rattle.even_places.specs.Sets.{has, ones, allSets, byteOf}
+use Rattle.even_places.specs.Sets.{has, onesIn, allSets, byteOf}
 use Rattle.even_places.proofs.Bytes.{byte-ones, byte-has}
 use Rattle.even_places.proofs.ByteParts.{byte-covers}
 use Rattle.even_places.proofs.WantedCells.{cellsOf}
@@ -39,7 +39,7 @@ module _ (N K S wanted server : ℕ) (key answers : List ℕ) where
   -- the parts that one set gives, and those with the wanted message among some sets
   unfoldable pub partsOfSet : List Bool → List (ℕ × List ℕ)
   partsOfSet A =
-      map (recoveredPart xor N K S wanted key (answersIn (evenScheme xor N K S) N wanted key answers) server A) (range 0 ((N - 1) ^ (ones A - 1)))
+      map (recoveredPart xor N K S wanted key (answersIn (evenScheme xor N K S) N wanted key answers) server A) (range 0 ((N - 1) ^ (onesIn A - 1)))
 
   unfoldable pub partsOf : List (List Bool) → List (ℕ × List ℕ)
   partsOf sets = flatMap partsOfSet (keep (has wanted) sets)
@@ -93,7 +93,7 @@ module _ {N K S wanted server : ℕ} {key sets firsts answers start : List ℕ} 
 
   few-cells : cellsOf N A ≤ 2048
   unfolding cellsOf rowsOf
-  few-cells = mul-le-mul (set-is .high) (let few : ones A ≤ 8 = omega (arith, ones-most A, set-is .is .long, fetched .reads .bounds .messages-high) in few)
+  few-cells = mul-le-mul (set-is .high) (let few : onesIn A ≤ 8 = omega (arith, ones-most A, set-is .is .long, fetched .reads .bounds .messages-high) in few)
 
   cells-are : (N - 1) ^ (count (getD sets j 0) - 1) * count (getD sets j 0) ≡ cellsOf N A
   unfolding cellsOf

@@ -13,7 +13,7 @@ use Rattle.lists.proofs.Ranges.{All-range}
 use Rattle.lists.proofs.Mapped.{map-at, map-all}
 use Rattle.symbol.specs.Xor.{xor}
 use Rattle.scheme.specs.Scheme.{answersIn}
-use Rattle.even_places.specs.Sets.{ones, allSets, byteOf}
+use Rattle.even_places.specs.Sets.{onesIn, allSets, byteOf}
 use Rattle.even_places.specs.Rule.{queryCells}
 use Rattle.even_places.proofs.WantedCells.{cellsOf, WantedCell, wanted-cell}
 use Rattle.even_scheme.specs.Even.{entryAt, evenKeyGood, evenQuery, wantedPlace, recoveredPart, evenScheme}
@@ -42,19 +42,19 @@ module _ {N K S wanted server : ℕ} {firsts key query : List ℕ} (reads : Read
 
   -- the wanted message's position in row i
   abbrev position : ℕ → ℕ
-  position i = cell + (i * ones A + ones (take wanted A))
+  position i = cell + (i * onesIn A + onesIn (take wanted A))
 
   position-is : (i : ℕ) → group .cell + i * group .messages ≡ position i
   position-is i = omega (arith, cell-is reads wantedSet cell, ap (λ (m : ℕ). i * m) (messages-is reads wantedSet cell))
 
-  at-position : (i : ℕ) → i < (N - 1) ^ (ones A - 1) → WantedCell N K wanted (reads .bounds .servers-low) (reads .wanted-known) server (reads .server-known) A i (position i)
+  at-position : (i : ℕ) → i < (N - 1) ^ (onesIn A - 1) → WantedCell N K wanted (reads .bounds .servers-low) (reads .wanted-known) server (reads .server-known) A i (position i)
   at-position i h = wanted-cell N K wanted (reads .bounds .servers-low) (reads .wanted-known) server (reads .server-known) j i within (wantedSet .has-wanted) h
 
-  position-inside : (i : ℕ) → i < (N - 1) ^ (ones A - 1) → position i < length (evenQuery N K wanted server key)
+  position-inside : (i : ℕ) → i < (N - 1) ^ (onesIn A - 1) → position i < length (evenQuery N K wanted server key)
   unfolding evenQuery
   position-inside i h = rw (length-map (queryCells N K wanted server) (λ cell. entryAt N K key (cell .0) (cell .1))) (at-position i h .inside)
 
-  number-is : (i : ℕ) → i < (N - 1) ^ (ones A - 1)
+  number-is : (i : ℕ) → i < (N - 1) ^ (onesIn A - 1)
       → getD query (group .cell + i * group .messages) 0 ≡ entryAt N K key wanted (wantedPlace xor N K S wanted server A i)
   unfolding evenQuery wantedPlace
   number-is i h =
@@ -78,11 +78,11 @@ module _ {N K S wanted server : ℕ} {firsts key query : List ℕ} (reads : Read
 
   pub group-parts : (answers : List ℕ)
       → groupParts (readingOf N K S wanted server) group query answers
-      ≡ map (recoveredPart xor N K S wanted key (answersIn (evenScheme xor N K S) N wanted key answers) server A) (range 0 ((N - 1) ^ (ones A - 1)))
+      ≡ map (recoveredPart xor N K S wanted key (answersIn (evenScheme xor N K S) N wanted key answers) server A) (range 0 ((N - 1) ^ (onesIn A - 1)))
   unfolding groupParts groupPart recoveredPart
   group-parts answers =
       ap (λ (count : ℕ). map (groupPart (readingOf N K S wanted server) group query answers) (range 0 count)) (count-is reads wantedSet cell)
       ∙ map-all (groupPart (readingOf N K S wanted server) group query answers)
       (recoveredPart xor N K S wanted key (answersIn (evenScheme xor N K S) N wanted key answers) server A)
-      (All-range ((N - 1) ^ (ones A - 1)) (λ i h.
+      (All-range ((N - 1) ^ (onesIn A - 1)) (λ i h.
       ap₂ (λ (number : ℕ) (symbol : List ℕ). (number * S, symbol)) (number-is i h) (group-symbol reads wantedSet cell key answers i h)))

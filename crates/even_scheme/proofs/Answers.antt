@@ -14,7 +14,7 @@ use Rattle.parameters.specs.Measures.{evenSizes, evenRows}
 use Rattle.parameters.proofs.Bounds.{even-bounds}
 use Rattle.symbol.specs.Sum.{Sum, zeros, total, totalFrom}
 use Rattle.symbol.specs.Group.{KeepsLength}
-use Rattle.even_places.specs.Sets.{ones, members}
+use Rattle.even_places.specs.Sets.{onesIn, members}
 use Rattle.even_places.specs.Rule.{rows, layout}
 use Rattle.even_places.proofs.Counts.{rows-length}
 use Rattle.even_places.proofs.Joined.{same-layout}
@@ -61,11 +61,11 @@ module _ (sum : Sum) (N K S : ℕ) (keeps : KeepsLength (sum .plus) S) where
     unfolding rowAnswers rowAnswer
     rows-long allNil query b = sym (zero-mul S)
     rows-long (allCons {x = A} {xs = sets} h a) query b =
-        length-append (rowAnswer sum N K S store A query) (rowAnswers sum N K S store sets (drop (ones A) query))
+        length-append (rowAnswer sum N K S store A query) (rowAnswers sum N K S store sets (drop (onesIn A) query))
         ∙ omega (
           arith,
           total-long (named-long (members-below K 0 A (omega arith)) query b),
-          rows-long a (drop (ones A) query) (below-drop (N ^ K) (ones A) query b),
+          rows-long a (drop (onesIn A) query) (below-drop (N ^ K) (onesIn A) query b),
           suc-mul (length sets) S,
         )
 

@@ -20,8 +20,8 @@ abbrev pub Part : Type 0
 Part = ℕ × List ℕ
 
 -- the part lies within the first `size` bytes
-abbrev pub Within : ℕ → Part → Type 0
-Within size part = part .0 + length (part .1) ≤ size
+abbrev pub PartWithin : ℕ → Part → Type 0
+PartWithin size part = part .0 + length (part .1) ≤ size
 
 -- byte j lies in the part
 abbrev pub In : ℕ → Part → Type 0
@@ -31,7 +31,7 @@ In j part = (part .0 ≤ j) × (j < part .0 + length (part .1))
 
 module _ (part : Part) where
   -- what was written does not depend on the buffer
-  put-in : (j : ℕ) (a b : List ℕ) → Within (length a) part → Within (length b) part → In j part
+  put-in : (j : ℕ) (a b : List ℕ) → PartWithin (length a) part → PartWithin (length b) part → In j part
       → getD (put (part .0) (part .1) a) j 0 ≡ getD (put (part .0) (part .1) b) j 0
   put-in j a b ha hb (low, high) =
       at-start a
@@ -45,7 +45,7 @@ module _ (part : Part) where
       at-start l = ap (λ (i : ℕ). getD (put (part .0) (part .1) l) i 0) (let e : j ≡ part .0 + (j - part .0) = omega arith in e)
 
   -- and what lies outside the part is as it was
-  put-out : (j : ℕ) (a : List ℕ) → Within (length a) part → (In j part → ⊥) → getD (put (part .0) (part .1) a) j 0 ≡ getD a j 0
+  put-out : (j : ℕ) (a : List ℕ) → PartWithin (length a) part → (In j part → ⊥) → getD (put (part .0) (part .1) a) j 0 ≡ getD a j 0
   put-out j a h out = go (decLt j (part .0)) (decLt j (part .0 + length (part .1)))
     where
       go : Dec (j < part .0) → Dec (j < part .0 + length (part .1)) → getD (put (part .0) (part .1) a) j 0 ≡ getD a j 0
@@ -74,17 +74,17 @@ Covers size parts = (j : ℕ) → j < size → Any (In j) parts
 
 module _ (size : ℕ) where
   -- one part written, the buffer is still long enough
-  still : (part : Part) (a : List ℕ) → Within size part → size ≤ length a → size ≤ length (put (part .0) (part .1) a)
+  still : (part : Part) (a : List ℕ) → PartWithin size part → size ≤ length a → size ≤ length (put (part .0) (part .1) a)
   still part a h l = omega (arith, put-length (part .0) (part .1) a (let w : part .0 + length (part .1) ≤ length a = omega arith in w))
 
-  pub assemble-length : {parts : List Part} → All (Within size) parts → (a : List ℕ) → size ≤ length a → length (assemble parts a) ≡ length a
+  pub assemble-length : {parts : List Part} → All (PartWithin size) parts → (a : List ℕ) → size ≤ length a → length (assemble parts a) ≡ length a
   unfolding assemble
   assemble-length allNil a l = refl
   assemble-length (allCons {x = part} h hs) a l =
       assemble-length hs (put (part .0) (part .1) a) (still part a h l) ∙ put-length (part .0) (part .1) a (omega arith)
 
   -- bytes that are the same stay the same
-  assemble-same : {parts : List Part} → All (Within size) parts → (j : ℕ) (a b : List ℕ) → size ≤ length a → size ≤ length b → getD a j 0 ≡ getD b j 0
+  assemble-same : {parts : List Part} → All (PartWithin size) parts → (j : ℕ) (a b : List ℕ) → size ≤ length a → size ≤ length b → getD a j 0 ≡ getD b j 0
       → getD (assemble parts a) j 0 ≡ getD (assemble parts b) j 0
   unfolding assemble
   assemble-same allNil j a b la lb e = e
@@ -96,7 +96,7 @@ module _ (size : ℕ) where
       step (no i) = put-out part j a (omega arith) i ∙ e ∙ sym (put-out part j b (omega arith) i)
 
   -- bytes in some part become the same
-  assemble-in : {parts : List Part} → All (Within size) parts → (j : ℕ) (a b : List ℕ) → size ≤ length a → size ≤ length b → Any (In j) parts
+  assemble-in : {parts : List Part} → All (PartWithin size) parts → (j : ℕ) (a b : List ℕ) → size ≤ length a → size ≤ length b → Any (In j) parts
       → getD (assemble parts a) j 0 ≡ getD (assemble parts b) j 0
   unfolding assemble
   assemble-in (allCons {x = part} h hs) j a b la lb (anyHere i) =
@@ -105,14 +105,14 @@ module _ (size : ℕ) where
       assemble-in hs j (put (part .0) (part .1) a) (put (part .0) (part .1) b) (still part a h la) (still part b h lb) i
 
   -- bytes behind the parts stay
-  assemble-out : {parts : List Part} → All (Within size) parts → (j : ℕ) (a : List ℕ) → size ≤ length a → size ≤ j → getD (assemble parts a) j 0 ≡ getD a j 0
+  assemble-out : {parts : List Part} → All (PartWithin size) parts → (j : ℕ) (a : List ℕ) → size ≤ length a → size ≤ j → getD (assemble parts a) j 0 ≡ getD a j 0
   unfolding assemble
   assemble-out allNil j a l h = refl
   assemble-out (allCons {x = part} w ws) j a l h =
       assemble-out ws j (put (part .0) (part .1) a) (still part a w l) h ∙ put-out part j a (omega arith) (λ i. let x : ⊥ = omega (arith, i .1) in x)
 
   -- what stood in the buffer does not matter, and nothing behind the parts changes
-  pub assemble-anywhere : (parts : List Part) (fresh buffer : List ℕ) → All (Within size) parts → Covers size parts → length fresh ≡ size → size ≤ length buffer
+  pub assemble-anywhere : (parts : List Part) (fresh buffer : List ℕ) → All (PartWithin size) parts → Covers size parts → length fresh ≡ size → size ≤ length buffer
       → assemble parts buffer ≡ put 0 (assemble parts fresh) buffer
   assemble-anywhere parts fresh buffer within covers e l =
       ext-getD 0 (assemble parts buffer) (put 0 made buffer) (long ∙ sym (put-length 0 made buffer fits)) at-each
@@ -148,7 +148,7 @@ module _ (size : ℕ) where
 
 -- the part lies within the message, and is what stands there
 pub record Of (message : List ℕ) (part : Part) : Type 0 where
-  pub within : Within (length message) part
+  pub within : PartWithin (length message) part
   pub same : part .1 ≡ cut (part .0) (length (part .1)) message
 
 assemble-own : (message : List ℕ) {parts : List Part} → All (Of message) parts → assemble parts message ≡ message
@@ -166,7 +166,7 @@ assemble-message message parts parts-of covers buffer e =
     assemble-in (length message) within j buffer message (omega arith) (omega arith) (covers j (omega (arith, long)))
     ∙ ap (λ (l : List ℕ). getD l j 0) (assemble-own message parts-of))
   where
-    within : All (Within (length message)) parts
+    within : All (PartWithin (length message)) parts
     within = All-imp (λ part h. h .within) parts-of
 
     long : length (assemble parts buffer) ≡ length buffer

@@ -18,7 +18,7 @@ use Rattle.symbol.specs.Group.{AbelianGroup, Symbols, none, more}
 use Rattle.symbol.specs.Sum.{Sum, total}
 use Rattle.symbol.proofs.Totals.{total-symbol}
 use Rattle.scheme.specs.Scheme.{Valid, honestAnswers}
-use Rattle.even_places.specs.Sets.{ones, members}
+use Rattle.even_places.specs.Sets.{onesIn, members}
 use Rattle.even_places.specs.Rule.{Row, isSome, rows, cells, queryCells, layout, firstRow}
 use Rattle.even_places.proofs.Flat.{cells-messages, rows-long}
 use Rattle.even_places.proofs.Joined.{same-layout}
@@ -55,8 +55,8 @@ module _ (sum : Sum) (N K S : ℕ) (store key : List ℕ) where
       rw (map-append cellNumber (cells 0 r) (flatMap (cells 0) rs), cells-named 0 r (map cellNumber (flatMap (cells 0) rs)), rest)
       (ap (λ (l : List ℕ). rowTotal r ++ l) (rows-answered rs))
     where
-      rest : drop (ones (setOf r)) (map cellNumber (cells 0 r) ++ map cellNumber (flatMap (cells 0) rs)) ≡ map cellNumber (flatMap (cells 0) rs)
-      rest = drop-at (map cellNumber (cells 0 r)) (map cellNumber (flatMap (cells 0) rs)) (ones (setOf r)) (length-map (cells 0 r) cellNumber ∙ cells-length 0 r)
+      rest : drop (onesIn (setOf r)) (map cellNumber (cells 0 r) ++ map cellNumber (flatMap (cells 0) rs)) ≡ map cellNumber (flatMap (cells 0) rs)
+      rest = drop-at (map cellNumber (cells 0 r)) (map cellNumber (flatMap (cells 0) rs)) (onesIn (setOf r)) (length-map (cells 0 r) cellNumber ∙ cells-length 0 r)
 
   answer-rows : (k n : ℕ) → 1 < N → k < K → n < N → evenAnswer sum N K S store (evenQuery N K k n key) ≡ flatMap rowTotal (rows N K k n)
   unfolding evenAnswer evenQuery queryCells cellNumber
@@ -92,7 +92,7 @@ module _ (sum : Sum) (N K S k : ℕ) (store key : List ℕ) (run : Retrieval sum
   row-symbols r e = cell-symbols (All-imp (λ cell h. omega (arith, h)) (cells-messages r 0))
 
   -- row i of set A in server n's answer
-  pub honest-row : (n : ℕ) → n < N → (A : List Bool) (i : ℕ) → IsSet K A → i < (N - 1) ^ (ones A - 1)
+  pub honest-row : (n : ℕ) → n < N → (A : List Bool) (i : ℕ) → IsSet K A → i < (N - 1) ^ (onesIn A - 1)
       → answeredRow sum N K S k (honestAnswers (evenScheme sum N K S) N store k key) n (firstRow A (layout N K) + i)
       ≡ rowTotal sum N K S store key (getD (setRows N K k n A) i [])
   unfolding answeredRow honestAnswers rowTotal

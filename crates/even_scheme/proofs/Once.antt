@@ -23,7 +23,7 @@ use Rattle.lists.proofs.Each.{All-imp}
 use Rattle.lists.proofs.Sums.{sum-all, sum-flatMap, sum-keep, sum-map, sum-range, sum-zero, sum-one, sum-at}
 use Rattle.symbol.specs.Sum.{Sum}
 use Rattle.scheme.specs.Scheme.{Valid}
-use Rattle.even_places.specs.Sets.{has, ones, allSets}
+use Rattle.even_places.specs.Sets.{has, onesIn, allSets}
 use Rattle.even_places.specs.Rule.{rows}
 use Rattle.even_places.proofs.RowNumbers.{setRows, rows-by-set, setRows-length, row-some, row-none}
 use Rattle.even_places.proofs.Rows.{below, below-lt, hit, is}
@@ -37,7 +37,7 @@ use Rattle.even_scheme.proofs.Recovery.{wanted-place}
 module _ (sums : Sum) (N K S k : ℕ) where
   -- the places of the wanted message in the order of recovery: in the rows of a set, of a server, of all
   setPlaces : ℕ → List Bool → List ℕ
-  setPlaces n A = map (wantedPlace sums N K S k n A) (range 0 ((N - 1) ^ (ones A - 1)))
+  setPlaces n A = map (wantedPlace sums N K S k n A) (range 0 ((N - 1) ^ (onesIn A - 1)))
 
   serverPlaces : ℕ → List ℕ
   serverPlaces n = flatMap (setPlaces n) (keep (has k) (allSets K))
@@ -52,7 +52,7 @@ module _ (sums : Sum) (N K S k : ℕ) where
     set-times n l A good = go (has k A) refl ∙ sym (sum-at (hit k v) [] (setRows N K k n A) ∙ ap (λ (m : ℕ). sum hits (range 0 m)) (setRows-length N K k wide known n l A good))
       where
         q : ℕ
-        q = (N - 1) ^ (ones A - 1)
+        q = (N - 1) ^ (onesIn A - 1)
 
         hits : ℕ → ℕ
         hits i = hit k v (getD (setRows N K k n A) i [])
@@ -119,14 +119,14 @@ module _ (sums : Sum) (N K S k : ℕ) where
         ∙ ap (λ g. flatMap g (range 0 N)) (fun-ext of-server)
         ∙ sym (map-flatMap offset serverPlaces (range 0 N))
       where
-        of-set : (n : ℕ) (A : List Bool) → map start (map (recoveredPart sums N K S k key answers n A) (range 0 ((N - 1) ^ (ones A - 1)))) ≡ map offset (setPlaces n A)
+        of-set : (n : ℕ) (A : List Bool) → map start (map (recoveredPart sums N K S k key answers n A) (range 0 ((N - 1) ^ (onesIn A - 1)))) ≡ map offset (setPlaces n A)
         of-set n A =
-            map-map start (recoveredPart sums N K S k key answers n A) (range 0 ((N - 1) ^ (ones A - 1)))
-            ∙ sym (map-map offset (wantedPlace sums N K S k n A) (range 0 ((N - 1) ^ (ones A - 1))))
+            map-map start (recoveredPart sums N K S k key answers n A) (range 0 ((N - 1) ^ (onesIn A - 1)))
+            ∙ sym (map-map offset (wantedPlace sums N K S k n A) (range 0 ((N - 1) ^ (onesIn A - 1))))
 
         of-server : (n : ℕ) → map start (serverParts sums N K S k key answers n) ≡ map offset (serverPlaces n)
         of-server n =
-            map-flatMap start (λ A. map (recoveredPart sums N K S k key answers n A) (range 0 ((N - 1) ^ (ones A - 1)))) (keep (has k) (allSets K))
+            map-flatMap start (λ A. map (recoveredPart sums N K S k key answers n A) (range 0 ((N - 1) ^ (onesIn A - 1)))) (keep (has k) (allSets K))
             ∙ ap (λ g. flatMap g (keep (has k) (allSets K))) (fun-ext (of-set n))
             ∙ sym (map-flatMap offset (setPlaces n) (keep (has k) (allSets K)))
 

@@ -11,7 +11,7 @@ use lib.Dec.{eqb}
 use lib.ListN.{length, getD, set, length-map}
 use Rattle.symbol.specs.Sum.{Sum}
 use Rattle.scheme.specs.Scheme.{honestAnswers}
-use Rattle.even_places.specs.Sets.{ones}
+use Rattle.even_places.specs.Sets.{onesIn}
 use Rattle.even_places.specs.Rule.{Row, isSome, others, firstRow, layout}
 use Rattle.even_places.proofs.RowNumbers.{setRows, row-number, row-set, row-some, WantedRow}
 use Rattle.even_places.proofs.SetLaws.{setOf}
@@ -46,29 +46,29 @@ module _ (sum : Sum) (N K S k : ℕ) (store key : List ℕ) (run : Retrieval sum
       ≡ symbolAt sum N K S store k (entryAt N K key k (wantedPlace sum N K S k n A i))
   unfolding recoveredSymbol sourceServer sourceRow row
   recovered =
-      go (eqb (ones A) 1) refl
+      go (eqb (onesIn A) 1) refl
       ∙ ap (λ (x : ℕ). symbolAt sum N K S store k (entryAt N K key k x)) (sym (wanted-place sum N K S k (run .wide) (run .known) n A i (place .0) wanted (place .1)))
     where
       answers : List (List ℕ)
       answers = honestAnswers (evenScheme sum N K S) N store k key
 
       m : ℕ
-      m = getD (others N n) (i / (N - 1) ^ (ones A - 2)) 0
+      m = getD (others N n) (i / (N - 1) ^ (onesIn A - 2)) 0
 
       j : ℕ
-      j = i % (N - 1) ^ (ones A - 2)
+      j = i % (N - 1) ^ (onesIn A - 2)
 
       here : answeredRow sum N K S k answers n (firstRow A (layout N K) + i) ≡ rowTotal sum N K S store key row
       here = honest-row sum N K S k store key run n (wanted .server-below) A i (wanted .set-good) (wanted .row-below)
 
-      go : (t : Bool) → eqb (ones A) 1 ≡ t
+      go : (t : Bool) → eqb (onesIn A) 1 ≡ t
           → cond t
           (answeredRow sum N K S k answers n (firstRow A (layout N K) + i))
           (sum .minus (answeredRow sum N K S k answers n (firstRow A (layout N K) + i)) (answeredRow sum N K S k answers m (firstRow (set A k false) (layout N K) + j)))
           ≡ symbolAt sum N K S store k (entryAt N K key k (place .0))
-      go true e = here ∙ row-alone sum N K S k store key run row (place .0) long (place .1) (ap ones its-set ∙ eqb-true (ones A) 1 e)
+      go true e = here ∙ row-alone sum N K S k store key run row (place .0) long (place .1) (ap onesIn its-set ∙ eqb-true (onesIn A) 1 e)
       go false e =
-          let many : 1 < ones A = omega (arith, eqb-false (ones A) 1 e, wanted .set-good .some) in
+          let many : 1 < onesIn A = omega (arith, eqb-false (onesIn A) 1 e, wanted .set-good .some) in
           let source = source-row N K k (run .wide) (run .known) n (wanted .server-below) A i (wanted .set-good) (wanted .in-set) many (wanted .row-below) in
           let there = honest-row sum N K S k store key run m (source .server-below) (set A k false) j (source .set-good) (source .row-below) in
           ap₂ (sum .minus) here (there ∙ ap (rowTotal sum N K S store key) (sym (source .without)))

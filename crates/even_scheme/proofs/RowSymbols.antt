@@ -10,7 +10,7 @@ use lib.ListN.{length, getD, set, length-append, length-map}
 use Rattle.symbol.specs.Group.{Symbols, none, more}
 use Rattle.symbol.specs.Sum.{Symbol, Sum, total, totalFrom}
 use Rattle.symbol.proofs.Totals.{total-found}
-use Rattle.even_places.specs.Sets.{ones}
+use Rattle.even_places.specs.Sets.{onesIn}
 use Rattle.even_places.specs.Rule.{Row, cells}
 use Rattle.even_places.proofs.SetLaws.{setOf, cells-length}
 use Rattle.even_scheme.specs.Even.{entryAt, symbolAt}
@@ -94,7 +94,7 @@ module _ (sum : Sum) (N K S k : ℕ) (store key : List ℕ) (run : Retrieval sum
       ∙ wanted-cell
 
   -- a row with the wanted message alone is its symbol
-  pub row-alone : ones (setOf r) ≡ 1 → rowTotal sum N K S store key r ≡ symbolAt sum N K S store k (entryAt N K key k x)
+  pub row-alone : onesIn (setOf r) ≡ 1 → rowTotal sum N K S store key r ≡ symbolAt sum N K S store k (entryAt N K key k x)
   unfolding rowTotal named total totalFrom
   row-alone one = ap (total sum S) whole ∙ go before after (sym (ap length whole) ∙ length-map (cells 0 r) named ∙ cells-length 0 r ∙ one) ∙ wanted-cell
     where

@@ -14,7 +14,7 @@ use Rattle.lists.specs.Distinct.{distinct, isPermutation}
 use Rattle.parameters.specs.Measures.{evenSizes, evenRows}
 use Rattle.symbol.specs.Sum.{Sum, zeros, total}
 use Rattle.scheme.specs.Scheme.{Scheme}
-use Rattle.even_places.specs.Sets.{has, ones, members, allSets}
+use Rattle.even_places.specs.Sets.{has, onesIn, members, allSets}
 use Rattle.even_places.specs.Rule.{others, rows, queryCells, layout, positions, firstRow}
 
 -- ---- The key: K permutations, message 0's first
@@ -59,7 +59,7 @@ module _ (sum : Sum) (N K S : ℕ) where
   -- the combined symbols of the rows with these sets, one after another
   unfoldable pub rowAnswers : List ℕ → List (List Bool) → List ℕ → List ℕ
   rowAnswers store [] query = []
-  rowAnswers store (A ∷ sets) query = rowAnswer store A query ++ rowAnswers store sets (drop (ones A) query)
+  rowAnswers store (A ∷ sets) query = rowAnswer store A query ++ rowAnswers store sets (drop (onesIn A) query)
 
   unfoldable pub evenAnswer : List ℕ → List ℕ → List ℕ
   evenAnswer store query = rowAnswers store (layout N K) query
@@ -83,16 +83,16 @@ module _ (sum : Sum) (N K S wanted : ℕ) where
   -- Row i of set A, which has the wanted message, is joined from a row of A without it: row i modulo (N-1)^(b-1) of the other
   -- server whose turn is i / (N-1)^(b-1), where A's block is b, counted from 0. `joined-at` shows that it is that row
   unfoldable pub sourceServer : ℕ → List Bool → ℕ → ℕ
-  sourceServer server A i = getD (others N server) (i / (N - 1) ^ (ones A - 2)) 0
+  sourceServer server A i = getD (others N server) (i / (N - 1) ^ (onesIn A - 2)) 0
 
   unfoldable pub sourceRow : List Bool → ℕ → ℕ
-  sourceRow A i = firstRow (set A wanted false) (layout N K) + i % (N - 1) ^ (ones A - 2)
+  sourceRow A i = firstRow (set A wanted false) (layout N K) + i % (N - 1) ^ (onesIn A - 2)
 
   -- the symbol that row i of set A at a server gives: of the wanted message alone it is the answer; else what the answer to the
   -- row that it was joined from leaves of it
   unfoldable pub recoveredSymbol : List (List ℕ) → ℕ → List Bool → ℕ → List ℕ
   recoveredSymbol answers server A i =
-      cond (eqb (ones A) 1)
+      cond (eqb (onesIn A) 1)
       (answeredRow answers server (firstRow A (layout N K) + i))
       (sum .minus (answeredRow answers server (firstRow A (layout N K) + i)) (answeredRow answers (sourceServer server A i) (sourceRow A i)))
 
@@ -107,7 +107,7 @@ module _ (sum : Sum) (N K S wanted : ℕ) where
   -- those of all rows with the wanted message at a server, and at all servers
   unfoldable pub serverParts : List ℕ → List (List ℕ) → ℕ → List (ℕ × List ℕ)
   serverParts key answers server =
-      flatMap (λ A. map (recoveredPart key answers server A) (range 0 ((N - 1) ^ (ones A - 1)))) (keep (has wanted) (allSets K))
+      flatMap (λ A. map (recoveredPart key answers server A) (range 0 ((N - 1) ^ (onesIn A - 1)))) (keep (has wanted) (allSets K))
 
   unfoldable pub recoveredParts : List ℕ → List (List ℕ) → List (ℕ × List ℕ)
   recoveredParts key answers = flatMap (serverParts key answers) (range 0 N)

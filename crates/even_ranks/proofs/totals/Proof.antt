@@ -11,7 +11,7 @@ use Rattle.lists.proofs.Below.{below-zeros}
 use Rattle.even_places.specs.Sets.{byteOf, allSets}
 use Rattle.even_layout.specs.Layout.{setIn}
 use Rattle.even_layout.proofs.Blocks.{all-length, subsets-few}
-use Rattle.even_ranks.specs.Counts.{noCounts, counted, countedAll, totalsOf}
+use Rattle.even_ranks.specs.Counts.{noCounts, setCounted, countedAll, totalsOf}
 use Rattle.even_ranks.proofs.Counters.{counted-length}
 use Rattle.even_ranks.proofs.Steps.{stands-at, stands-set, counted-below, counted-more}
 use Rattle.even_ranks.proofs.totals.Statement.{statement}
@@ -66,7 +66,7 @@ loop-again c =
       omega arith,
       ap length next ∙ counted-length (a .k) (a .wanted) (start .pre .0) A (at .loop .counts) (stands-set (a .k) (getD (a .sets .now) i 0) (here .0)) (at .loop .inv .1),
       rw (next, add-one i) (counted-below (suc i) (a .wanted) A (at .loop .counts) (at .loop .inv .2)),
-      ap (countedAll (a .wanted) (drop (i + 1) (allSets (a .k)))) (next ∙ ap (λ (B : List Bool). counted (a .wanted) B (at .loop .counts)) (here .1))
+      ap (countedAll (a .wanted) (drop (i + 1) (allSets (a .k)))) (next ∙ ap (λ (B : List Bool). setCounted (a .wanted) B (at .loop .counts)) (here .1))
           ∙ sym (counted-more (a .wanted) i (allSets (a .k)) (at .loop .counts) inside) ∙ at .loop .inv .3,
     )
 
