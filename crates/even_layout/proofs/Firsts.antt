@@ -1,4 +1,5 @@
--- The table of first rows: filled set by set, each set once, it holds at a set's byte the number of the set's first row (`filled-firsts`).
+-- The table of first rows: filled set by set, each set once, it holds at a set's byte the number of the set's first row
+-- (`filled-firsts`, `first-rows-at`). Rests on the layout by sets (AllSets of even_places).
 use mathlib.Core.Path.{_≡_, refl, sym, ap, ap₂, _∙_}
 use mathlib.Core.Logic.{_≢_}
 use mathlib.Core.List.{List, [], _∷_, _++_, map, flatMap}
@@ -18,8 +19,7 @@ use Rattle.lists.proofs.Bits.{bit-of}
 use Rattle.lists.proofs.Each.{All-both, All-imp}
 use Rattle.lists.proofs.Sums.{sum-none}
 use Rattle.lists.proofs.Mapped.{mapped-length, mapped-at}
-use Rattle.even_places.specs.Sets.{onesIn, byteOf, allSets, alike}
-use Rattle.even_places.specs.Rule.{layout, firstRow}
+use Rattle.even_places.specs.Rule.{byteOf, onesIn, allSets, layout, alike, firstRow}
 use Rattle.even_places.proofs.SetLaws.{alike-eq, alike-self}
 use Rattle.even_places.proofs.Rows.{below}
 use Rattle.even_places.proofs.Bytes.{byte-ones, byte-below}
@@ -72,7 +72,8 @@ filled-at N K row X table bounds e h (allCons {x = A} {xs = L} s a) one =
     inside = omega (arith, rw (s .long) at (byte-below A))
 
     go : (t : Bool) → alike X A ≡ t → bit t + sum (λ B. bit (alike X B)) L ≡ 1
-        → (sum (λ B. bit (alike X B)) L ≡ 1 → getD (filled N (row + rowsOf N A) L (set table (byteOf A) row)) (byteOf X) 0 ≡ row + rowsOf N A + firstRow X (rowsAll N L))
+        → (sum (λ B. bit (alike X B)) L ≡ 1
+        → getD (filled N (row + rowsOf N A) L (set table (byteOf A) row)) (byteOf X) 0 ≡ row + rowsOf N A + firstRow X (rowsAll N L))
         → getD (filled N (row + rowsOf N A) L (set table (byteOf A) row)) (byteOf X) 0 ≡ row + firstRow X (replicate (rowsOf N A) A ++ rowsAll N L)
     go true t once ih =
         let others : All (λ B. byteOf X ≢ byteOf B) L =
@@ -141,7 +142,8 @@ filled-entry N K size x bounds room h = go (ltb 0 x) (ltb x (2 ^ K)) refl refl
         let byte : byteOf X ≡ x = byte-setIn K x (ltb-true x (2 ^ K) u) in
         let some : 1 ≤ onesIn X = ones-some X (omega (arith, ltb-true 0 x t)) in
         ap (λ (y : ℕ). getD (filled N 0 (allSets K) (replicate size 0)) y 0) (sym byte)
-        ∙ filled-at N K 0 X (replicate size 0) bounds (setIn-length K x) (rw (length-replicate {A = ℕ} size 0) room) (all-sets K) (alike-all K X (setIn-length K x) some)
+        ∙ filled-at N K 0 X (replicate size 0) bounds (setIn-length K x) (rw (length-replicate {A = ℕ} size 0) room) (all-sets K)
+        (alike-all K X (setIn-length K x) some)
         ∙ zero-add (firstRow X (rowsAll N (allSets K))) ∙ ap (firstRow X) (layout-rows N K)
     go true false t u = none (All-imp (λ A s same. omega (arith, ltb-false x (2 ^ K) u, rw (s .long) at (byte-below A))) (all-sets K))
     go false u t v = none (All-imp (λ A s same. omega (arith, ltb-false 0 x t, byte-some A (s .some))) (all-sets K))

@@ -1,4 +1,5 @@
--- The bounds of the even code give those of its layout.
+-- The bounds of the even code give those of its layout (`layout-bounds`, `layout-fits`). Rests on the bounds that a
+-- catalogue's numbers keep (Bounds of parameters).
 use mathlib.Core.Path.{_≡_}
 use mathlib.Core.Bool.{true}
 use Prim.Native.Nat.{ℕ}

@@ -1,4 +1,5 @@
--- The sets of a query one by one: their bytes, how many rows each has, and the layout and the positions as made from them.
+-- The sets of a query one by one: their bytes (`byte-at`), how many rows each has, and the layout and the positions as made from them
+-- (`set-positions`, `positions-more`).
 use mathlib.Core.Path.{_≡_, refl, sym, ap, ap₂, _∙_}
 use mathlib.Core.List.{List, [], _∷_, _++_, map, flatMap}
 use mathlib.Core.Bool.{Bool, true, false}
@@ -13,8 +14,7 @@ use lib.Seq.{drop-cons}
 use Rattle.lists.specs.Sums.{bit}
 use Rattle.lists.proofs.Each.{All-get}
 use Rattle.lists.proofs.Joined.{flatMap-flatMap}
-use Rattle.even_places.specs.Sets.{onesIn, members, byteOf, allSets}
-use Rattle.even_places.specs.Rule.{positions}
+use Rattle.even_places.specs.Rule.{byteOf, onesIn, members, allSets, positions}
 use Rattle.even_places.proofs.AllSets.{IsSet, all-sets, ones-most, layout-by-set}
 use Rattle.even_places.proofs.Positions.{positions-length}
 use Rattle.even_places.proofs.Bytes.{byte-ones, byte-below}
@@ -43,7 +43,8 @@ module _ (N K : ℕ) (bounds : LayoutBounds N K) (A : List Bool) (s : IsSet K A)
   pub rows-low : 1 ≤ rowsOf N A
   unfolding rowsOf
   rows-low =
-      let least : (N - 1) ^ 0 ≤ (N - 1) ^ (onesIn A - 1) = pow-le-pow-right {n = N - 1} (omega (arith, bounds .servers-low)) (let w : 0 ≤ onesIn A - 1 = omega arith in w) in
+      let least : (N - 1) ^ 0 ≤ (N - 1) ^ (onesIn A - 1) =
+      pow-le-pow-right {n = N - 1} (omega (arith, bounds .servers-low)) (let w : 0 ≤ onesIn A - 1 = omega arith in w) in
       omega (arith, pow-zero (N - 1))
 
 -- what holds of a table's byte `set`, which stands for set A

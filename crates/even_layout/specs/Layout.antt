@@ -1,12 +1,12 @@
--- The layout of an even query as tables (document 01, 'Even code'; source 003, section IV-B): what the steps of this crate write, and the table of first rows.
+-- The layout of an even query as tables (document 01, 'Even code'; source 003, section IV-B): what the steps of this crate write, and
+-- the table of first rows.
 use Prim.Native.Nat.{ℕ, zero, suc, _+_, _-_, _*_, _/_, _%_, _^_, _≤_}
 use mathlib.Core.Bool.{Bool, cond, _&&_}
 use mathlib.Core.List.{List, [], _∷_, _++_, map, flatMap}
 use lib.Dec.{eqb, ltb}
 use Rattle.lists.specs.Parts.{cut}
 use Rattle.lists.specs.Ranges.{range}
-use Rattle.even_places.specs.Sets.{onesIn, byteOf, allSets}
-use Rattle.even_places.specs.Rule.{layout, firstRow}
+use Rattle.even_places.specs.Rule.{byteOf, onesIn, allSets, layout, firstRow}
 
 -- what the layout needs of the bounds on N and K
 pub record LayoutBounds (N K : ℕ) : Type 0 where

@@ -16,10 +16,9 @@ use Rattle.lists.proofs.Distinct.{times, range-times}
 use Rattle.lists.proofs.Each.{All-imp, All-every, All-flatMap, All-replicate}
 use Rattle.lists.proofs.Joined.{flatMap-flatMap, flatMap-all}
 use Rattle.lists.proofs.Sums.{sum-flatMap, sum-ext, sum-all, sum-zero}
-use Rattle.even_places.specs.Sets.{onesIn, sets, allSets, alike}
-use Rattle.even_places.specs.Rule.{layout}
+use Rattle.even_places.specs.Rule.{onesIn, sets, allSets, layout, alike}
 use Rattle.even_places.proofs.SetLaws.{alike-eq, alike-one}
-use Rattle.even_places.proofs.Counts.{sets-fit}
+use Rattle.even_places.proofs.BlockRows.{sets-fit}
 
 -- a set of K messages that is not empty
 pub record IsSet (K : ℕ) (A : List Bool) : Type 0 where
@@ -48,7 +47,8 @@ alike-all K X e h =
     block : (b : ℕ) (t : Bool) → eqb b (onesIn X - 1) ≡ t → sum (λ A. bit (alike X A)) (sets K (suc b)) ≡ bit t
     block b true t = alike-one X K (suc b) e (omega (arith, eqb-true b (onesIn X - 1) t))
     block b false t =
-        sum-all (λ A. bit (alike X A)) (λ A. 0) (All-imp (λ A f. other A (alike X A) refl (λ same. eqb-false b (onesIn X - 1) t (omega (arith, f .1)))) (sets-fit K (suc b)))
+        sum-all (λ A. bit (alike X A)) (λ A. 0)
+        (All-imp (λ A f. other A (alike X A) refl (λ same. eqb-false b (onesIn X - 1) t (omega (arith, f .1)))) (sets-fit K (suc b)))
         ∙ sum-zero (sets K (suc b))
       where
         other : (A : List Bool) (u : Bool) → alike X A ≡ u → (onesIn X ≡ onesIn A → ⊥) → bit u ≡ 0
@@ -78,4 +78,5 @@ layout-by-set N K =
 -- the sets of a query's rows are sets of K messages
 pub layout-long : (N K : ℕ) → All (λ A. length A ≡ K) (layout N K)
 layout-long N K =
-    rw (layout-by-set N K) (All-flatMap (λ A. replicate ((N - 1) ^ (onesIn A - 1)) A) (All-imp (λ A s. All-replicate ((N - 1) ^ (onesIn A - 1)) A (s .long)) (all-sets K)))
+    rw (layout-by-set N K)
+    (All-flatMap (λ A. replicate ((N - 1) ^ (onesIn A - 1)) A) (All-imp (λ A s. All-replicate ((N - 1) ^ (onesIn A - 1)) A (s .long)) (all-sets K)))

@@ -1,4 +1,5 @@
--- The sets of a block are in lexicographic order of their ascending lists of messages (`sets-ordered`).
+-- The sets of a block are in lexicographic order of their ascending lists of messages, as document 01 asks (`sets-ordered`). Sets with
+-- the first message come before those without it, and both parts are ordered.
 use Prim.Native.Nat.{ℕ, zero, suc, _<_}
 use native.Mathlib.Omega.{arith}
 use mathlib.Core.Path.{_≡_, refl}
@@ -9,8 +10,8 @@ use Rattle.lists.specs.Lexicographic.{precedes, Ordered, orderedNil, orderedCon
 use Rattle.lists.specs.Sums.{allNil, bit, sum}
 use Rattle.lists.proofs.Ordered.{Ordered-imp, Ordered-append, Ordered-map}
 use Rattle.lists.proofs.Each.{All-imp, All-map, All-every}
-use Rattle.even_places.specs.Sets.{onesIn, members, sets}
-use Rattle.even_places.proofs.Counts.{sets-fit}
+use Rattle.even_places.specs.Rule.{onesIn, members, sets}
+use Rattle.even_places.proofs.BlockRows.{sets-fit}
 
 -- the list of A comes before that of B, where the first message is q
 abbrev Before : ℕ → List Bool → List Bool → Type 0

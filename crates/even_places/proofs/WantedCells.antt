@@ -1,5 +1,5 @@
--- Where the wanted message stands in a query: in row i of set A its position is that of the set's first cell, and i rows of A's
--- messages, and A's messages before it. The cell there has the place that the row gives the wanted message.
+-- Where the wanted message stands in a query (`wanted-cell`): in row i of set A its position is that of the set's first cell, and i
+-- rows of A's messages, and A's messages before it. The cell there has the place that the row gives the wanted message.
 use Prim.Native.Nat.{ℕ, zero, suc, _+_, _-_, _*_, _^_, _<_}
 use native.Mathlib.Nat.{zero-add, add-zero, suc-mul, mul-le-mul-right}
 use native.Mathlib.Omega.{arith}
@@ -11,8 +11,8 @@ use lib.ListN.{length, getD, take}
 use Rattle.lists.specs.Sums.{bit, sum, All}
 use Rattle.lists.proofs.Each.{All-get, All-imp, All-every, All-keep}
 use Rattle.lists.proofs.Joined.{flatMap-flatMap, PlacedAt, placed-at, flatMap-size, flatMap-at}
-use Rattle.even_places.specs.Sets.{has, onesIn, allSets}
-use Rattle.even_places.specs.Rule.{Row, isSome, same, ofSet, block, rows, cells, queryCells, layout, firstRow}
+use Rattle.even_places.specs.Rule.{has, onesIn, Row, isSome, same, ofSet, cells, rows, queryCells, allSets, layout, firstRow}
+use Rattle.even_places.specs.Counting.{block}
 use Rattle.even_places.proofs.SetLaws.{setOf, same-alike, alike-eq, cells-length}
 use Rattle.even_places.proofs.RowNumbers.{setRows, rows-by-set, setRows-length, row-number, row-set}
 use Rattle.even_places.proofs.AllSets.{IsSet, all-sets}
@@ -58,7 +58,7 @@ module _ (N K k : ℕ) (wide : 1 < N) (known : k < K) (n : ℕ) (l : n < N) wher
 
   cells-by-set : queryCells N K k n ≡ flatMap setCells (allSets K)
   unfolding queryCells setCells
-  cells-by-set = ap (flatMap (cells 0)) (rows-by-set N K k n) ∙ flatMap-flatMap (cells 0) (setRows N K k n) (allSets K)
+  cells-by-set = ap (flatMap (cells 0)) (rows-by-set N K k wide known n l) ∙ flatMap-flatMap (cells 0) (setRows N K k n) (allSets K)
 
   row-cells : (A : List Bool) → All (λ r. length (cells 0 r) ≡ onesIn A) (setRows N K k n A)
   unfolding setRows ofSet
@@ -112,7 +112,8 @@ module _ (N K k : ℕ) (wide : 1 < N) (known : k < K) (n : ℕ) (l : n < N) wher
       at-row =
           ap (λ (cs : List (ℕ × ℕ)). getD cs (sum (cellsOf N) (take j (allSets K)) + (i * onesIn A + onesIn (take k A))) (0, 0)) cells-by-set
           ∙ placed .same
-          ∙ flatMap-at (cells 0) (onesIn A) (0, 0) [] (row-cells A) i (onesIn (take k A)) (omega (arith, setRows-length N K k wide known n l A good)) (ones-before A k e)
+          ∙ flatMap-at (cells 0) (onesIn A) (0, 0) [] (row-cells A) i (onesIn (take k A)) (omega (arith, setRows-length N K k wide known n l A good))
+          (ones-before A k e)
           ∙ ap (λ (B : List Bool). getD (cells 0 row) (onesIn (take k B)) (0, 0)) (sym its-set)
 
       found : CellOf 0 row k (getD (cells 0 row) (onesIn (take k (setOf row))) (0, 0))

@@ -1,4 +1,5 @@
--- One row more of a set, and one set more: what is still to be written of a query's places.
+-- One row more of a set (`row-turn`), and one set more (`set-turn`): what is still to be written of a query's places. Rests on the
+-- definitions by set (even_ranks/specs/Walk.antt).
 use Prim.Native.Nat.{ℕ, suc, _+_, _-_, _/_, _%_, _^_, _≤_, _<_}
 use native.Mathlib.Nat.{sub-zero, add-sub-cancel-left}
 use native.Mathlib.Numerals.{add-one}
@@ -16,7 +17,7 @@ use Rattle.lists.specs.Ranges.{range}
 use Rattle.lists.proofs.Cuts.{cut-length}
 use Rattle.lists.proofs.Below.{below-front, below-back}
 use Rattle.lists.proofs.Writing.{Pending, pending-part}
-use Rattle.even_places.specs.Sets.{onesIn, members, allSets}
+use Rattle.even_places.specs.Rule.{onesIn, members, allSets}
 use Rattle.even_layout.specs.Layout.{LayoutBounds, setIn, rowsOf}
 use Rattle.even_layout.proofs.Tables.{rows-high}
 use Rattle.even_ranks.specs.Counts.{Stands, countersOf, setCounted}
@@ -126,7 +127,8 @@ set-turn {N} {K} {k} {server} {byte} {i} {from} {totals} {counts} {end = end} {o
     let front = setPlaces N k server totals ranks A in
     let rest = setsPlaces N k server totals (setCounted k A counts) (drop (i + 1) (allSets K)) in
     let more : setsPlaces N k server totals counts (drop i (allSets K)) ≡ front ++ rest =
-    sets-more N k server totals counts (allSets K) A i inside e ∙ ap (λ (x : List ℕ). setPlaces N k server totals x A ++ rest) (sym (ranks-lent K k byte from counts l)) in
+    sets-more N k server totals counts (allSets K) A i inside e
+    ∙ ap (λ (x : List ℕ). setPlaces N k server totals x A ++ rest) (sym (ranks-lent K k byte from counts l)) in
     let here = rw more at left in
     record {
       ranks-long = ap (λ (m : ℕ). length (take m (drop from counts))) (add-sub-cancel-left from K) ∙ cut-length from K counts (omega (arith, l .fits));

@@ -1,4 +1,5 @@
--- What the steps of a query rest on: a place read off the tables, a row's origin by its set's byte, and one row or set more.
+-- What the steps of a query rest on: a place read off the tables (`place-read`), a row's origin by its set's byte (`origin-byte`), and
+-- one row or set more.
 use Prim.Native.Nat.{ℕ, suc, _+_, _-_, _*_, _/_, _%_, _^_, _≤_, _<_}
 use native.Mathlib.Nat.{one-mul, mul-le-mul, one-le-pow, pow-succ', div-lt-iff-lt-mul}
 use native.Mathlib.Omega.{arith}
@@ -14,7 +15,7 @@ use Rattle.lists.specs.Sums.{bit}
 use Rattle.lists.proofs.Bits.{bit-test}
 use Rattle.lists.proofs.Both.{both-true}
 use Rattle.lists.proofs.Mapped.{mapped-length, mapped-at}
-use Rattle.even_places.specs.Sets.{has, onesIn}
+use Rattle.even_places.specs.Rule.{has, onesIn}
 use Rattle.even_places.proofs.Bytes.{byte-has}
 use Rattle.even_places.proofs.AllSets.{ones-most}
 use Rattle.even_layout.specs.Layout.{setIn}
@@ -69,7 +70,11 @@ rows-before N m i wide many h =
     let next : m - 1 ≡ suc (m - 2) = omega arith in
     let times : (N - 1) ^ (m - 1) ≡ (N - 1) * (N - 1) ^ (m - 2) = ap (λ (j : ℕ). (N - 1) ^ j) next ∙ pow-succ' (N - 1) (m - 2) in
     let some = one-le-pow (m - 2) (N - 1) (omega arith) in
-    record { some = some; most = omega (arith, times, factor-small (N - 1) ((N - 1) ^ (m - 2)) (omega arith)); other = div-lt-iff-lt-mul some .1 (omega (arith, times)) }
+    record {
+      some = some;
+      most = omega (arith, times, factor-small (N - 1) ((N - 1) ^ (m - 2)) (omega arith));
+      other = div-lt-iff-lt-mul some .1 (omega (arith, times));
+    }
 
 -- ---- Origins by a set's byte
 
@@ -86,7 +91,8 @@ module _ (K k byte : ℕ) (stands : Stands K byte) where
       (stands-count K byte stands)
 
   pub origin-byte : (N server i : ℕ)
-      → cond (eqb (byte / 2 ^ k % 2) 1 && ltb 1 (count byte)) (joined N server (count byte) i) (plain N server (count byte) i) ≡ originOf N k server (setIn K byte) i
+      → cond (eqb (byte / 2 ^ k % 2) 1 && ltb 1 (count byte)) (joined N server (count byte) i) (plain N server (count byte) i)
+      ≡ originOf N k server (setIn K byte) i
   unfolding originOf
   origin-byte N server i = rw (joined-byte, stands-count K byte stands)
 
@@ -101,5 +107,11 @@ module _ (K k byte : ℕ) (stands : Stands K byte) where
       most = omega (arith, ones-most A, setIn-length K byte)
 
       go : (t : Bool) → OriginWithin (cond t (joined N server (onesIn A) i) (plain N server (onesIn A) i))
-      go true = record { block-low = omega (arith, most, stands .some); source-low = omega (arith, most); some = one-le-pow (onesIn A - 2) (N - 1) (omega arith) }
-      go false = record { block-low = omega (arith, most, stands .some); source-low = omega (arith, most, stands .some); some = one-le-pow (onesIn A - 1) (N - 1) (omega arith) }
+      go true =
+          record { block-low = omega (arith, most, stands .some); source-low = omega (arith, most); some = one-le-pow (onesIn A - 2) (N - 1) (omega arith) }
+      go false =
+          record {
+            block-low = omega (arith, most, stands .some);
+            source-low = omega (arith, most, stands .some);
+            some = one-le-pow (onesIn A - 1) (N - 1) (omega arith);
+          }

@@ -1,4 +1,5 @@
--- What the steps of an even query ask for and write (document 01, 'Even code'): N servers, K messages, wanted message k.
+-- What the steps of an even query ask for and write (document 01, 'Even code'): N servers, K messages, wanted message k. Which places
+-- they write is told in even_ranks/specs/Walk.antt.
 use mathlib.Core.Path.{_≡_}
 use mathlib.Core.List.{List, zipWith}
 use Prim.Native.Nat.{ℕ, _+_, _-_, _*_, _≤_, _<_}

@@ -1,4 +1,5 @@
--- The place that the counters give to each message of a row is the one that the rule gives it.
+-- The place that the counters give to each message of a row is the one that the rule gives it (`cell-is`). Rests on the places in
+-- closed form (Closed of even_places) and on what the counters tell (Ranking).
 use Prim.Native.Nat.{ℕ, zero, suc, _+_, _-_, _*_, _/_, _%_, _^_, _≤_, _<_}
 use native.Mathlib.Nat.{pow-zero, pow-succ', one-le-pow, div-add-mod', div-lt-iff-lt-mul, mod-lt}
 use native.Mathlib.Omega.{arith}
@@ -16,11 +17,12 @@ use Rattle.lists.specs.Parts.{cut}
 use Rattle.lists.specs.Sums.{bit, keep, All}
 use Rattle.lists.proofs.Cuts.{cut-at}
 use Rattle.lists.proofs.Each.{All-front, All-back, All-head}
-use Rattle.even_places.specs.Sets.{has, onesIn, with, sets, allSets}
-use Rattle.even_places.specs.Rule.{used, sideSets, joins, ofSet, block, others}
+use Rattle.even_places.specs.Rule.{has, onesIn, sets, others, sideSets, ofSet, allSets}
+use Rattle.even_places.specs.Counting.{with, used, joins, block}
 use Rattle.even_places.proofs.SetLaws.{ones-drop, has-drop, has-lone}
 use Rattle.even_places.proofs.Positions.{joined-at}
-use Rattle.even_places.proofs.Closed.{before, side-at, wanted-at, wanted-first}
+use Rattle.even_places.proofs.RepeatedSets.{before}
+use Rattle.even_places.proofs.Closed.{side-at, wanted-at, wanted-first}
 use Rattle.even_places.proofs.AllSets.{IsSet, all-sets, ones-most}
 use Rattle.even_ranks.specs.Counts.{counter, noCounts, countersOf, countedAll, totalsOf}
 use Rattle.even_ranks.specs.Walk.{placeOf, isJoined, plain, joined, originOf}
@@ -41,7 +43,8 @@ module _ (N K k : ℕ) (wide : 1 < N) (wanted : k < K) (few : K ≤ 8) where
     unfolding ranks countersOf counter
     ranks-tell b p many hp =
         cut-at (countersOf k A) (length A) p (countedAll k D noCounts) (omega (arith, known .long))
-        ∙ ap (λ i. getD (countedAll k D noCounts) i 0) (let e : bit (has k A) * 64 + (onesIn A - 1) * 8 + 0 + p ≡ bit (has k A) * 64 + b * 8 + p = omega arith in e)
+        ∙ ap (λ i. getD (countedAll k D noCounts) i 0)
+        (let e : bit (has k A) * 64 + (onesIn A - 1) * 8 + 0 + p ≡ bit (has k A) * 64 + b * 8 + p = omega arith in e)
         ∙ counts-tell K k few (All-front D (A ∷ L) (subst (All (IsSet K)) (sym split) (all-sets K))) (has k A) b p (omega (arith, ones-most A, known .long)) hp
 
     module _ (n : ℕ) (server : n < N) where
@@ -62,7 +65,8 @@ module _ (N K k : ℕ) (wide : 1 < N) (wanted : k < K) (few : K ≤ 8) where
           low = omega (arith, ones-most A, known .long)
 
           rank : with p (before A (keep (λ B. not (has k B)) (sets K (suc b)))) ≡ getD ranks p 0
-          rank = ap (with p) (rank-side K k wanted D L A split b low (known .long) many lack) ∙ sym (ranks-tell b p many hp ∙ ap (λ t. with p (keep (ofKind k t b) D)) lack)
+          rank = ap (with p) (rank-side K k wanted D L A split b low (known .long) many lack)
+              ∙ sym (ranks-tell b p many hp ∙ ap (λ t. with p (keep (ofKind k t b) D)) lack)
 
       -- the row is of k alone
       first-cell : (i : ℕ) → onesIn A ≡ 1 → has k A ≡ true → i < (N - 1) ^ 0 → At 0 i k ≡ some (placeOf N k (totalsOf K k) ranks (plain N n (onesIn A) i) k)
@@ -70,7 +74,9 @@ module _ (N K k : ℕ) (wide : 1 < N) (wanted : k < K) (few : K ≤ 8) where
       first-cell i many g hi =
           ap (λ j. At 0 j k) zeroth
           ∙ wanted-first N K k wide wanted n A server (known .long) many g
-          ∙ ap some (sym (rw (eq-eqb k k refl, (let e : onesIn A - 1 ≡ 0 = omega arith in e)) (place-first N K k wide wanted few n (getD ranks k 0) i none-before zeroth)))
+          ∙ ap some
+          (sym (rw (eq-eqb k k refl, (let e : onesIn A - 1 ≡ 0 = omega arith in e))
+          (place-first N K k wide wanted few n (getD ranks k 0) i none-before zeroth)))
         where
           zeroth : i ≡ 0
           zeroth = omega (arith, pow-zero (N - 1))
@@ -141,7 +147,8 @@ module _ (N K k : ℕ) (wide : 1 < N) (wanted : k < K) (few : K ≤ 8) where
             ap (λ s. At (suc b) s p) (sym whole)
             ∙ sym (getD-set-other (getD (ofSet A (block N K k (suc b) n)) (j * q + r) []) k p none none d)
             ∙ ap (λ s. getD s p none) (joined-at N K k wide wanted b n j r A server has-k (known .long) many j-low r-low)
-            ∙ side-at N K k wide wanted b m r p A′ (length-set A k false ∙ known .long) (omega (arith, ones-drop A k has-k)) (has-drop A k) hp (getD-set-other A k p false false d ∙ g) r-low
+            ∙ side-at N K k wide wanted b m r p A′ (length-set A k false ∙ known .long) (omega (arith, ones-drop A k has-k)) (has-drop A k) hp
+            (getD-set-other A k p false false d ∙ g) r-low
             ∙ ap some
             (rw (ne-eqb p k d, two-less, place-side N K k wide wanted few b p m (getD ranks p 0) r (omega (arith, low)) hp d)
             (ap (λ s. used N (λ j. with p (sideSets N K k j)) b m + q * s + r) rank))
@@ -157,7 +164,8 @@ module _ (N K k : ℕ) (wide : 1 < N) (wanted : k < K) (few : K ≤ 8) where
 
       -- every cell of a row
       pub cell-is : (b i p : ℕ) → onesIn A ≡ suc b → i < (N - 1) ^ b → p < K → has p A ≡ true
-          → getD (getD (ofSet A (block N K k b n)) i []) p none ≡ some (placeOf N k (totalsOf K k) (cut (countersOf k A) (length A) (countedAll k D noCounts)) (originOf N k n A i) p)
+          → getD (getD (ofSet A (block N K k b n)) i []) p none
+          ≡ some (placeOf N k (totalsOf K k) (cut (countersOf k A) (length A) (countedAll k D noCounts)) (originOf N k n A i) p)
       unfolding At ranks originOf isJoined
       cell-is b i p many hi hp g = go (has k A) refl (ℕ-discrete p k) b many hi
         where

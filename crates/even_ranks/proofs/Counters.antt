@@ -1,4 +1,5 @@
--- What the counters hold: for each block, kind and message how many of the counted sets have the message.
+-- What the counters hold: for each block, kind and message how many of the counted sets have the message (`counts-tell`). Rests on
+-- where a set's counters lie (`room`).
 use Prim.Native.Nat.{ℕ, suc, _+_, _-_, _*_, _≤_, _<_}
 use native.Mathlib.Nat.{zero-mul, one-mul}
 use native.Mathlib.Omega.{arith}
@@ -16,8 +17,8 @@ use Rattle.lists.proofs.Cuts.{cut-length, cut-at}
 use Rattle.lists.proofs.Puts.{put-length}
 use Rattle.lists.proofs.ReadBack.{getD-put-inside, getD-put-before, getD-put-after}
 use Rattle.lists.proofs.Sums.{sum-keep}
-use Rattle.even_places.specs.Sets.{has, onesIn, with}
-use Rattle.even_places.specs.Rule.{after}
+use Rattle.even_places.specs.Rule.{has, onesIn, after}
+use Rattle.even_places.specs.Counting.{with}
 use Rattle.even_places.proofs.Rows.{after-at, after-length}
 use Rattle.even_places.proofs.AllSets.{IsSet, ones-most}
 use Rattle.even_ranks.specs.Counts.{counter, noCounts, countersOf, setCounted, countedAll}

@@ -10,8 +10,7 @@ use lib.ListN.{length, getD, replicate}
 use Rattle.lists.specs.Parts.{cut, put}
 use Rattle.lists.specs.Ranges.{range}
 use Rattle.lists.specs.Sums.{bit, sum}
-use Rattle.even_places.specs.Sets.{has, onesIn, byteOf, allSets}
-use Rattle.even_places.specs.Rule.{after}
+use Rattle.even_places.specs.Rule.{has, byteOf, onesIn, after, allSets}
 use Rattle.even_layout.specs.Layout.{setIn}
 
 -- where the counter of message p stands

@@ -8,8 +8,7 @@ use lib.Dec.{eqb, ltb}
 use lib.ListN.{length, getD}
 use Rattle.lists.specs.Parts.{cut}
 use Rattle.lists.specs.Ranges.{range}
-use Rattle.even_places.specs.Sets.{has, onesIn, members, allSets}
-use Rattle.even_places.specs.Rule.{others}
+use Rattle.even_places.specs.Rule.{has, onesIn, members, others, allSets}
 use Rattle.even_ranks.specs.Counts.{noCounts, countersOf, setCounted, totalsOf, takers, taken}
 use Rattle.even_ranks.specs.declared.Origin.{Origin}
 

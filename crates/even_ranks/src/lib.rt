@@ -1,4 +1,5 @@
-// The sets of an even query counted, and the places that follow from the counts without search. A set of messages is one byte, bit p for message p.
+// The sets of an even query counted, and the places that follow from the counts without search.
+// A set of messages is one byte, bit p for message p.
 ghost use mathlib.Core.Path.{_≡_};
 ghost use mathlib.Core.List.{map};
 ghost use Prim.Native.Nat.{_-_, _%_, _/_, _^_, _≤_, _<_};
@@ -6,8 +7,7 @@ ghost use lib.Count.{ones};
 ghost use lib.Dec.{eqb};
 ghost use lib.ListN.{length};
 ghost use Rattle.lists.specs.Below.{Below};
-ghost use Rattle.even_places.specs.Sets.{byteOf, allSets};
-ghost use Rattle.even_places.specs.Rule.{after};
+ghost use Rattle.even_places.specs.Rule.{byteOf, after, allSets};
 ghost use Rattle.even_layout.specs.Layout.{setIn};
 ghost use Rattle.even_ranks.specs.Counts.{«counter» as counterAt, Stands, setCounted, totalsOf, «takers» as takersOf, taken, takenTable};
 

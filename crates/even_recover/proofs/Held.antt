@@ -9,7 +9,7 @@ use mathlib.Core.List.{List}
 use lib.ListN.{length, getD}
 use Rattle.lists.proofs.Each.{All-get}
 use Rattle.even_places.specs.Rule.{others}
-use Rattle.even_places.proofs.Positions.{others-length, others-below}
+use Rattle.even_places.proofs.Others.{others-length, others-below}
 use Rattle.even_recover.specs.declared.ServerRows.{ServerRows}
 use Rattle.even_recover.specs.declared.Group.{Group}
 use Rattle.even_recover.specs.Rows.{Held, Grouped}

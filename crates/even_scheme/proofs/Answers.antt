@@ -1,4 +1,5 @@
--- An answer has one symbol for each row of the query, so it fills its slot.
+-- An answer has one symbol for each row of the query (`answer-length`), so it fills its slot (`answer-fits`). Rests on the number of
+-- rows of a layout (`layout-length`).
 use mathlib.Core.Path.{_≡_, sym, ap, _∙_}
 use mathlib.Core.Bool.{Bool, true, false}
 use mathlib.Core.List.{List, [], _∷_, zipWith}
@@ -14,8 +15,7 @@ use Rattle.parameters.specs.Measures.{evenSizes, evenRows}
 use Rattle.parameters.proofs.Bounds.{even-bounds}
 use Rattle.symbol.specs.Sum.{Sum, zeros, total, totalFrom}
 use Rattle.symbol.specs.Group.{KeepsLength}
-use Rattle.even_places.specs.Sets.{onesIn, members}
-use Rattle.even_places.specs.Rule.{rows, layout}
+use Rattle.even_places.specs.Rule.{onesIn, members, rows, layout}
 use Rattle.even_places.proofs.Counts.{rows-length}
 use Rattle.even_places.proofs.Joined.{same-layout}
 use Rattle.even_places.proofs.SetLaws.{setOf}

@@ -1,5 +1,6 @@
 -- The exchange of keys: for two wanted messages, the key that shows a server for one what a key shows it for the other. It keeps
--- validity, is undone by the opposite exchange, and shows the same query: a server learns nothing of the wanted message.
+-- validity (`exchange-valid`), is undone by the opposite exchange (`exchange-back`), and shows the same query (`exchange-shown`): a
+-- server learns nothing of the wanted message.
 use Prim.Native.Nat.{ℕ, _^_, _<_}
 use mathlib.Core.Path.{_≡_, sym, ap, _∙_}
 use mathlib.Core.Bool.{true}
@@ -35,7 +36,8 @@ module _ (N K server : ℕ) where
   pub order-permutation : 1 < N → server < N → (wanted p : ℕ) → wanted < K → p < K → Permutation (N ^ K) (order wanted p)
   unfolding order
   order-permutation wide there wanted p known h =
-      completed-permutation (N ^ K) (under p (queryCells N K wanted server)) (places-below N K wanted wide known server there p h) (places-distinct N K wanted wide known server there p h)
+      completed-permutation (N ^ K) (under p (queryCells N K wanted server)) (places-below N K wanted wide known server there p h)
+      (places-distinct N K wanted wide known server there p h)
 
 module _ (sum : Sum) (N K S : ℕ) (fits : evenFits N K S ≡ true) (server wanted other : ℕ) (key : List ℕ)
     (there : server < N) (known : wanted < K) (known′ : other < K) (valid : Valid (evenScheme sum N K S) key) where
@@ -45,8 +47,10 @@ module _ (sum : Sum) (N K S : ℕ) (fits : evenFits N K S ≡ true) (server want
   exchanged-permutation : (p : ℕ) → p < K → Permutation (N ^ K) (exchanged N K server wanted other key p)
   unfolding exchanged
   exchanged-permutation p h =
-      arranged-permutation (N ^ K) (order N K server other p) (picked (permutation N K key p) (order N K server wanted p)) (order-permutation N K server wide there other p known′ h)
-      (picked-permutation (N ^ K) (permutation N K key p) (order N K server wanted p) (key-permutation sum N K S key valid p h) (order-permutation N K server wide there wanted p known h))
+      arranged-permutation (N ^ K) (order N K server other p) (picked (permutation N K key p) (order N K server wanted p))
+      (order-permutation N K server wide there other p known′ h)
+      (picked-permutation (N ^ K) (permutation N K key p) (order N K server wanted p) (key-permutation sum N K S key valid p h)
+      (order-permutation N K server wide there wanted p known h))
 
   pub exchange-valid : Valid (evenScheme sum N K S) (evenExchange N K server wanted other key)
   unfolding evenExchange
@@ -60,7 +64,8 @@ module _ (sum : Sum) (N K S : ℕ) (fits : evenFits N K S ≡ true) (server want
   unfolding exchanged
   back p h =
       ap (λ l. arranged (order N K server wanted p) (picked l (order N K server other p))) (exchange-at p h)
-      ∙ carried-back (N ^ K) (order N K server other p) (order N K server wanted p) (permutation N K key p) (order-permutation N K server wide there other p known′ h) (order-permutation N K server wide there wanted p known h)
+      ∙ carried-back (N ^ K) (order N K server other p) (order N K server wanted p) (permutation N K key p)
+      (order-permutation N K server wide there other p known′ h) (order-permutation N K server wide there wanted p known h)
       (key-permutation sum N K S key valid p h .long)
 
   same-labels : map (λ cell. cell .0) (queryCells N K other server) ≡ map (λ cell. cell .0) (queryCells N K wanted server)
@@ -68,16 +73,19 @@ module _ (sum : Sum) (N K S : ℕ) (fits : evenFits N K S ≡ true) (server want
 
   -- what the exchanged key has at message p's places for `other` is what the key has at those for `wanted`
   shown : (p : ℕ) → p < K
-      → map (entryAt N K (evenExchange N K server wanted other key) p) (under p (queryCells N K other server)) ≡ map (entryAt N K key p) (under p (queryCells N K wanted server))
+      → map (entryAt N K (evenExchange N K server wanted other key) p) (under p (queryCells N K other server))
+      ≡ map (entryAt N K key p) (under p (queryCells N K wanted server))
   unfolding entryAt exchanged order picked
   shown p h =
       ap (λ l. picked l (under p (queryCells N K other server))) (exchange-at p h)
-      ∙ carried-shown (N ^ K) (under p (queryCells N K other server)) (under p (queryCells N K wanted server)) (order-permutation N K server wide there other p known′ h)
+      ∙ carried-shown (N ^ K) (under p (queryCells N K other server)) (under p (queryCells N K wanted server))
+      (order-permutation N K server wide there other p known′ h)
       (under-length p (queryCells N K other server) (queryCells N K wanted server) same-labels) (permutation N K key p)
 
   pub exchange-back : evenExchange N K server other wanted (evenExchange N K server wanted other key) ≡ key
   unfolding evenExchange
-  exchange-back = key-same K (exchanged N K server other wanted (evenExchange N K server wanted other key)) (permutation N K key) back ∙ key-whole sum N K S key valid
+  exchange-back =
+      key-same K (exchanged N K server other wanted (evenExchange N K server wanted other key)) (permutation N K key) back ∙ key-whole sum N K S key valid
 
   pub exchange-shown : evenScheme sum N K S .query other server (evenExchange N K server wanted other key) ≡ evenScheme sum N K S .query wanted server key
   unfolding evenQuery

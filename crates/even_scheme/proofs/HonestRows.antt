@@ -1,4 +1,5 @@
--- What the honest servers answer: for each row of the query the total of the symbols that its places name through the key.
+-- What the honest servers answer: for each row of the query the total of the symbols that its places name through the key
+-- (`honest-row`). Rests on the sets of a query's rows, which the server knows.
 use mathlib.Core.Path.{_≡_, refl, sym, ap, _∙_}
 use mathlib.Core.Bool.{Bool}
 use mathlib.Core.List.{List, [], _∷_, _++_, map, map-append, flatMap, zipWith}
@@ -18,8 +19,7 @@ use Rattle.symbol.specs.Group.{AbelianGroup, Symbols, none, more}
 use Rattle.symbol.specs.Sum.{Sum, total}
 use Rattle.symbol.proofs.Totals.{total-symbol}
 use Rattle.scheme.specs.Scheme.{Valid, honestAnswers}
-use Rattle.even_places.specs.Sets.{onesIn, members}
-use Rattle.even_places.specs.Rule.{Row, isSome, rows, cells, queryCells, layout, firstRow}
+use Rattle.even_places.specs.Rule.{onesIn, members, Row, isSome, cells, rows, queryCells, layout, firstRow}
 use Rattle.even_places.proofs.Flat.{cells-messages, rows-long}
 use Rattle.even_places.proofs.Joined.{same-layout}
 use Rattle.even_places.proofs.RowNumbers.{setRows, row-number}
@@ -56,7 +56,8 @@ module _ (sum : Sum) (N K S : ℕ) (store key : List ℕ) where
       (ap (λ (l : List ℕ). rowTotal r ++ l) (rows-answered rs))
     where
       rest : drop (onesIn (setOf r)) (map cellNumber (cells 0 r) ++ map cellNumber (flatMap (cells 0) rs)) ≡ map cellNumber (flatMap (cells 0) rs)
-      rest = drop-at (map cellNumber (cells 0 r)) (map cellNumber (flatMap (cells 0) rs)) (onesIn (setOf r)) (length-map (cells 0 r) cellNumber ∙ cells-length 0 r)
+      rest = drop-at (map cellNumber (cells 0 r)) (map cellNumber (flatMap (cells 0) rs)) (onesIn (setOf r))
+          (length-map (cells 0 r) cellNumber ∙ cells-length 0 r)
 
   answer-rows : (k n : ℕ) → 1 < N → k < K → n < N → evenAnswer sum N K S store (evenQuery N K k n key) ≡ flatMap rowTotal (rows N K k n)
   unfolding evenAnswer evenQuery queryCells cellNumber
@@ -97,9 +98,10 @@ module _ (sum : Sum) (N K S k : ℕ) (store key : List ℕ) (run : Retrieval sum
       ≡ rowTotal sum N K S store key (getD (setRows N K k n A) i [])
   unfolding answeredRow honestAnswers rowTotal
   honest-row n l A i set-good h =
-      ap (cut ((firstRow A (layout N K) + i) * S) S) (mapped-at (λ m. evenAnswer sum N K S store (evenQuery N K k m key)) [] N n l ∙ answer-rows sum N K S store key k n (run .wide) (run .known) l)
+      ap (cut ((firstRow A (layout N K) + i) * S) S)
+      (mapped-at (λ m. evenAnswer sum N K S store (evenQuery N K k m key)) [] N n l ∙ answer-rows sum N K S store key k n (run .wide) (run .known) l)
       ∙ flatMap-cut (rowTotal sum N K S store key) S []
-      (All-imp (λ r e. total-symbol sum S (run .group) (row-symbols r e) .long) (rows-long N K k (run .wide) (run .known) n))
+      (All-imp (λ r e. total-symbol sum S (run .group) (row-symbols r e) .long) (rows-long N K k (run .wide) (run .known) n l))
       (firstRow A (layout N K) + i) (number .0)
       ∙ ap (rowTotal sum N K S store key) (number .1)
     where

@@ -11,7 +11,6 @@ pub mod HonestRows
 pub mod RowSymbols
 pub mod Recovery
 pub mod Once
-pub mod Assembled
 pub mod Covers
 pub mod Recovers
 pub mod Written

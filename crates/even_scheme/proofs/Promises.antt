@@ -11,7 +11,8 @@ use Rattle.symbol.specs.Group.{AbelianGroup}
 use Rattle.symbol.specs.Sum.{Sum}
 use Rattle.scheme.specs.Laws.{Laws}
 use Rattle.scheme.specs.Scheme.{Valid, answersIn, recoverIn}
-use Rattle.even_scheme.specs.Even.{assemble, recoveredParts, evenScheme}
+use Rattle.lists.specs.Assembled.{assemble}
+use Rattle.even_scheme.specs.Even.{recoveredParts, evenScheme}
 use Rattle.even_scheme.proofs.Answers.{answer-length, answer-fits}
 use Rattle.even_scheme.proofs.Exchange.{evenExchange, exchange-valid, exchange-back, exchange-shown}
 use Rattle.even_scheme.proofs.Measures.{servers-some, servers-fit, key-fits, store-whole}

@@ -1,4 +1,5 @@
 -- Nothing that is admitted is out of reach: for each server, wanted message and admitted query, a valid key gives the query (`reach`).
+-- The key is the query's numbers, completed to permutations.
 use Prim.Native.Nat.{ℕ, _*_, _-_, _^_, _<_}
 use mathlib.Core.Path.{_≡_, ap, _∙_}
 use mathlib.Core.Bool.{true, _&&_}
@@ -76,7 +77,8 @@ module _ (sum : Sum) (N K S : ℕ) (fits : evenFits N K S ≡ true) (server want
       arranged-permutation (N ^ K) (order N K server wanted p) (named N K query p) (order-permutation N K server wide there wanted p known h)
       (named-permutation N K query (admitted N K server query admits) p h)
 
-  reached-shown : (p : ℕ) → p < K → picked (permutation N K (reached N K server wanted query) p) (under p (queryCells N K wanted server)) ≡ numbersOf N K p query
+  reached-shown : (p : ℕ) → p < K
+      → picked (permutation N K (reached N K server wanted query) p) (under p (queryCells N K wanted server)) ≡ numbersOf N K p query
   unfolding reached reachedAt named order
   reached-shown p h =
       ap (λ l. picked l (under p (queryCells N K wanted server))) (key-of sum N K S (reachedAt N K server wanted query) reached-permutation p h)

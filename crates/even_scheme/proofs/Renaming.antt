@@ -28,7 +28,8 @@ module _ (N K : ℕ) where
   renamed query other key = keyOf K (renamedAt query other key)
 
 module _ (sum : Sum) (N K S : ℕ) (fits : evenFits N K S ≡ true) (server wanted : ℕ) (query other key : List ℕ)
-    (there : server < N) (known : wanted < K) (admits : evenScheme sum N K S .admits server query ≡ true) (admits′ : evenScheme sum N K S .admits server other ≡ true)
+    (there : server < N) (known : wanted < K) (admits : evenScheme sum N K S .admits server query ≡ true)
+    (admits′ : evenScheme sum N K S .admits server other ≡ true)
     (gives : Gives sum N K S server wanted query key) where
   wide : 1 < N
   wide = even-bounds N K S fits .servers-low
@@ -57,7 +58,8 @@ module _ (sum : Sum) (N K S : ℕ) (fits : evenFits N K S ≡ true) (server want
       let rename = arranged (named N K query p) (named N K other p) in
       let long : length P ≡ N ^ K = key-permutation sum N K S key (gives .valid) p h .long in
       let many : length (numbersOf N K p query) ≡ length (numbersOf N K p other) =
-      sym (numbers-many N K wanted server wide known there p query (admitted N K server query admits .long)) ∙ numbers-many N K wanted server wide known there p other (admitted N K server other admits′ .long) in
+      sym (numbers-many N K wanted server wide known there p query (admitted N K server query admits .long))
+      ∙ numbers-many N K wanted server wide known there p other (admitted N K server other admits′ .long) in
       ap (λ l. picked l places) (renamed-at p h)
       ∙ picked-picked rename P places (λ i l. subst (λ (n : ℕ). getD places i 0 < n) (sym long) (places-below N K wanted wide known server there p h i l))
       ∙ ap (picked rename) (sym (query-numbers N K wanted server wide known there p key) ∙ ap (numbersOf N K p) (gives .shown))
@@ -76,9 +78,11 @@ module _ (sum : Sum) (N K S : ℕ) (fits : evenFits N K S ≡ true) (server want
   unfolding renamedAt
   renamed-undone p h =
       ap (picked (arranged (named N K other p) (named N K query p))) (renamed-at p h)
-      ∙ renamed-back (N ^ K) (named N K query p) (named N K other p) (permutation N K key p) (names p h) (names′ p h) (permutation-tests (N ^ K) (permutation N K key p) (key-permutation sum N K S key (gives .valid) p h) .0)
+      ∙ renamed-back (N ^ K) (named N K query p) (named N K other p) (permutation N K key p) (names p h) (names′ p h)
+      (permutation-tests (N ^ K) (permutation N K key p) (key-permutation sum N K S key (gives .valid) p h) .0)
 
   -- and the opposite renaming takes them back: so there are equally many of either
   pub renamed-once : renamed N K other query (renamed N K query other key) ≡ key
   unfolding renamed
-  renamed-once = key-same K (renamedAt N K other query (renamed N K query other key)) (permutation N K key) renamed-undone ∙ key-whole sum N K S key (gives .valid)
+  renamed-once =
+      key-same K (renamedAt N K other query (renamed N K query other key)) (permutation N K key) renamed-undone ∙ key-whole sum N K S key (gives .valid)

@@ -1,5 +1,5 @@
--- The symbol of the wanted message in a row's total: a row with no other message is that symbol, and any other is one symbol more
--- than the row without that message.
+-- The symbol of the wanted message in a row's total: a row with no other message is that symbol (`row-alone`), and any other is one
+-- symbol more than the row without that message (`row-more`).
 use mathlib.Core.Path.{_≡_, refl, sym, ap, _∙_}
 use mathlib.Core.List.{List, [], _∷_, _++_, map, map-append}
 use mathlib.Core.Option.{none, some, Option·some-injective}
@@ -10,8 +10,7 @@ use lib.ListN.{length, getD, set, length-append, length-map}
 use Rattle.symbol.specs.Group.{Symbols, none, more}
 use Rattle.symbol.specs.Sum.{Symbol, Sum, total, totalFrom}
 use Rattle.symbol.proofs.Totals.{total-found}
-use Rattle.even_places.specs.Sets.{onesIn}
-use Rattle.even_places.specs.Rule.{Row, cells}
+use Rattle.even_places.specs.Rule.{onesIn, Row, cells}
 use Rattle.even_places.proofs.SetLaws.{setOf, cells-length}
 use Rattle.even_scheme.specs.Even.{entryAt, symbolOf}
 use Rattle.even_scheme.proofs.HonestRows.{cellNumber, cellSymbol, rowTotal, Retrieval, row-symbols}
@@ -56,11 +55,13 @@ around q (suc k) x (some y ∷ r) e =
       without = ap (λ (l : List (ℕ × ℕ)). (q, y) ∷ l) (rest .without);
     }
 
-symbols-split : {size : ℕ} (xs : List (List ℕ)) {x : List ℕ} {ys : List (List ℕ)} → Symbols size (xs ++ x ∷ ys) → Symbols size xs × Symbol size x × Symbols size ys
+symbols-split : {size : ℕ} (xs : List (List ℕ)) {x : List ℕ} {ys : List (List ℕ)} → Symbols size (xs ++ x ∷ ys)
+    → Symbols size xs × Symbol size x × Symbols size ys
 symbols-split [] (more p ps) = (none, p, ps)
 symbols-split (y ∷ xs) (more p ps) = let rest = symbols-split xs ps in (more p (rest .0), rest .1, rest .2)
 
-module _ (sum : Sum) (N K S k : ℕ) (store key : List ℕ) (run : Retrieval sum N K S k store key) (r : Row) (x : ℕ) (long : length r ≡ K) (place : getD r k none ≡ some x) where
+module _ (sum : Sum) (N K S k : ℕ) (store key : List ℕ) (run : Retrieval sum N K S k store key) (r : Row) (x : ℕ) (long : length r ≡ K)
+    (place : getD r k none ≡ some x) where
   around-wanted : Around 0 k x r
   around-wanted = around 0 k x r place
 

@@ -1,4 +1,5 @@
--- The symbols that a valid key's numbers name: each lies whole in the store, and in its message at its number.
+-- The symbols that a valid key's numbers name: each lies whole in the store (`symbol-long`, `symbol-symbol`), and in its message at
+-- its number (`symbol-part`).
 use mathlib.Core.Path.{_≡_, sym, ap, _∙_}
 use mathlib.Core.Bool.{true}
 use mathlib.Core.List.{List}
@@ -49,7 +50,8 @@ module _ (sum : Sum) (N K S : ℕ) (store : List ℕ) (long : length store ≡ K
 
   pub symbol-symbol : Below 256 store → Symbol S (symbolOf sum N K S store p i)
   unfolding symbolOf
-  symbol-symbol bytes = record { long = symbol-long; bytes = below-take 256 S (drop ((p * N ^ K + i) * S) store) (below-drop 256 ((p * N ^ K + i) * S) store bytes) }
+  symbol-symbol bytes =
+      record { long = symbol-long; bytes = below-take 256 S (drop ((p * N ^ K + i) * S) store) (below-drop 256 ((p * N ^ K + i) * S) store bytes) }
 
   -- symbol i of message p is that part of the message
   pub symbol-part : symbolOf sum N K S store p i ≡ cut (i * S) S (cut (p * (N ^ K * S)) (N ^ K * S) store)

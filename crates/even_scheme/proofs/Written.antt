@@ -19,14 +19,14 @@ use Rattle.parameters.proofs.Bounds.{EvenBounds, even-bounds}
 use Rattle.symbol.specs.Sum.{Sum, zeros}
 use Rattle.symbol.specs.Group.{KeepsLength}
 use Rattle.scheme.specs.Scheme.{Valid, answersIn, recoverIn}
-use Rattle.even_places.specs.Sets.{onesIn}
-use Rattle.even_places.specs.Rule.{others, firstRow, layout}
+use Rattle.even_places.specs.Rule.{onesIn, others, layout, firstRow}
 use Rattle.even_places.proofs.Counts.{rows-length}
 use Rattle.even_places.proofs.RowNumbers.{row-number}
 use Rattle.even_places.proofs.SourceRows.{source-row}
 use Rattle.even_places.proofs.AllSets.{IsSet}
-use Rattle.even_scheme.specs.Even.{assemble, answeredRow, sourceServer, sourceRow, recoveredSymbol, recoveredParts, evenScheme}
-use Rattle.even_scheme.proofs.Assembled.{PartWithin, assemble-anywhere}
+use Rattle.lists.specs.Assembled.{assemble}
+use Rattle.even_scheme.specs.Even.{answeredRow, sourceServer, sourceRow, recoveredSymbol, recoveredParts, evenScheme}
+use Rattle.lists.proofs.Assembled.{PartWithin, assemble-anywhere}
 use Rattle.even_scheme.proofs.Covers.{Whole, parts-within, parts-cover}
 use Rattle.even_scheme.proofs.Measures.{rows-counted}
 
@@ -34,7 +34,8 @@ use Rattle.even_scheme.proofs.Measures.{rows-counted}
 abbrev pub FullAnswers : ℕ → ℕ → ℕ → List (List ℕ) → Type 0
 FullAnswers N K S answers = (n : ℕ) → n < N → length (getD answers n []) ≡ evenRows N K * S
 
-module _ (sum : Sum) (N K S k : ℕ) (keeps : KeepsLength (sum .minus) S) (wide : 1 < N) (known : k < K) (answers : List (List ℕ)) (long : FullAnswers N K S answers) where
+module _ (sum : Sum) (N K S k : ℕ) (keeps : KeepsLength (sum .minus) S) (wide : 1 < N) (known : k < K) (answers : List (List ℕ))
+    (long : FullAnswers N K S answers) where
   -- row i of set A lies whole in a server's answer
   answered-long : (n : ℕ) → n < N → (A : List Bool) → IsSet K A → (i : ℕ) → i < (N - 1) ^ (onesIn A - 1)
       → length (answeredRow sum N K S k answers n (firstRow A (layout N K) + i)) ≡ S
@@ -42,7 +43,12 @@ module _ (sum : Sum) (N K S k : ℕ) (keeps : KeepsLength (sum .minus) S) (wide 
   answered-long n l A good i h =
       let row = firstRow A (layout N K) + i in
       let below : row < evenRows N K =
-      omega (arith, row-number N K k wide known n l A i good h .0, rows-length N K k wide known n l, rows-counted N K wide (let w : 0 < K = omega arith in w)) in
+      omega (
+        arith,
+        row-number N K k wide known n l A i good h .0,
+        rows-length N K k wide known n l,
+        rows-counted N K wide (let w : 0 < K = omega arith in w),
+      ) in
       cut-length (row * S) S (getD answers n []) (omega (arith, suc-mul row S, mul-le-mul-right S below, long n l))
 
   recovered-whole : Whole sum N K S k answers

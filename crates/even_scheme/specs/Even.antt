@@ -6,7 +6,9 @@ use mathlib.Core.List.{List, [], _∷_, _++_, map, flatMap, zip, zipWith}
 use mathlib.Core.Option.{Option, none, some}
 use lib.Dec.{eqb}
 use lib.ListN.{length, getD, set, drop}
-use Rattle.lists.specs.Parts.{cut, put}
+use Rattle.lists.specs.Parts.{cut}
+use Rattle.lists.specs.Assembled.{Part}
+unfoldable pub use Rattle.lists.specs.Assembled.{assemble}
 use Rattle.lists.specs.Ranges.{range, every}
 use Rattle.lists.specs.Below.{allBelow}
 use Rattle.lists.specs.Sums.{keep}
@@ -14,8 +16,7 @@ use Rattle.lists.specs.Distinct.{distinct, isPermutation}
 use Rattle.parameters.specs.Measures.{evenSizes, evenRows}
 use Rattle.symbol.specs.Sum.{Sum, zeros, symbolAt, total}
 use Rattle.scheme.specs.Scheme.{Scheme}
-use Rattle.even_places.specs.Sets.{has, onesIn, members, allSets}
-use Rattle.even_places.specs.Rule.{others, rows, queryCells, layout, positions, firstRow}
+use Rattle.even_places.specs.Rule.{has, onesIn, members, others, rows, queryCells, allSets, layout, positions, firstRow}
 
 -- ---- The key: K permutations, message 0's first
 
@@ -70,11 +71,6 @@ abbrev placeOf : Option ℕ → ℕ
 placeOf none = 0
 placeOf (some place) = place
 
--- parts written into a buffer, one after another: where each begins, and its bytes
-unfoldable pub assemble : List (ℕ × List ℕ) → List ℕ → List ℕ
-assemble [] buffer = buffer
-assemble (part ∷ parts) buffer = assemble parts (put (part .0) (part .1) buffer)
-
 module _ (sum : Sum) (N K S wanted : ℕ) where
   -- the combined symbol of a row in a server's answer
   unfoldable pub answeredRow : List (List ℕ) → ℕ → ℕ → List ℕ
@@ -101,15 +97,15 @@ module _ (sum : Sum) (N K S wanted : ℕ) where
   wantedPlace server A i = placeOf (getD (getD (rows N K wanted server) (firstRow A (layout N K) + i) []) wanted none)
 
   -- the part of the message that row i of set A at a server gives: its symbol's offset and bytes
-  unfoldable pub recoveredPart : List ℕ → List (List ℕ) → ℕ → List Bool → ℕ → ℕ × List ℕ
+  unfoldable pub recoveredPart : List ℕ → List (List ℕ) → ℕ → List Bool → ℕ → Part
   recoveredPart key answers server A i = (entryAt N K key wanted (wantedPlace server A i) * S, recoveredSymbol answers server A i)
 
   -- those of all rows with the wanted message at a server, and at all servers
-  unfoldable pub serverParts : List ℕ → List (List ℕ) → ℕ → List (ℕ × List ℕ)
+  unfoldable pub serverParts : List ℕ → List (List ℕ) → ℕ → List Part
   serverParts key answers server =
       flatMap (λ A. map (recoveredPart key answers server A) (range 0 ((N - 1) ^ (onesIn A - 1)))) (keep (has wanted) (allSets K))
 
-  unfoldable pub recoveredParts : List ℕ → List (List ℕ) → List (ℕ × List ℕ)
+  unfoldable pub recoveredParts : List ℕ → List (List ℕ) → List Part
   recoveredParts key answers = flatMap (serverParts key answers) (range 0 N)
 
 abbrev pub evenScheme : Sum → ℕ → ℕ → ℕ → Scheme

@@ -7,7 +7,7 @@ use lib.Count.{ones as count, ones-le}
 use lib.Dec.{eqb}
 use Rattle.lists.specs.Below.{Below}
 use Rattle.lists.proofs.Writing.{Pending, pending-start, pending-as, pending-ends, pending-done}
-use Rattle.even_places.specs.Sets.{onesIn}
+use Rattle.even_places.specs.Rule.{onesIn}
 use Rattle.even_layout.specs.Layout.{setIn}
 use Rattle.even_ranks.specs.Walk.{setPlaces}
 use Rattle.even_ranks.proofs.Steps.{stands-count}
@@ -44,7 +44,8 @@ turn-at c =
     let joined = at .before .before .is-joined in
     let start = at .before .before .before .before .before .before .before in
     let asks = start .pre .0 in
-    row-turn (start .pre .2) (asks .bounds .servers-low) (asks .bounds .messages-high) (omega (arith, rows-at at)) (joined .ensures) (c .origin .ensures) (at .loop .inv .1) (at .loop .inv .2)
+    row-turn (start .pre .2) (asks .bounds .servers-low) (asks .bounds .messages-high) (omega (arith, rows-at at)) (joined .ensures) (c .origin .ensures)
+    (at .loop .inv .1) (at .loop .inv .2)
 
 cast-ones : tie.Need-cast-ones Inv-loop μ-loop
 cast-ones c = omega (arith, ones-le 8 (c .before .before .before .before .args .set) (search needs))
