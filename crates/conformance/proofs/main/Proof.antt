@@ -13,7 +13,7 @@ abbrev μ-loop : tie.MeasureT-loop
 μ-loop n text key₀ store₀ query₀ answer₀ answers₀ message₀ s₀ at₀ turn₀ key store query answer answers message s at turn = 131072 - turn
 
 slice-aggregate-read-full : tie.Need-slice-aggregate-read-full Inv-loop μ-loop
-slice-aggregate-read-full c = search (needs, taken)
+slice-aggregate-read-full c = search needs
 
 read-full-requires : tie.Need-read-full-requires Inv-loop μ-loop
 read-full-requires c κs = search needs
@@ -25,22 +25,22 @@ slice-aggregate-text : tie.Need-slice-aggregate-text Inv-loop μ-loop
 slice-aggregate-text c = search (needs, taken)
 
 slice-aggregate-key : tie.Need-slice-aggregate-key Inv-loop μ-loop
-slice-aggregate-key c = search (needs, taken)
+slice-aggregate-key c = search needs
 
 slice-aggregate-store : tie.Need-slice-aggregate-store Inv-loop μ-loop
-slice-aggregate-store c = search (needs, taken)
+slice-aggregate-store c = search needs
 
 slice-aggregate-query : tie.Need-slice-aggregate-query Inv-loop μ-loop
-slice-aggregate-query c = search (needs, taken)
+slice-aggregate-query c = search needs
 
 slice-aggregate-answer : tie.Need-slice-aggregate-answer Inv-loop μ-loop
-slice-aggregate-answer c = search (needs, taken)
+slice-aggregate-answer c = search needs
 
 slice-aggregate-answers : tie.Need-slice-aggregate-answers Inv-loop μ-loop
-slice-aggregate-answers c = search (needs, taken)
+slice-aggregate-answers c = search needs
 
 slice-aggregate-message : tie.Need-slice-aggregate-message Inv-loop μ-loop
-slice-aggregate-message c = search (needs, taken)
+slice-aggregate-message c = search needs
 
 first-requires : tie.Need-first-requires Inv-loop μ-loop
 first-requires c κs = search needs

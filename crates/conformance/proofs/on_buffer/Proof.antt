@@ -1,7 +1,6 @@
 -- `on_buffer` is safe: each part that is lent is no longer than its buffer.
 use Rattle.trials.proofs.Taken.{taken}
 use borrow.Author.Needs.{needs}
-use lib.ListN.{length}
 use Rattle.conformance.proofs.on_buffer.Statement.{statement}
 use Rattle.conformance.proofs.on_buffer.Tie as tie
 

@@ -7,6 +7,7 @@ use native.Mathlib.Omega.{arith}
 use borrow.Author.Needs.{needs}
 use lib.ListN.{length, take, drop, set, getD, length-set, drop-of-length-le}
 use lib.Seq.{take-all}
+use Rattle.lists.specs.Below.{allBelow}
 use Rattle.lists.proofs.Below.{allBelow-below}
 use Rattle.lists.proofs.Puts.{copy-more}
 use Rattle.number_lists.specs.NumberLists.{numbersAt, listOf}
@@ -22,6 +23,8 @@ filled numbers first i h k =
 
 -- after i turns, over the numbers that are written and the buffer at first
 record Filled (text numbers first : List ℕ) (out : List ℕ) (at i : ℕ) : Type 0 where
+  many : length numbers ≡ length first
+  bytes : allBelow 256 numbers ≡ true
   few : i ≤ length first
   written : out ≡ take i numbers ++ drop i first
   same : length out ≡ length first
@@ -35,8 +38,17 @@ abbrev μ-loop : tie.MeasureT-loop
 
 loop-holds : tie.Need-loop-holds Inv-loop μ-loop
 loop-holds c =
-    let a = c .before .before .args in
-    record { few = omega arith; written = refl; same = refl; left = left-first (a .text .now) (a .start) }
+    let from = c .before .before in
+    let a = from .args in
+    let scanned = scanned-list (numbersAt (a .text .now) (a .start)) (length (a .out .now)) true (from .pre) in
+    record {
+      many = scanned .0;
+      bytes = scanned .1;
+      few = omega arith;
+      written = refl;
+      same = refl;
+      left = left-first (a .text .now) (a .start);
+    }
 
 number-at-requires : tie.Need-number-at-requires Inv-loop μ-loop
 number-at-requires c κs =
@@ -57,26 +69,20 @@ same-length c =
 returns : tie.Need-returns Inv-loop μ-loop
 returns c =
     let at = c .before .before .before .before .loop in
-    let from = c .before .before .before .before .before .before .before in
-    let a = from .args in
+    let a = c .before .before .before .before .before .before .before .args in
     let numbers = listOf (numbersAt (a .text .now) (a .start)) in
-    let all = scanned-list (numbersAt (a .text .now) (a .start)) (length (a .out .now)) true (from .pre) in
-    let count : length numbers ≡ length (a .out .now) = all .0 in
-    let same = at .inv .same in
-    next-there (a .text .now) numbers (at .at) (at .i) (at .inv .left) (omega arith) (sym (c .before .before .number-at .ensures) ∙ c .enum-told .given .1)
+    let inv = at .inv in
+    next-there (a .text .now) numbers (at .at) (at .i) (inv .left) (omega arith) (sym (c .before .before .number-at .ensures) ∙ c .enum-told .given .1)
 
 cast-out : tie.Need-cast-out Inv-loop μ-loop
 cast-out c =
     let at = c .before .before .before .before .before .loop in
-    let from = c .before .before .before .before .before .before .before .before in
-    let a = from .args in
+    let a = c .before .before .before .before .before .before .before .before .args in
     let numbers = listOf (numbersAt (a .text .now) (a .start)) in
-    let all = scanned-list (numbersAt (a .text .now) (a .start)) (length (a .out .now)) true (from .pre) in
-    let count : length numbers ≡ length (a .out .now) = all .0 in
-    let same = at .inv .same in
+    let inv = at .inv in
     let here = sym (c .before .before .before .number-at .ensures) ∙ c .before .value .given .1 in
-    let v = next-value (a .text .now) numbers (at .at) (at .i) (at .inv .left) (omega arith) _ _ here in
-    let b = allBelow-below 256 numbers (all .1) (at .i) (omega arith) in
+    let v = next-value (a .text .now) numbers (at .at) (at .i) (inv .left) (omega arith) _ _ here in
+    let b = allBelow-below 256 numbers (inv .bytes) (at .i) (omega arith) in
     omega arith
 
 slice-write-out : tie.Need-slice-write-out Inv-loop μ-loop
@@ -86,12 +92,7 @@ slice-write-out c =
 add-at : tie.Need-add-at Inv-loop μ-loop
 add-at c =
     let at = c .before .before .before .before .before .loop in
-    let from = c .before .before .before .before .before .before .before .before in
-    let a = from .args in
-    let numbers = listOf (numbersAt (a .text .now) (a .start)) in
-    let all = scanned-list (numbersAt (a .text .now) (a .start)) (length (a .out .now)) true (from .pre) in
-    let count : length numbers ≡ length (a .out .now) = all .0 in
-    let same = at .inv .same in
+    let a = c .before .before .before .before .before .before .before .before .args in
     let here = sym (c .before .before .before .number-at .ensures) ∙ c .before .value .given .1 in
     let w = numeral-within (a .text .now) (at .at) _ _ here in
     omega arith
@@ -107,22 +108,21 @@ loop-less c =
 loop-again : tie.Need-loop-again Inv-loop μ-loop
 loop-again c =
     let at = c .before .before .before .before .before .loop in
-    let from = c .before .before .before .before .before .before .before .before in
-    let a = from .args in
+    let a = c .before .before .before .before .before .before .before .before .args in
     let numbers = listOf (numbersAt (a .text .now) (a .start)) in
-    let all = scanned-list (numbersAt (a .text .now) (a .start)) (length (a .out .now)) true (from .pre) in
-    let count : length numbers ≡ length (a .out .now) = all .0 in
-    let same = at .inv .same in
+    let inv = at .inv in
     let here = sym (c .before .before .before .number-at .ensures) ∙ c .before .value .given .1 in
-    let v = next-value (a .text .now) numbers (at .at) (at .i) (at .inv .left) (omega arith) _ _ here in
+    let v = next-value (a .text .now) numbers (at .at) (at .i) (inv .left) (omega arith) _ _ here in
     record {
+      many = inv .many;
+      bytes = inv .bytes;
       few = omega arith;
       written =
           ap (λ (n : ℕ). set (at .out) (at .i) n) v
-          ∙ ap (λ (l : List ℕ). set l (at .i) (getD numbers (at .i) 0)) (at .inv .written)
+          ∙ ap (λ (l : List ℕ). set l (at .i) (getD numbers (at .i) 0)) (inv .written)
           ∙ copy-more numbers (a .out .now) (at .i) (omega arith) (omega arith);
-      same = length-set (at .out) (at .i) _ ∙ same;
-      left = next-left (a .text .now) numbers (at .at) (at .i) (at .inv .left) (omega arith) _ _ here;
+      same = length-set (at .out) (at .i) _ ∙ inv .same;
+      left = next-left (a .text .now) numbers (at .at) (at .i) (inv .left) (omega arith) _ _ here;
     }
 
 same-length-2 : tie.Need-same-length-2 Inv-loop μ-loop
@@ -132,14 +132,11 @@ same-length-2 c =
 returns-2 : tie.Need-returns-2 Inv-loop μ-loop
 returns-2 c =
     let at = c .before .loop in
-    let from = c .before .before .before .before in
-    let a = from .args in
+    let a = c .before .before .before .before .args in
     let numbers = listOf (numbersAt (a .text .now) (a .start)) in
-    let all = scanned-list (numbersAt (a .text .now) (a .start)) (length (a .out .now)) true (from .pre) in
-    let count : length numbers ≡ length (a .out .now) = all .0 in
-    let same = at .inv .same in
-    let end : at .i ≡ length (a .out .now) = let few = at .inv .few in omega arith in
-    at .inv .written ∙ filled numbers (a .out .now) (at .i) (omega arith) (omega arith)
+    let inv = at .inv in
+    let end : at .i ≡ length (a .out .now) = omega arith in
+    inv .written ∙ filled numbers (a .out .now) (at .i) (omega arith) (omega arith)
 
 pub put-numbers-spec : {M : Type 1} → statement M
 put-numbers-spec =
