@@ -2,6 +2,7 @@
 use catalogue::Catalogue;
 use catalogue::Code;
 use catalogue::Measured;
+use symbol::Operation;
 ghost use mathlib.Core.Path.{_≡_};
 ghost use mathlib.Core.Bool.{true};
 ghost use Prim.Native.Nat.{_*_, _≤_, _<_};
@@ -51,18 +52,40 @@ pub fn admits(c: Catalogue, server: usize, query: &[u8]) -> bool
     }
 }
 
+// The bytes of an answer slot.
+fn slot(c: Catalogue) -> usize
+    requires { ⌜ Admitted c ⌝ }
+    ensures { λ r. ⌜ r ≡ schemeOf c .sizes .slot ⌝ }
+{
+    let Measured::Of(sizes) = catalogue::sizes(c) else {
+        return 0;
+    };
+    sizes.slot
+}
+
 // The bytes that the query calls for.
 pub fn answer_length(c: Catalogue, query: &[u8]) -> usize
     requires { ⌜ Admitted c ⌝ }
     ensures { λ r. ⌜ r ≡ schemeOf c .answerLength (now (query .entry)) ⌝ }
 {
-    let Measured::Of(sizes) = catalogue::sizes(c) else {
-        return 0;
-    };
     let code = c.code;
     match code {
         Code::Short => short_code::answer_length(c.symbol, query),
-        Code::Even => sizes.slot,
+        Code::Even => slot(c),
+    }
+}
+
+// The bytes that a server's query for the wanted message calls for, without making the query.
+pub fn expected_length(c: Catalogue, wanted: usize, server: usize, key: &[u8]) -> usize
+    requires { ⌜ Admitted c ⌝ }
+    requires { ⌜ (wanted < c .messages) × (server < c .servers) ⌝ }
+    requires { ⌜ Valid (schemeOf c) (now key) ⌝ }
+    ensures { λ r. ⌜ r ≡ schemeOf c .answerLength (schemeOf c .query wanted server (now (key .entry))) ⌝ }
+{
+    let code = c.code;
+    match code {
+        Code::Short => short_code::expected_length(c.servers, c.symbol, wanted, server, key),
+        Code::Even => slot(c),
     }
 }
 
@@ -74,10 +97,11 @@ pub fn answer(c: Catalogue, server: usize, store: &[u8], query: &[u8], out: &mut
     requires { ⌜ schemeOf c .answerLength (now query) ≤ length (now out) ⌝ }
     ensures { λ _. ⌜ now (out .exit) ≡ put 0 (schemeOf c .answer (now (store .entry)) (now (query .entry))) (now (out .entry)) ⌝ }
 {
+    let op = Operation::ExclusiveOr;
     let code = c.code;
     match code {
-        Code::Short => short_code::answer(c.servers, c.messages, c.symbol, store, query, out),
-        Code::Even => even_answer::answer(c.servers, c.messages, c.symbol, store, query, out),
+        Code::Short => short_code::answer(op, c.servers, c.messages, c.symbol, store, query, out),
+        Code::Even => even_answer::answer(op, c.servers, c.messages, c.symbol, store, query, out),
     }
 }
 
@@ -90,9 +114,11 @@ pub fn recover(c: Catalogue, wanted: usize, key: &[u8], answers: &[u8], message:
     requires { ⌜ schemeOf c .sizes .message ≤ length (now message) ⌝ }
     ensures { λ _. ⌜ now (message .exit) ≡ put 0 (recoverIn (schemeOf c) (c .servers) wanted (now (key .entry)) (now (answers .entry))) (now (message .entry)) ⌝ }
 {
+    let op = Operation::ExclusiveOr;
     let code = c.code;
     match code {
         Code::Short => short_code::recover(
+            op,
             c.servers,
             c.messages,
             c.symbol,
@@ -102,6 +128,7 @@ pub fn recover(c: Catalogue, wanted: usize, key: &[u8], answers: &[u8], message:
             message,
         ),
         Code::Even => even_recover::recover(
+            op,
             c.servers,
             c.messages,
             c.symbol,

@@ -16,7 +16,7 @@ use Rattle.lists.proofs.Mapped.{mapped-at}
 use Rattle.lists.proofs.Cuts.{cut-cut}
 use Rattle.parameters.specs.Measures.{evenRows, evenSizes}
 use Rattle.parameters.proofs.Bounds.{EvenBounds}
-use Rattle.symbol.specs.Xor.{xor}
+use Rattle.symbol.specs.Sum.{Sum}
 use Rattle.scheme.specs.Scheme.{answersIn}
 use Rattle.even_places.specs.Sets.{has, onesIn, byteOf}
 use Rattle.even_places.specs.Rule.{rows, layout, firstRow, others}
@@ -28,9 +28,9 @@ use Rattle.even_places.proofs.SetLaws.{ones-drop}
 use Rattle.even_places.proofs.SourceRows.{Source, source-row}
 use Rattle.even_places.proofs.AllSets.{IsSet}
 use Rattle.even_scheme.specs.Even.{answeredRow, sourceServer, sourceRow, recoveredSymbol, evenScheme}
-use Rattle.even_recover.specs.declared.Reading.{Reading}
+use Rattle.even_recover.specs.declared.ServerRows.{ServerRows}
 use Rattle.even_recover.specs.declared.Group.{Group}
-use Rattle.even_recover.specs.Rows.{readingOf, rowIn, groupSymbol, groupOf, Grouped}
+use Rattle.even_recover.specs.Rows.{serverRowsOf, rowIn, groupSymbol, groupOf, Grouped}
 
 -- a server is read: parameters within their bounds, and a table with the first row of each set at the set's byte
 pub record Reads (N K S wanted server : ℕ) (firsts : List ℕ) : Type 0 where
@@ -45,11 +45,11 @@ pub record WantedSet (K wanted : ℕ) (A : List Bool) : Type 0 where
   pub has-wanted : has wanted A ≡ true
 
 -- the rows of an answer buffer are those of its slots
-row-read : (N K S wanted : ℕ) (key answers : List ℕ) (here server row : ℕ) → server < N → row < evenRows N K
-    → rowIn (readingOf N K S wanted here) answers server row
-    ≡ answeredRow xor N K S wanted (answersIn (evenScheme xor N K S) N wanted key answers) server row
+row-read : (sum : Sum) (N K S wanted : ℕ) (key answers : List ℕ) (here server row : ℕ) → server < N → row < evenRows N K
+    → rowIn (serverRowsOf N K S wanted here) answers server row
+    ≡ answeredRow sum N K S wanted (answersIn (evenScheme sum N K S) N wanted key answers) server row
 unfolding answeredRow answersIn evenSizes
-row-read N K S wanted key answers here server row known within =
+row-read sum N K S wanted key answers here server row known within =
     ap (λ (at : ℕ). cut at S answers) offset
     ∙ sym (cut-cut (row * S) S (server * (evenRows N K * S)) (evenRows N K * S) answers inside)
     ∙ ap (cut (row * S) S) (sym (mapped-at (λ m. cut (m * (evenRows N K * S)) (evenRows N K * S) answers) [] N server known))
@@ -77,8 +77,8 @@ module _ {N K S wanted server : ℕ} {firsts : List ℕ} (reads : Reads N K S wa
   some-rows b = one-le-pow b (N - 1) (omega (arith, wide))
 
   module _ {A : List Bool} (wantedSet : WantedSet K wanted A) (cell : ℕ) where
-    abbrev here : Reading
-    here = readingOf N K S wanted server
+    abbrev here : ServerRows
+    here = serverRowsOf N K S wanted server
 
     abbrev group : Group
     group = groupOf here (byteOf A) cell firsts
@@ -146,29 +146,29 @@ module _ {N K S wanted server : ℕ} {firsts : List ℕ} (reads : Reads N K S wa
 
     -- ---- What its rows give
 
-    module _ (key answers : List ℕ) where
+    module _ (sum : Sum) (key answers : List ℕ) where
       abbrev slots : List (List ℕ)
-      slots = answersIn (evenScheme xor N K S) N wanted key answers
+      slots = answersIn (evenScheme sum N K S) N wanted key answers
 
       own-is : (i : ℕ) → i < (N - 1) ^ (onesIn A - 1)
-          → rowIn here answers server (group .first + i) ≡ answeredRow xor N K S wanted slots server (firstRow A (layout N K) + i)
+          → rowIn here answers server (group .first + i) ≡ answeredRow sum N K S wanted slots server (firstRow A (layout N K) + i)
       own-is i h =
           ap (λ (r : ℕ). rowIn here answers server (r + i)) first-is
-          ∙ row-read N K S wanted key answers server server (firstRow A (layout N K) + i) (reads .server-known) (row-below A i good h)
+          ∙ row-read sum N K S wanted key answers server server (firstRow A (layout N K) + i) (reads .server-known) (row-below A i good h)
 
       from-is : (joined : 1 < onesIn A) (i : ℕ) → i < (N - 1) ^ (onesIn A - 1)
           → rowIn here answers (getD (others N server) (i / group .each) 0) (group .source + i % group .each)
-          ≡ answeredRow xor N K S wanted slots (sourceServer xor N K S wanted server A i) (sourceRow xor N K S wanted A i)
+          ≡ answeredRow sum N K S wanted slots (sourceServer sum N K S wanted server A i) (sourceRow sum N K S wanted A i)
       unfolding sourceServer sourceRow
       from-is joined i h =
           let q = (N - 1) ^ (onesIn A - 2) in
           ap₂ (λ (x r : ℕ). rowIn here answers (getD (others N server) (i / x) 0) (r + i % x)) (each-is joined) (source-is joined)
-          ∙ row-read N K S wanted key answers server (getD (others N server) (i / q) 0) (firstRow (set A wanted false) (layout N K) + i % q)
+          ∙ row-read sum N K S wanted key answers server (getD (others N server) (i / q) 0) (firstRow (set A wanted false) (layout N K) + i % q)
           (source joined i h .server-below) (source-below joined (i % q) (mod-lt i (some-rows (onesIn A - 2))))
 
-      pub group-symbol : (i : ℕ) → i < (N - 1) ^ (onesIn A - 1) → groupSymbol here group answers i ≡ recoveredSymbol xor N K S wanted slots server A i
+      pub group-symbol : (i : ℕ) → i < (N - 1) ^ (onesIn A - 1) → groupSymbol sum here group answers i ≡ recoveredSymbol sum N K S wanted slots server A i
       unfolding groupSymbol recoveredSymbol
-      group-symbol i h = ap (λ (m : ℕ). cond (eqb m 1) own (xor .minus own from)) messages-is ∙ go (eqb (onesIn A) 1) refl
+      group-symbol i h = ap (λ (m : ℕ). cond (eqb m 1) own (sum .minus own from)) messages-is ∙ go (eqb (onesIn A) 1) refl
         where
           own : List ℕ
           own = rowIn here answers server (group .first + i)
@@ -177,14 +177,14 @@ module _ {N K S wanted server : ℕ} {firsts : List ℕ} (reads : Reads N K S wa
           from = rowIn here answers (getD (others N server) (i / group .each) 0) (group .source + i % group .each)
 
           asked : List ℕ
-          asked = answeredRow xor N K S wanted slots server (firstRow A (layout N K) + i)
+          asked = answeredRow sum N K S wanted slots server (firstRow A (layout N K) + i)
 
           joined-from : List ℕ
-          joined-from = answeredRow xor N K S wanted slots (sourceServer xor N K S wanted server A i) (sourceRow xor N K S wanted A i)
+          joined-from = answeredRow sum N K S wanted slots (sourceServer sum N K S wanted server A i) (sourceRow sum N K S wanted A i)
 
-          go : (t : Bool) → eqb (onesIn A) 1 ≡ t → cond t own (xor .minus own from) ≡ cond t asked (xor .minus asked joined-from)
+          go : (t : Bool) → eqb (onesIn A) 1 ≡ t → cond t own (sum .minus own from) ≡ cond t asked (sum .minus asked joined-from)
           go true alone = own-is i h
           go false f =
               let ne : onesIn A ≢ 1 = eqb-false (onesIn A) 1 f in
               let joined : 1 < onesIn A = omega (arith, ne, good .some) in
-              ap₂ (λ (a b : List ℕ). xor .minus a b) (own-is i h) (from-is joined i h)
+              ap₂ (λ (a b : List ℕ). sum .minus a b) (own-is i h) (from-is joined i h)

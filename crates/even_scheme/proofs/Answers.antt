@@ -20,7 +20,7 @@ use Rattle.even_places.proofs.Counts.{rows-length}
 use Rattle.even_places.proofs.Joined.{same-layout}
 use Rattle.even_places.proofs.SetLaws.{setOf}
 use Rattle.even_places.proofs.AllSets.{layout-long}
-use Rattle.even_scheme.specs.Even.{symbolAt, rowAnswer, rowAnswers, evenAnswer, evenScheme}
+use Rattle.even_scheme.specs.Even.{symbolOf, rowAnswer, rowAnswers, evenAnswer, evenScheme}
 use Rattle.even_scheme.proofs.Measures.{rows-counted}
 use Rattle.even_scheme.proofs.Reach.{admitted}
 use Rattle.even_scheme.proofs.Symbols.{symbol-long}
@@ -49,7 +49,7 @@ module _ (sum : Sum) (N K S : ℕ) (keeps : KeepsLength (sum .plus) S) where
 
   module _ (store : List ℕ) (long : length store ≡ K * (N ^ K * S)) where
     named-long : {ps : List ℕ} → All (λ p. p < K) ps → (numbers : List ℕ) → Below (N ^ K) numbers
-        → All (λ x. length x ≡ S) (zipWith (symbolAt sum N K S store) ps numbers)
+        → All (λ x. length x ≡ S) (zipWith (symbolOf sum N K S store) ps numbers)
     unfolding zipWith
     named-long allNil numbers b = allNil
     named-long (allCons h a) [] b = allNil

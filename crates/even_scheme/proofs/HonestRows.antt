@@ -25,7 +25,7 @@ use Rattle.even_places.proofs.Joined.{same-layout}
 use Rattle.even_places.proofs.RowNumbers.{setRows, row-number}
 use Rattle.even_places.proofs.SetLaws.{setOf, cells-length}
 use Rattle.even_places.proofs.AllSets.{IsSet}
-use Rattle.even_scheme.specs.Even.{entryAt, evenQuery, symbolAt, rowAnswer, rowAnswers, evenAnswer, answeredRow, evenScheme}
+use Rattle.even_scheme.specs.Even.{entryAt, evenQuery, symbolOf, rowAnswer, rowAnswers, evenAnswer, answeredRow, evenScheme}
 use Rattle.even_scheme.proofs.Symbols.{number-below, symbol-symbol}
 
 module _ (sum : Sum) (N K S : ℕ) (store key : List ℕ) where
@@ -34,14 +34,14 @@ module _ (sum : Sum) (N K S : ℕ) (store key : List ℕ) where
   cellNumber cell = entryAt N K key (cell .0) (cell .1)
 
   unfoldable pub cellSymbol : ℕ × ℕ → List ℕ
-  cellSymbol cell = symbolAt sum N K S store (cell .0) (cellNumber cell)
+  cellSymbol cell = symbolOf sum N K S store (cell .0) (cellNumber cell)
 
   -- the total of a row's symbols
   unfoldable pub rowTotal : Row → List ℕ
   rowTotal r = total sum S (map cellSymbol (cells 0 r))
 
   cells-named : (q : ℕ) (r : Row) (later : List ℕ)
-      → zipWith (symbolAt sum N K S store) (members q (setOf r)) (map cellNumber (cells q r) ++ later) ≡ map cellSymbol (cells q r)
+      → zipWith (symbolOf sum N K S store) (members q (setOf r)) (map cellNumber (cells q r) ++ later) ≡ map cellSymbol (cells q r)
   unfolding zipWith members setOf isSome cells cellSymbol
   cells-named q [] later = refl
   cells-named q (none ∷ r) later = cells-named (suc q) r later

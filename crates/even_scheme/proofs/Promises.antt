@@ -1,5 +1,5 @@
--- The even code keeps the promises of a retrieval code, over any abelian group of symbols: `even-laws`. And over exclusive or:
--- `even-promises`, and `even-written`: recovery part by part leaves the recovered message at the start of a buffer.
+-- The even code keeps the promises of a retrieval code, over any abelian group of symbols: `even-laws`. And `even-written`: recovery
+-- part by part leaves the recovered message at the start of a buffer.
 use mathlib.Core.Path.{_≡_}
 use mathlib.Core.Bool.{true}
 use mathlib.Core.List.{List}
@@ -9,8 +9,6 @@ use Rattle.lists.specs.Parts.{put}
 use Rattle.parameters.specs.Bounds.{evenFits}
 use Rattle.symbol.specs.Group.{AbelianGroup}
 use Rattle.symbol.specs.Sum.{Sum}
-use Rattle.symbol.specs.Xor.{xor}
-use Rattle.symbol.proofs.XorGroup.{xor-group}
 use Rattle.scheme.specs.Laws.{Laws}
 use Rattle.scheme.specs.Scheme.{Valid, answersIn, recoverIn}
 use Rattle.lists.specs.Assembled.{assemble}
@@ -39,12 +37,10 @@ even-laws sum N K S group fits = record {
   exchange-shown = λ server wanted other key there known known′ valid. exchange-shown sum N K S fits server wanted other key there known known′ valid;
 }
 
-pub even-promises : (N K S : ℕ) → evenFits N K S ≡ true → Laws N K (evenScheme xor N K S)
-even-promises N K S fits = even-laws xor N K S (xor-group S) fits
-
-pub even-written : (N K S : ℕ) → evenFits N K S ≡ true → (wanted : ℕ) → wanted < K → (key : List ℕ) → Valid (evenScheme xor N K S) key
-    → (slots : List ℕ) → N * evenScheme xor N K S .sizes .slot ≤ length slots → (buffer : List ℕ) → evenScheme xor N K S .sizes .message ≤ length buffer
-    → assemble (recoveredParts xor N K S wanted key (answersIn (evenScheme xor N K S) N wanted key slots)) buffer
-    ≡ put 0 (recoverIn (evenScheme xor N K S) N wanted key slots) buffer
-even-written N K S fits wanted known key valid slots enough buffer room =
-    slots-written xor N K S (xor-group S .minus-length) fits wanted known key valid slots enough buffer room
+pub even-written : (sum : Sum) (N K S : ℕ) → AbelianGroup sum S → evenFits N K S ≡ true → (wanted : ℕ) → wanted < K → (key : List ℕ)
+    → Valid (evenScheme sum N K S) key → (slots : List ℕ) → N * evenScheme sum N K S .sizes .slot ≤ length slots
+    → (buffer : List ℕ) → evenScheme sum N K S .sizes .message ≤ length buffer
+    → assemble (recoveredParts sum N K S wanted key (answersIn (evenScheme sum N K S) N wanted key slots)) buffer
+    ≡ put 0 (recoverIn (evenScheme sum N K S) N wanted key slots) buffer
+even-written sum N K S group fits wanted known key valid slots enough buffer room =
+    slots-written sum N K S (group .minus-length) fits wanted known key valid slots enough buffer room

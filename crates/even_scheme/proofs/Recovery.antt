@@ -15,7 +15,7 @@ use Rattle.even_places.specs.Rule.{onesIn, Row, others, isSome, layout, firstRo
 use Rattle.even_places.proofs.RowNumbers.{setRows, row-number, row-set, row-some, WantedRow}
 use Rattle.even_places.proofs.SetLaws.{setOf}
 use Rattle.even_places.proofs.SourceRows.{source-row}
-use Rattle.even_scheme.specs.Even.{entryAt, symbolAt, answeredRow, sourceServer, sourceRow, recoveredSymbol, wantedPlace, evenScheme}
+use Rattle.even_scheme.specs.Even.{entryAt, symbolOf, answeredRow, sourceServer, sourceRow, recoveredSymbol, wantedPlace, evenScheme}
 use Rattle.even_scheme.proofs.HonestRows.{rowTotal, Retrieval, honest-row}
 use Rattle.even_scheme.proofs.RowSymbols.{row-more, row-alone}
 
@@ -44,11 +44,11 @@ module _ (sum : Sum) (N K S k : ℕ) (store key : List ℕ) (run : Retrieval sum
   place = row-some N K k (run .wide) (run .known) n (wanted .server-below) A i k (wanted .set-good) (wanted .row-below) (wanted .in-set)
 
   pub recovered : recoveredSymbol sum N K S k (honestAnswers (evenScheme sum N K S) N store k key) n A i
-      ≡ symbolAt sum N K S store k (entryAt N K key k (wantedPlace sum N K S k n A i))
+      ≡ symbolOf sum N K S store k (entryAt N K key k (wantedPlace sum N K S k n A i))
   unfolding recoveredSymbol sourceServer sourceRow row
   recovered =
       go (eqb (onesIn A) 1) refl
-      ∙ ap (λ (x : ℕ). symbolAt sum N K S store k (entryAt N K key k x))
+      ∙ ap (λ (x : ℕ). symbolOf sum N K S store k (entryAt N K key k x))
       (sym (wanted-place sum N K S k (run .wide) (run .known) n A i (place .0) wanted (place .1)))
     where
       answers : List (List ℕ)
@@ -68,7 +68,7 @@ module _ (sum : Sum) (N K S k : ℕ) (store key : List ℕ) (run : Retrieval sum
           (answeredRow sum N K S k answers n (firstRow A (layout N K) + i))
           (sum .minus (answeredRow sum N K S k answers n (firstRow A (layout N K) + i))
           (answeredRow sum N K S k answers m (firstRow (set A k false) (layout N K) + j)))
-          ≡ symbolAt sum N K S store k (entryAt N K key k (place .0))
+          ≡ symbolOf sum N K S store k (entryAt N K key k (place .0))
       go true e = here ∙ row-alone sum N K S k store key run row (place .0) long (place .1) (ap onesIn its-set ∙ eqb-true (onesIn A) 1 e)
       go false e =
           let many : 1 < onesIn A = omega (arith, eqb-false (onesIn A) 1 e, wanted .set-good .some) in

@@ -12,7 +12,7 @@ use Rattle.symbol.specs.Sum.{Symbol, Sum, total, totalFrom}
 use Rattle.symbol.proofs.Totals.{total-found}
 use Rattle.even_places.specs.Rule.{onesIn, Row, cells}
 use Rattle.even_places.proofs.SetLaws.{setOf, cells-length}
-use Rattle.even_scheme.specs.Even.{entryAt, symbolAt}
+use Rattle.even_scheme.specs.Even.{entryAt, symbolOf}
 use Rattle.even_scheme.proofs.HonestRows.{cellNumber, cellSymbol, rowTotal, Retrieval, row-symbols}
 
 nothing : {x : ℕ} → none ≡ some x → ⊥
@@ -82,12 +82,12 @@ module _ (sum : Sum) (N K S k : ℕ) (store key : List ℕ) (run : Retrieval sum
   unfolding named
   parts = symbols-split before (rw whole at (row-symbols sum N K S k store key run r long))
 
-  wanted-cell : named (0 + k, x) ≡ symbolAt sum N K S store k (entryAt N K key k x)
+  wanted-cell : named (0 + k, x) ≡ symbolOf sum N K S store k (entryAt N K key k x)
   unfolding named cellSymbol cellNumber
   wanted-cell = ap (λ (p : ℕ). named (p, x)) (zero-add k)
 
   -- a row is one symbol more than the row without the wanted message
-  pub row-more : sum .minus (rowTotal sum N K S store key r) (rowTotal sum N K S store key (set r k none)) ≡ symbolAt sum N K S store k (entryAt N K key k x)
+  pub row-more : sum .minus (rowTotal sum N K S store key r) (rowTotal sum N K S store key (set r k none)) ≡ symbolOf sum N K S store k (entryAt N K key k x)
   unfolding rowTotal named before after
   row-more =
       rw (whole, ap (map named) (around-wanted .without) ∙ map-append named (around-wanted .before) (around-wanted .after))
@@ -95,7 +95,7 @@ module _ (sum : Sum) (N K S k : ℕ) (store key : List ℕ) (run : Retrieval sum
       ∙ wanted-cell
 
   -- a row with the wanted message alone is its symbol
-  pub row-alone : onesIn (setOf r) ≡ 1 → rowTotal sum N K S store key r ≡ symbolAt sum N K S store k (entryAt N K key k x)
+  pub row-alone : onesIn (setOf r) ≡ 1 → rowTotal sum N K S store key r ≡ symbolOf sum N K S store k (entryAt N K key k x)
   unfolding rowTotal named total totalFrom
   row-alone one = ap (total sum S) whole ∙ go before after (sym (ap length whole) ∙ length-map (cells 0 r) named ∙ cells-length 0 r ∙ one) ∙ wanted-cell
     where

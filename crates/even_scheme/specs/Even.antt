@@ -14,7 +14,7 @@ use Rattle.lists.specs.Below.{allBelow}
 use Rattle.lists.specs.Sums.{keep}
 use Rattle.lists.specs.Distinct.{distinct, isPermutation}
 use Rattle.parameters.specs.Measures.{evenSizes, evenRows}
-use Rattle.symbol.specs.Sum.{Sum, zeros, total}
+use Rattle.symbol.specs.Sum.{Sum, zeros, symbolAt, total}
 use Rattle.scheme.specs.Scheme.{Scheme}
 use Rattle.even_places.specs.Rule.{has, onesIn, members, others, rows, queryCells, allSets, layout, positions, firstRow}
 
@@ -50,12 +50,12 @@ module _ (N K : ℕ) where
 
 module _ (sum : Sum) (N K S : ℕ) where
   -- symbol i of message p in the store
-  unfoldable pub symbolAt : List ℕ → ℕ → ℕ → List ℕ
-  symbolAt store p i = cut ((p * N ^ K + i) * S) S store
+  unfoldable pub symbolOf : List ℕ → ℕ → ℕ → List ℕ
+  symbolOf store p i = symbolAt S store (p * N ^ K + i)
 
   -- the combined symbol of one row: its set's messages, each with the next number of the query
   unfoldable pub rowAnswer : List ℕ → List Bool → List ℕ → List ℕ
-  rowAnswer store A numbers = total sum S (zipWith (symbolAt store) (members 0 A) numbers)
+  rowAnswer store A numbers = total sum S (zipWith (symbolOf store) (members 0 A) numbers)
 
   -- the combined symbols of the rows with these sets, one after another
   unfoldable pub rowAnswers : List ℕ → List (List Bool) → List ℕ → List ℕ
