@@ -12,7 +12,6 @@ pub mod HonestRows
 pub mod RowSymbols
 pub mod Recovery
 pub mod Once
-pub mod Assembled
 pub mod Covers
 pub mod Recovers
 pub mod Written

@@ -1,4 +1,5 @@
 -- Nothing that is admitted is out of reach: for each server, wanted message and admitted query, a valid key gives the query (`reach`).
+-- The key is the query's numbers, completed to permutations.
 use Prim.Native.Nat.{ℕ, _*_, _-_, _^_, _<_}
 use mathlib.Core.Path.{_≡_, ap, _∙_}
 use mathlib.Core.Bool.{true, _&&_}
