@@ -1,4 +1,5 @@
--- What an admitted catalogue's numbers and sizes are bounded by, and that a catalogue which is not admitted is refused 2.
+-- What an admitted catalogue's numbers and sizes are bounded by (`admitted-numbers`, `admitted-small`), and that a catalogue which is not
+-- admitted is refused 2 (`verdict-cases`). Rests on the bounds of each code.
 use mathlib.Core.Path.{_≡_, refl, ap, _∙_}
 use mathlib.Core.Bool.{Bool, true, false, not}
 use mathlib.Core.Logic.{_⊎_, inl, inr}
@@ -12,9 +13,9 @@ use Rattle.parameters.proofs.Bounds.{short-bounds, even-bounds}
 use Rattle.catalogue.specs.declared.Code.{Code}
 use Rattle.catalogue.specs.declared.Code.the-variants.{Short, Even}
 use Rattle.catalogue.specs.declared.Catalogue.{Catalogue}
-use Rattle.catalogue.specs.Catalogue.{fits, catalogueFaults, catalogueVerdict, Admitted, sizesOf}
+use Rattle.catalogue.specs.Catalogue.{fits, catalogueFaults, catalogueVerdict, Admitted, sizesBy, sizesOf}
 use Rattle.catalogue.proofs.Faults.{catalogue-chain}
-use Rattle.catalogue.proofs.SmallSizes.{Small, short-small, even-small}
+use Rattle.parameters.proofs.SmallSizes.{Small, short-small, even-small}
 
 -- the bounds that hold in every code
 pub record Numbers (N K S : ℕ) : Type 0 where
@@ -29,6 +30,10 @@ fits-numbers : (code : Code) (N K S : ℕ) → fits code N K S ≡ true → Numb
 fits-numbers Short N K S e = let b = short-bounds N K S e in omega arith
 fits-numbers Even N K S e = let b = even-bounds N K S e in omega arith
 
+fits-small : (code : Code) (N K S : ℕ) → fits code N K S ≡ true → Small N (sizesBy code N K S)
+fits-small Short N K S e = short-small N K S (short-bounds N K S e)
+fits-small Even N K S e = even-small N K S (even-bounds N K S e)
+
 pub admitted-fits : (c : Catalogue) → Admitted c → fits (c .code) (c .servers) (c .messages) (c .symbol) ≡ true
 unfolding catalogueVerdict
 admitted-fits c a =
@@ -39,13 +44,7 @@ admitted-numbers c a = fits-numbers (c .code) (c .servers) (c .messages) (c .sym
 
 pub admitted-small : (c : Catalogue) → Admitted c → Small (c .servers) (sizesOf c)
 unfolding sizesOf
-admitted-small c a = go (c .code) refl
-  where
-    go : (code : Code) → c .code ≡ code → Small (c .servers) (sizesOf c)
-    go Short e =
-        rw e (short-small (c .servers) (c .messages) (c .symbol) (short-bounds (c .servers) (c .messages) (c .symbol) (rw e at (admitted-fits c a))))
-    go Even e =
-        rw e (even-small (c .servers) (c .messages) (c .symbol) (even-bounds (c .servers) (c .messages) (c .symbol) (rw e at (admitted-fits c a))))
+admitted-small c a = fits-small (c .code) (c .servers) (c .messages) (c .symbol) (admitted-fits c a)
 
 -- a value is admitted or refused 2
 pub verdict-cases : (c : Catalogue) → (Admitted c) ⊎ (catalogueVerdict c ≡ refused 2)

@@ -1,5 +1,2 @@
-pub mod Table
-pub mod Common
-pub mod SmallSizes
 pub mod Admitted
 pub mod Faults

@@ -3,12 +3,7 @@ use parameters::Sizes;
 use refusal::Refusal;
 use refusal::Verdict;
 ghost use mathlib.Core.Path.{_≡_};
-ghost use mathlib.Core.Bool.{true, _&&_};
-ghost use Prim.Native.Nat.{_≤_};
-ghost use Rattle.parameters.specs.Bounds.{serversFit, symbolFits, shortFits, evenFits};
-ghost use Rattle.parameters.specs.Measures.{shortSizes, evenSizes};
 ghost use Rattle.catalogue.specs.Catalogue.{fits, catalogueVerdict, zeroCatalogue, measuredOf};
-ghost use Rattle.catalogue.specs.Most.{Most};
 
 // The code that every fetch from the catalogue uses.
 pub enum Code {
@@ -34,67 +29,14 @@ pub enum Measured {
     Refused(Refusal),
 }
 
-// The greatest K of the even code for each N from 2 to 16 (01: largest K).
-const MOST_MESSAGES: [usize; 15] = [8, 5, 4, 3, 3, 2, 2, 2, 2, 2, 2, 2, 2, 2, 2];
-
-// The greatest K of the even code, looked up by N.
-fn most_messages(n: usize) -> usize
-    requires { ⌜ (2 ≤ n) × (n ≤ 16) ⌝ }
-    ensures { λ r. ⌜ Most n r ⌝ }
-{
-    MOST_MESSAGES[n - 2]
-}
-
-// Whether N and S are within the bounds that the codes share.
-fn common_fits(n: usize, s: usize) -> bool
-    ensures { λ r. ⌜ r ≡ serversFit n && symbolFits s ⌝ }
-{
-    if n < 2 {
-        return false;
-    }
-    if 16 < n {
-        return false;
-    }
-    if s < 1 {
-        return false;
-    }
-    s <= 4096
-}
-
-// Whether N, K and S are within the bounds of the short code.
-fn short_fits(n: usize, k: usize, s: usize) -> bool
-    ensures { λ r. ⌜ r ≡ shortFits n k s ⌝ }
-{
-    if !common_fits(n, s) {
-        return false;
-    }
-    if k < 1 {
-        return false;
-    }
-    k <= 32
-}
-
-// Whether N, K and S are within the bounds of the even code.
-fn even_fits(n: usize, k: usize, s: usize) -> bool
-    ensures { λ r. ⌜ r ≡ evenFits n k s ⌝ }
-{
-    if !common_fits(n, s) {
-        return false;
-    }
-    if k < 1 {
-        return false;
-    }
-    k <= most_messages(n)
-}
-
 // Whether the catalogue is within the bounds of its code.
 fn in_bounds(c: Catalogue) -> bool
     ensures { λ r. ⌜ r ≡ fits (c .code) (c .servers) (c .messages) (c .symbol) ⌝ }
 {
     let code = c.code;
     match code {
-        Code::Short => short_fits(c.servers, c.messages, c.symbol),
-        Code::Even => even_fits(c.servers, c.messages, c.symbol),
+        Code::Short => parameters::short::fits(c.servers, c.messages, c.symbol),
+        Code::Even => parameters::even::fits(c.servers, c.messages, c.symbol),
     }
 }
 
@@ -121,42 +63,6 @@ pub fn zero() -> Catalogue
     }
 }
 
-// The sizes of the short code.
-fn short_sizes(n: usize, k: usize, s: usize) -> Sizes
-    requires { ⌜ shortFits n k s ≡ true ⌝ }
-    ensures { λ r. ⌜ r ≡ shortSizes n k s ⌝ }
-{
-    let symbols = n - 1;
-    let message = symbols * s;
-    Sizes {
-        symbols: symbols,
-        message: message,
-        store: k * message,
-        key: k - 1,
-        query: k,
-        slot: s,
-    }
-}
-
-// The sizes of the even code.
-fn even_sizes(n: usize, k: usize, s: usize) -> Sizes
-    requires { ⌜ evenFits n k s ≡ true ⌝ }
-    ensures { λ r. ⌜ r ≡ evenSizes n k s ⌝ }
-{
-    let symbols = parameters::power(n, k);
-    let share = parameters::power(n, k - 1);
-    let rows = share + (share - 1) / (n - 1);
-    let message = symbols * s;
-    Sizes {
-        symbols: symbols,
-        message: message,
-        store: k * message,
-        key: k * symbols,
-        query: k * share,
-        slot: rows * s,
-    }
-}
-
 // The sizes that follow from the catalogue, if it is admitted.
 pub fn sizes(c: Catalogue) -> Measured
     ensures { λ r. ⌜ r ≡ measuredOf c ⌝ }
@@ -166,7 +72,7 @@ pub fn sizes(c: Catalogue) -> Measured
     }
     let code = c.code;
     match code {
-        Code::Short => Measured::Of(short_sizes(c.servers, c.messages, c.symbol)),
-        Code::Even => Measured::Of(even_sizes(c.servers, c.messages, c.symbol)),
+        Code::Short => Measured::Of(parameters::short::sizes(c.servers, c.messages, c.symbol)),
+        Code::Even => Measured::Of(parameters::even::sizes(c.servers, c.messages, c.symbol)),
     }
 }

@@ -1,4 +1,5 @@
--- Laws of `Any`: an element with a property, by its place, under a weaker property, and in a sum that is not 0.
+-- Some element of a list has a property (`Any`): it stands at a place (`Any-at`), the property may be weakened (`Any-imp`), and a sum
+-- that is not 0 has a term that is not (`Any-sum`).
 use mathlib.Core.List.{List, [], _∷_}
 use Prim.Native.Nat.{ℕ, zero, suc, _<_}
 use native.Mathlib.Nat.{not-suc-le-zero}

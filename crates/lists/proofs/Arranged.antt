@@ -122,12 +122,15 @@ unfolding picked
 picked-picked list middle [] b = refl
 picked-picked list middle (x ∷ places) b =
     let first : getD (picked list middle) x 0 ≡ getD list (getD middle x 0) 0 = picked-at list middle x (b 0 (omega arith)) in
-    ap (λ v. v ∷ picked (picked list middle) places) first ∙ ap (λ l. getD list (getD middle x 0) 0 ∷ l) (picked-picked list middle places (λ i h. b (suc i) (omega arith)))
+    ap (λ v. v ∷ picked (picked list middle) places) first
+    ∙ ap (λ l. getD list (getD middle x 0) 0 ∷ l) (picked-picked list middle places (λ i h. b (suc i) (omega arith)))
 
 -- different places of a permutation hold different entries
 module _ (size : ℕ) (l places : List ℕ) (p : Permutation size l) (b : Below size places) where
   picked-below : Below size (picked l places)
-  picked-below i h = let e = picked-length l places in subst (λ (x : ℕ). x < size) (sym (picked-at l places i (omega arith))) (p .low (getD places i 0) (b i (omega arith)))
+  picked-below i h =
+      let e = picked-length l places in
+      subst (λ (x : ℕ). x < size) (sym (picked-at l places i (omega arith))) (p .low (getD places i 0) (b i (omega arith)))
 
   pub picked-distinct : distinct places ≡ true → distinct (picked l places) ≡ true
   picked-distinct d =
@@ -165,6 +168,8 @@ renamed-back size A B l a b low =
     let c = covers size A a (getD l i 0) (low i (omega arith)) in
     let j = placeIn (getD l i 0) A in
     picked-at (arranged B A) (picked (arranged A B) l) i (omega arith)
-    ∙ ap (λ v. getD (arranged B A) v 0) (picked-at (arranged A B) l i (omega arith) ∙ ap (λ v. getD (arranged A B) v 0) (sym (c .1)) ∙ arranged-at size A B a j (c .0))
+    ∙ ap (λ v. getD (arranged B A) v 0) (picked-at (arranged A B) l i (omega arith))
+    ∙ ap (λ v. getD (arranged B A) (getD (arranged A B) v 0) 0) (sym (c .1))
+    ∙ ap (λ v. getD (arranged B A) v 0) (arranged-at size A B a j (c .0))
     ∙ arranged-at size B A b j (c .0)
     ∙ c .1)

@@ -1,5 +1,5 @@
--- The test `allBelow` and the fact `Below` say the same; `Below` of parts and joined lists; and the test from place to place, where what
--- is left of the list decides.
+-- The test `allBelow` and the fact `Below` say the same (`allBelow-below`, `below-allBelow`). `Below` of parts and joined lists; and the
+-- test from place to place, where what is left of the list decides (`below-next`, `below-stops`).
 use mathlib.Core.Path.{_≡_, refl, _∙_}
 use mathlib.Core.Bool.{Bool, true, false, cond, _&&_}
 use mathlib.Core.List.{List, [], _∷_, _++_}

@@ -1,4 +1,5 @@
--- A test as a number (`bit`): it is 0 or 1, and the number tells the test.
+-- A test as a number (`bit`): it is 0 or 1 (`bit-small`), and the number tells the test (`bit-zero`, `bit-one`). So how often something
+-- holds is a sum, and sums of bits are compared by arithmetic.
 use mathlib.Core.Path.{_≡_, refl}
 use mathlib.Core.Bool.{Bool, true, false, not}
 use Prim.Native.Nat.{ℕ, zero, suc, _+_, _<_}

@@ -1,4 +1,5 @@
--- Two tests joined by `&&`: both hold exactly if the joined test does.
+-- Two tests joined by `&&`: both hold exactly if the joined test does (`both-true`, `true-both`). So a chain of bounds is taken apart
+-- into its tests.
 use mathlib.Core.Path.{_≡_, refl}
 use mathlib.Core.Bool.{Bool, true, false, _&&_, false≢true}
 

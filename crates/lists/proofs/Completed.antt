@@ -112,5 +112,7 @@ module _ (size : ℕ) (A B : List ℕ) (p : Permutation size (completed size A))
   pub carried-shown : (l : List ℕ) → picked (arranged (completed size A) (picked l (completed size B))) A ≡ picked l B
   unfolding completed
   carried-shown l =
-      ap (λ m. picked (arranged (completed size A) m) A) (picked-append l B (keep (λ v. not (stands v B)) (range 0 size)))
-      ∙ arranged-front size A (keep (λ v. not (stands v A)) (range 0 size)) (picked l B) (picked l (keep (λ v. not (stands v B)) (range 0 size))) p (e ∙ sym (picked-length l B))
+      let leftA = keep (λ v. not (stands v A)) (range 0 size) in
+      let leftB = keep (λ v. not (stands v B)) (range 0 size) in
+      ap (λ m. picked (arranged (completed size A) m) A) (picked-append l B leftB)
+      ∙ arranged-front size A leftA (picked l B) (picked l leftB) p (e ∙ sym (picked-length l B))

@@ -49,7 +49,8 @@ unfolding distinct
 distinct-apart [] e i j h k q = absurd (not-suc-le-zero h)
 distinct-apart (x ∷ l) e zero zero h k q = refl
 distinct-apart (x ∷ l) e zero (suc j) h k q =
-    absurd (true≢false (sym (stands-at l j (omega arith)) ∙ ap (λ y. stands y l) (sym q) ∙ not-true (stands x l) (both-true (not (stands x l)) (distinct l) e .0)))
+    let absent = not-true (stands x l) (both-true (not (stands x l)) (distinct l) e .0) in
+    absurd (true≢false (sym (stands-at l j (omega arith)) ∙ ap (λ y. stands y l) (sym q) ∙ absent))
 distinct-apart (x ∷ l) e (suc i) zero h k q =
     absurd (true≢false (sym (stands-at l i (omega arith)) ∙ ap (λ y. stands y l) q ∙ not-true (stands x l) (both-true (not (stands x l)) (distinct l) e .0)))
 distinct-apart (x ∷ l) e (suc i) (suc j) h k q =

@@ -1,4 +1,5 @@
--- What holds of each element (`All`): by places, and of joined, mapped, repeated and kept lists and their parts.
+-- What holds of each element (`All`): it holds at every place and the other way round (`All-get`, `All-at`); of joined, mapped, repeated
+-- and kept lists and their parts (`All-append`, `All-flatMap`, `All-keep`).
 use Prim.Native.Nat.{ℕ, zero, suc, _<_}
 use native.Mathlib.Nat.{not-suc-le-zero}
 use native.Mathlib.Omega.{arith}

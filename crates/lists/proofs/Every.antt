@@ -1,5 +1,5 @@
--- Laws of `every`: it is true exactly if the test holds of each number below the count. Two tests under it: they agree, or differ at one
--- number. One computed test shows a rule of a whole table.
+-- `every` is true exactly if the test holds of each number below the count (`every-true`, `every-at`). Two tests under it differ at
+-- one number (`every-one`). By `every-at`, one computed test shows a rule of a whole table.
 use mathlib.Core.Path.{_≡_, refl, sym, ap, ap₂, _∙_}
 use mathlib.Core.Logic.{_≢_}
 use mathlib.Core.Bool.{Bool, true, false, _&&_, and-false, and-assoc, and-comm}
@@ -60,7 +60,9 @@ every-one (suc count) q t f g h e d = go (eqb count q) refl (λ less. every-one 
     go : (u : Bool) → eqb count q ≡ u → (q < count → every count f ≡ t && every count g) → every count f && f count ≡ t && (every count g && g count)
     go true u ih =
         let same : count ≡ q = eqb-true count q u in
-        ap₂ (λ (a b : Bool). a && b) (every-ext count f g (λ p less. d p (λ is. let w : ⊥ = omega arith in w))) (ap f same ∙ e ∙ ap (λ n. t && g n) (let back : q ≡ count = omega arith in back))
+        ap₂ (λ (a b : Bool). a && b)
+        (every-ext count f g (λ p less. d p (λ is. let w : ⊥ = omega arith in w)))
+        (ap f same ∙ e ∙ ap (λ n. t && g n) (let back : q ≡ count = omega arith in back))
         ∙ sym (and-assoc (every count g) t (g count)) ∙ ap (λ u. u && g count) (and-comm (every count g) t) ∙ and-assoc t (every count g) (g count)
     go false u ih =
         let other = eqb-false count q u in

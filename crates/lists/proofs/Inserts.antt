@@ -1,4 +1,5 @@
--- Inserting and removing at one place undo each other and keep lengths and bounds; and what stands where after an insertion.
+-- Inserting and removing at one place undo each other (`remove-insert`, `insert-remove`) and keep lengths and bounds; and what stands
+-- where after an insertion (`insert-before`, `insert-here`, `insert-behind`).
 use mathlib.Core.Path.{_≡_, refl, ap}
 use mathlib.Core.List.{List, [], _∷_}
 use Prim.Native.Nat.{ℕ, zero, suc, _≤_, _<_}

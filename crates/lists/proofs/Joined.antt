@@ -72,16 +72,23 @@ joined-equal {A} f g from other (suc count) e =
     ap₂ (λ (a b : List A). a ++ b)
     (ap f (sym (zero-add from)) ∙ e 0 (omega arith) ∙ ap g (zero-add other))
     (joined-equal f g (suc from) (suc other) count
-    (λ i h. ap f (let l : i + suc from ≡ suc i + from = omega arith in l) ∙ e (suc i) (omega arith) ∙ ap g (let r : suc i + other ≡ i + suc other = omega arith in r)))
+    (λ i h.
+    ap f (let l : i + suc from ≡ suc i + from = omega arith in l)
+    ∙ e (suc i) (omega arith)
+    ∙ ap g (let r : suc i + other ≡ i + suc other = omega arith in r)))
 
 -- lists of one length: what stands at j * q + r
 module _ {A B : Type 0} (g : B → List A) (q : ℕ) (d : A) (e : B) where
-  pub flatMap-at : {xs : List B} → All (λ x. length (g x) ≡ q) xs → (j r : ℕ) → j < length xs → r < q → getD (flatMap g xs) (j * q + r) d ≡ getD (g (getD xs j e)) r d
+  pub flatMap-at : {xs : List B} → All (λ x. length (g x) ≡ q) xs → (j r : ℕ) → j < length xs → r < q
+      → getD (flatMap g xs) (j * q + r) d ≡ getD (g (getD xs j e)) r d
   unfolding flatMap
   flatMap-at allNil j r h l = absurd (not-suc-le-zero h)
-  flatMap-at (allCons {x = x} {xs = xs} f a) zero r h l = ap (λ i. getD (g x ++ flatMap g xs) i d) (omega (arith, zero-mul q)) ∙ List·getD-append (g x) (flatMap g xs) d r (omega arith)
+  flatMap-at (allCons {x = x} {xs = xs} f a) zero r h l =
+      ap (λ i. getD (g x ++ flatMap g xs) i d) (omega (arith, zero-mul q)) ∙ List·getD-append (g x) (flatMap g xs) d r (omega arith)
   flatMap-at (allCons {x = x} {xs = xs} f a) (suc j) r h l =
-      ap (λ i. getD (g x ++ flatMap g xs) i d) (omega (arith, suc-mul j q)) ∙ getD-append-add (g x) (flatMap g xs) (j * q + r) d ∙ flatMap-at a j r (omega arith) l
+      ap (λ i. getD (g x ++ flatMap g xs) i d) (omega (arith, suc-mul j q))
+      ∙ getD-append-add (g x) (flatMap g xs) (j * q + r) d
+      ∙ flatMap-at a j r (omega arith) l
 
 -- lists of different lengths; w: their lengths
 module _ {A B : Type 0} (g : A → List B) (w : A → ℕ) (e : A) (d : B) where

@@ -1,4 +1,5 @@
--- What a test keeps of a list: all or nothing of it, what two tests keep, and what is kept of joined and mapped lists.
+-- What a test keeps of a list: all or nothing of it (`keep-all`, `keep-nothing`), what two tests keep (`keep-and`), and what is kept of
+-- joined and mapped lists (`keep-append`, `keep-flatMap`).
 use mathlib.Core.Path.{_≡_, refl, ap, _∙_}
 use mathlib.Core.List.{List, [], _∷_, _++_, map, flatMap}
 use mathlib.Core.Bool.{Bool, true, false, _&&_}

@@ -1,4 +1,5 @@
--- Lists made by a function from a list or from a range: what stands where, their length, and when two are equal.
+-- Lists made by a function from a list or from a range: what stands where (`map-at`, `mapped-at`), their length, and when two are equal
+-- (`map-all`, `map-range`).
 use Prim.Native.Nat.{ℕ, zero, suc, _+_, _≤_, _<_}
 use native.Mathlib.Nat.{not-suc-le-zero, le-of-suc-le-suc, zero-add}
 use native.Mathlib.Omega.{arith}

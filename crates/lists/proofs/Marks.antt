@@ -1,4 +1,5 @@
--- Marks: a pass over numbers that marks each one and stops at a marked one finds out whether they are distinct.
+-- Marks: a pass over numbers that marks each one and stops at a marked one finds out whether they are distinct (`unmarked-blank`).
+-- Rests on `unmarked-set`: a number marked first is one that may not stand later.
 use mathlib.Core.Path.{_≡_, refl, sym}
 use mathlib.Core.Bool.{Bool, true, false, not, _&&_, _||_}
 use mathlib.Core.List.{List, [], _∷_}
@@ -37,4 +38,6 @@ unmarked-set marks x (y ∷ ys) h = rw (unmarked-set marks x ys h) (go (eqb x y)
         → not (getD (set marks x true) y false) && (not (stands y ys) && (not (stands x ys) && unmarked marks ys))
         ≡ not (t || stands x ys) && (not (getD marks y false) && (not (stands y ys) && unmarked marks ys))
     go true e = rw (← eqb-true x y e, getD-set-same marks x true false h)
-    go false e = rw (getD-set-other marks x y true false (λ f. eqb-false x y e (sym f))) (swap (getD marks y false) (stands y ys) (stands x ys) (unmarked marks ys))
+    go false e =
+        rw (getD-set-other marks x y true false (λ f. eqb-false x y e (sym f)))
+        (swap (getD marks y false) (stands y ys) (stands x ys) (unmarked marks ys))

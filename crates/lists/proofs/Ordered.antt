@@ -1,4 +1,5 @@
--- Laws of `Ordered`: weaker relations, mapped and joined lists.
+-- Lists in which each element comes before all later ones (`Ordered`): in joined lists (`Ordered-append`), in mapped ones (`Ordered-map`),
+-- and by a weaker relation (`Ordered-imp`).
 use mathlib.Core.List.{List, _++_, map}
 use Rattle.lists.specs.Lexicographic.{Ordered, orderedNil, orderedCons}
 use Rattle.lists.specs.Sums.{All, allCons}

@@ -49,10 +49,12 @@ under-map f p ((q, x) ∷ cs) =
 
 module _ (f g : ℕ → ℕ → ℕ) (K : ℕ) where
   -- lists that are equal under a label, from the next pair on
-  step : (p q x y : ℕ) (cs ds : List (ℕ × ℕ)) → map (f p) (under p ((q, x) ∷ cs)) ≡ map (g p) (under p ((q, y) ∷ ds)) → map (f p) (under p cs) ≡ map (g p) (under p ds)
+  step : (p q x y : ℕ) (cs ds : List (ℕ × ℕ)) → map (f p) (under p ((q, x) ∷ cs)) ≡ map (g p) (under p ((q, y) ∷ ds))
+      → map (f p) (under p cs) ≡ map (g p) (under p ds)
   step p q x y cs ds e = go (eqb q p) (ap (map (f p)) (sym (under-cons p q x cs)) ∙ e ∙ ap (map (g p)) (under-cons p q y ds))
     where
-      go : (t : Bool) → map (f p) (cond t (x ∷ under p cs) (under p cs)) ≡ map (g p) (cond t (y ∷ under p ds) (under p ds)) → map (f p) (under p cs) ≡ map (g p) (under p ds)
+      go : (t : Bool) → map (f p) (cond t (x ∷ under p cs) (under p cs)) ≡ map (g p) (cond t (y ∷ under p ds) (under p ds))
+          → map (f p) (under p cs) ≡ map (g p) (under p ds)
       go true h = tail-eq-of-cons-eq h
       go false h = h
 

@@ -24,7 +24,8 @@ module _ (size : ℕ) (marks : List Bool) (xs : List ℕ) (i : ℕ) (within : i 
   rest : List ℕ
   rest = drop (suc i) xs
 
-  here : passes size marks (drop i xs) ≡ cond (ltb x size) (allBelow size rest) false && (not (getD marks x false) && (not (stands x rest) && unmarked marks rest))
+  here : passes size marks (drop i xs)
+      ≡ cond (ltb x size) (allBelow size rest) false && (not (getD marks x false) && (not (stands x rest) && unmarked marks rest))
   unfolding passes allBelow unmarked x rest
   here = rw (drop-cons xs i 0 within)
 

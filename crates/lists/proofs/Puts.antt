@@ -1,5 +1,5 @@
--- Parts that are written (`put`): nothing, one byte, one part after, before or over another, over zeros; and what a part that was lent
--- and written leaves in its buffer.
+-- Parts that are written (`put`): one after another (`put-put`, and in a row of calls `put-next`, `put-three`), before or over another,
+-- over zeros (`put-padded`), over a whole buffer (`put-whole`); and what a part that was lent and written leaves in its buffer (`put-part`).
 use mathlib.Core.Path.{_≡_, refl, sym, ap, ap₂, _∙_}
 use mathlib.Core.List.{List, [], _∷_, _++_, append-assoc, append-nil}
 use Prim.Native.Nat.{ℕ, zero, suc, _+_, _-_, _≤_, _<_}
@@ -64,6 +64,16 @@ pub put-next : (base at : ℕ) (a b buffer out : List ℕ) → base ≤ length b
     → put at b out ≡ put base (a ++ b) buffer
 put-next base at a b buffer out h e f = ap₂ (λ (m : ℕ) (o : List ℕ). put m b o) e f ∙ put-put base a b buffer h
 
+-- three parts, each behind the one before
+pub put-three : (at : ℕ) (a b c out out₁ out₂ out₃ : List ℕ) (p₁ p₂ : ℕ) → at ≤ length out
+    → p₁ ≡ at + length a → p₂ ≡ p₁ + length b
+    → out₁ ≡ put at a out → out₂ ≡ put p₁ b out₁ → out₃ ≡ put p₂ c out₂
+    → out₃ ≡ put at (a ++ (b ++ c)) out
+put-three at a b c out out₁ out₂ out₃ p₁ p₂ h i₁ i₂ o₁ o₂ o₃ =
+    let j : p₂ ≡ at + length (a ++ b) = let l = length-append a b in omega arith in
+    let two : out₂ ≡ put at (a ++ b) out = o₂ ∙ put-next at p₁ a b out out₁ h i₁ o₁ in
+    o₃ ∙ put-next at p₂ (a ++ b) c out out₂ h j two ∙ ap (λ (l : List ℕ). put at l out) (append-assoc a b c)
+
 -- one part over another of the same length
 pub put-over : (at : ℕ) (a b buffer : List ℕ) → at ≤ length buffer → length a ≡ length b → put at b (put at a buffer) ≡ put at b buffer
 put-over at a b buffer h e =
@@ -100,19 +110,19 @@ put-twice at size x buffer f {first} {last} fits long kept e m =
     ∙ ap (λ (l : List ℕ). put at l buffer) made
 
 -- the rest of a buffer from a place on, lent as a part and written at its front
-pub rest-written : (at : ℕ) (bytes buffer : List ℕ) → take at buffer ++ (put 0 bytes (drop at buffer) ++ drop (length buffer - at) (drop at buffer)) ≡ put at bytes buffer
+pub rest-written : (at : ℕ) (bytes buffer : List ℕ)
+    → take at buffer ++ (put 0 bytes (drop at buffer) ++ drop (length buffer - at) (drop at buffer)) ≡ put at bytes buffer
 rest-written at bytes buffer =
     ap (λ (l : List ℕ). take at buffer ++ (put 0 bytes (drop at buffer) ++ l)) (drop-of-length-le (drop at buffer) (le-of-eq (length-drop at buffer)))
     ∙ ap (λ (l : List ℕ). take at buffer ++ l) (append-nil (put 0 bytes (drop at buffer)))
 
+-- a part that fills its buffer
+pub put-whole : (bytes buffer : List ℕ) → length bytes ≡ length buffer → put 0 bytes buffer ≡ bytes
+put-whole bytes buffer e = ap (λ (l : List ℕ). bytes ++ l) (drop-of-length-le buffer {i = length bytes} (omega arith)) ∙ append-nil bytes
+
 -- written over zeros
 pub put-padded : (bytes : List ℕ) (size : ℕ) → put 0 bytes (replicate size 0) ≡ padded size bytes
 put-padded bytes size = ap (λ (l : List ℕ). bytes ++ l) (drop-replicate (length bytes) size 0)
-
-pub put-two : (front back : List ℕ) (at size : ℕ) → length front ≡ at → put at back (put 0 front (replicate size 0)) ≡ padded size (front ++ back)
-put-two front back at size e =
-    ap (λ (n : ℕ). put n back (put 0 front (replicate size 0))) (sym e ∙ sym (zero-add (length front)))
-    ∙ put-put 0 front back (replicate size 0) (omega arith) ∙ put-padded (front ++ back) size
 
 -- a copy by one byte more
 pub copy-more : (from into : List ℕ) (i : ℕ) → i < length from → i < length into

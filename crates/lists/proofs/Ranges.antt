@@ -1,4 +1,5 @@
--- Laws of ranges: their length, their entries, what holds of each number of one, and a range in two parts.
+-- Ranges: their length and entries (`range-length`, `range-at`), a range in two parts (`range-append`), and what holds of each number of
+-- one (`All-range`).
 use Prim.Native.Nat.{ℕ, zero, suc, _+_, _-_, _≤_, _<_}
 use native.Mathlib.Nat.{zero-add, add-zero, add-suc, suc-add, not-suc-le-zero}
 use native.Mathlib.Omega.{arith}

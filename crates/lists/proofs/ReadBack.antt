@@ -1,4 +1,5 @@
--- What a buffer holds after a part was written into it: read by parts and by elements, in the part, before it and after it.
+-- What a buffer holds after a part was written into it: the part itself (`cut-put`), and before and after it what it held
+-- (`cut-put-before`, `cut-put-after`); the same by elements. What is read and written back changes nothing (`put-cut`).
 use mathlib.Core.Path.{_≡_, refl, sym, ap, _∙_}
 use mathlib.Core.List.{List, _++_, append-assoc}
 use Prim.Native.Nat.{ℕ, _+_, _-_, _≤_, _<_}

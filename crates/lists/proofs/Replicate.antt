@@ -1,4 +1,5 @@
--- Parts and elements of a list of one element repeated.
+-- A list of one element repeated: a part of it is another such list (`drop-replicate`), and every place holds the element
+-- (`getD-replicate-same`).
 use mathlib.Core.Path.{_≡_, refl, _∙_}
 use Prim.Native.Nat.{ℕ, zero, suc, _-_}
 use native.Mathlib.Nat.{sub-zero, zero-sub, suc-sub-suc}

@@ -1,4 +1,5 @@
--- Laws of sums: over joined, mapped, repeated and kept lists, of equal terms, of bits, and over ranges.
+-- Sums: over joined, mapped, repeated and kept lists (`sum-append`, `sum-flatMap`, `sum-keep`), of equal terms (`sum-all`), in two
+-- orders (`sum-swap`), of bits, and over ranges (`sum-range`).
 use Prim.Native.Nat.{ℕ, zero, suc, _+_, _*_, _≤_, _<_}
 use native.Mathlib.Nat.{mul-add, mul-zero, mul-one, zero-mul, one-mul, suc-mul}
 use native.Mathlib.Omega.{arith}

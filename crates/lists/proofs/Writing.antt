@@ -1,4 +1,5 @@
--- `Pending`, the invariant of a loop that writes from left to right: what is left to write decides what the buffer will hold.
+-- `Pending`, the invariant of a loop that writes from left to right: what is left to write decides what the buffer will hold. It holds
+-- at first (`pending-start`), byte by byte and part by part (`pending-byte`, `pending-part`), and at the end gives the buffer (`pending-done`).
 use mathlib.Core.Path.{_≡_, refl, sym, _∙_}
 use mathlib.Core.List.{List, [], _∷_, _++_}
 use Prim.Native.Nat.{ℕ, _+_, _≤_}

@@ -1,4 +1,5 @@
--- Laws of the second pass over a list of numbers, which writes those that the first one counted: each stands where the pass comes to it.
+-- The second pass over a list of numbers, which writes those that the first one counted: each stands where the pass comes to it
+-- (`next-there`, `next-value`), and behind it those that are left (`next-left`). Rests on `First`.
 use mathlib.Core.Path.{_≡_, sym, ap, _∙_}
 use mathlib.Core.List.{List, _∷_}
 use mathlib.Core.Option.{some}

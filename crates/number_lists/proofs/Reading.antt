@@ -1,4 +1,5 @@
--- Laws of reading a list of numbers: where a number lies, and what stands after it decides.
+-- Reading a list of numbers: where a number lies (`numeral-within`), and what stands after it decides (`at-last`, `at-more`, `at-other`).
+-- A list with a number in it has its first one at the start (`first-number`).
 use mathlib.Core.Path.{_≡_, refl, sym, ap, _∙_}
 use mathlib.Core.Bool.{Bool, true, false, cond}
 use mathlib.Core.List.{List, [], _∷_}
@@ -106,7 +107,8 @@ module _ (most : ℕ) (text : List ℕ) (at x : ℕ) (rest : List ℕ) where
   first-number e = go (numeralAt text at) refl e
     where
       go : (line : Line) → numeralAt text at ≡ line
-          → onLine line (λ n end. cond (endsAt text end) (some (n ∷ [])) (cond (eqb (getD text end 0) 32) (before n (numbersFrom most text (end + 1))) none)) ≡ some (x ∷ rest)
+          → onLine line (λ n end. cond (endsAt text end) (some (n ∷ []))
+          (cond (eqb (getD text end 0) 32) (before n (numbersFrom most text (end + 1))) none)) ≡ some (x ∷ rest)
           → First most text at x rest
       go (Value n end) f g = by-end n end f (endsAt text end) (eqb (getD text end 0) 32) g
       go Refused f g = none-some g

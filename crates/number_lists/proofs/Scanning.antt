@@ -1,4 +1,5 @@
--- Laws of the first pass over a list of numbers: what it says after some of them, and what it says of the whole list.
+-- The first pass over a list of numbers: what it says after some of them (`scan-last`, `scan-more`, `scan-other`), and what it says of the
+-- whole list (`scanned-list`, `scan-refused`). Rests on `Reading`.
 use mathlib.Core.Path.{_≡_, refl, sym, ap, ap₂, _∙_}
 use mathlib.Core.Bool.{Bool, true, false, cond, _&&_, and-true, and-false}
 use mathlib.Core.List.{List, [], _∷_}

@@ -1,4 +1,5 @@
--- Texts of numbers: how long they are, and how they are made one after another.
+-- Texts of numbers with a space between: how long they are (`byte-length`), and how they are made one after another (`after-more`,
+-- `spaced-some`).
 use mathlib.Core.Path.{_≡_, refl, ap, _∙_}
 use mathlib.Core.List.{List, [], _∷_, _++_, flatMap}
 use Prim.Native.Nat.{ℕ, _+_, _≤_, _<_}

@@ -1,4 +1,5 @@
--- The bounds of each code, from tests to facts.
+-- The bounds of each code, from tests to facts (`short-bounds`, `even-bounds`). That the even code has at most 8 messages follows from
+-- N^K being at most 256.
 use mathlib.Core.Path.{_≡_, refl}
 use mathlib.Core.Bool.{Bool, true, false, _&&_}
 use Prim.Native.Nat.{ℕ, _^_, _≤_}

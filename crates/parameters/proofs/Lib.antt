@@ -1,2 +1,5 @@
 pub mod Bounds
 pub mod Powers
+pub mod Common
+pub mod Table
+pub mod SmallSizes

@@ -1,4 +1,4 @@
--- No power on the way to one that fits is too large.
+-- No power on the way to one that fits is too large (`power-fits`): with a base of 1 or more they grow, and a base of 0 gives 0 or 1.
 use Prim.Native.Nat.{ℕ, zero, suc, _^_, _≤_, _<_}
 use native.Mathlib.Nat.{mul-zero, pow-suc, pow-le-pow-right}
 use native.Mathlib.Omega.{arith}

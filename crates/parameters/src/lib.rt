@@ -1,7 +1,12 @@
-// The parameters of a code, N servers, K messages, symbols of S bytes: the sizes that follow from them, and powers, of which the even
-// code's sizes are made. The bounds and sizes are definitions in specs/.
+// The parameters of a code, N servers, K messages, symbols of S bytes: what they may be, and the sizes that follow from them.
+// Each code has a module: `fits` tests its bounds, `sizes` gives its sizes. Here is what the codes share.
 ghost use mathlib.Core.Path.{_≡_};
+ghost use mathlib.Core.Bool.{_&&_};
 ghost use Prim.Native.Nat.{_^_, _<_};
+ghost use Rattle.parameters.specs.Bounds.{serversFit, symbolFits};
+
+pub mod even;
+pub mod short;
 
 // Every length that a caller has to know (01: a pack's pieces, pack, store, key, request, slot).
 pub struct Sizes {
@@ -17,6 +22,22 @@ pub struct Sizes {
     pub query: usize,
     // Bytes of the longest answer.
     pub slot: usize,
+}
+
+// Whether N and S are within the bounds that the codes share.
+fn common_fits(n: usize, s: usize) -> bool
+    ensures { λ r. ⌜ r ≡ serversFit n && symbolFits s ⌝ }
+{
+    if n < 2 {
+        return false;
+    }
+    if 16 < n {
+        return false;
+    }
+    if s < 1 {
+        return false;
+    }
+    s <= 4096
 }
 
 // A power that fits.

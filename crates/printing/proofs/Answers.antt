@@ -1,4 +1,5 @@
--- What the output for an input is, verdict by verdict: the checks that need no code come first, and then the key's entries.
+-- What the output for an input is, verdict by verdict: the checks that need no code come first (`answer-refused`), and then the key's
+-- entries (`answer-bad-key`, `answer-queries`).
 use mathlib.Core.Path.{_≡_, refl, sym, ap}
 use mathlib.Core.Bool.{Bool, true, false, not}
 use mathlib.Core.List.{List}
@@ -26,7 +27,8 @@ use Rattle.printing.specs.Steps.{checkVerdict, valueBy}
 -- a refusal by the first checks stands, whatever the key's entries are worth
 checks-first : (v : Verdict) (wanted long good bytes : Bool) (refusal : Refusal)
     → andThen v (refuseIf wanted Wanted (refuseIf long KeyLength (refuseIf (not bytes) KeyEntry Accepted))) ≡ Refused refusal
-    → andThen (andThen v (refuseIf wanted Wanted (refuseIf long KeyLength (refuseIf good KeyEntry Accepted)))) (refuseIf (not bytes) KeyEntry Accepted) ≡ Refused refusal
+    → andThen (andThen v (refuseIf wanted Wanted (refuseIf long KeyLength (refuseIf good KeyEntry Accepted))))
+    (refuseIf (not bytes) KeyEntry Accepted) ≡ Refused refusal
 checks-first (Refused other) wanted long good bytes refusal e = e
 checks-first Accepted true long good bytes refusal e = e
 checks-first Accepted false true good bytes refusal e = e
@@ -77,7 +79,8 @@ module _ (schemeOf : Catalogue → Scheme) (c : Catalogue) (wanted : ℕ) where
     unfolding checkVerdict askedVerdict beginVerdict
     answer-refused refusal e =
         answer-by schemeOf (asked c wanted key) (Refused refusal)
-        (checks-first (catalogueVerdict c) (leb (c .messages) wanted) (not (eqb (length key) (schemeOf c .sizes .key))) (not (schemeOf c .keyGood key)) (allBelow 256 key) refusal e)
+        (checks-first (catalogueVerdict c) (leb (c .messages) wanted) (not (eqb (length key) (schemeOf c .sizes .key)))
+        (not (schemeOf c .keyGood key)) (allBelow 256 key) refusal e)
 
     -- refused for the key's entries
     pub answer-bad-key : Checked (length key) → schemeOf c .keyGood key ≡ false → answerTo schemeOf (asked c wanted key) ≡ refusalLine KeyEntry

@@ -140,7 +140,8 @@ some-read (suc most) text at numbers e = go (numeralAt text at) refl (λ place o
 
     go : (line : Line) → numeralAt text at ≡ line
         → ((place : ℕ) (others : List ℕ) → numbersFrom most text place ≡ some others → SomeRead text place others)
-        → onLine line (λ n end. cond (endsAt text end) (some (n ∷ [])) (cond (eqb (getD text end 0) 32) (before n (numbersFrom most text (end + 1))) none)) ≡ some numbers
+        → onLine line (λ n end. cond (endsAt text end) (some (n ∷ []))
+        (cond (eqb (getD text end 0) 32) (before n (numbersFrom most text (end + 1))) none)) ≡ some numbers
         → SomeRead text at numbers
     go (Value n end) f later e = by-end n end (numeral-at text at n end f) later (endsAt text end) (eqb (getD text end 0) 32) refl refl e
     go Refused f later e = none-some e
@@ -162,7 +163,9 @@ list-read text at numbers e = go (endsAt text at) refl e
         let s = some-read (length text) text at numbers g in
         record {
           below = s .below;
-          here = s .here ∙ sym (append-assoc (decimal (s .first)) (afterSpaces (s .rest)) (10 ∷ [])) ∙ ap (λ (l : List ℕ). spaced l ++ (10 ∷ [])) (sym (s .numbers-are));
+          here = s .here
+              ∙ sym (append-assoc (decimal (s .first)) (afterSpaces (s .rest)) (10 ∷ []))
+              ∙ ap (λ (l : List ℕ). spaced l ++ (10 ∷ [])) (sym (s .numbers-are));
         }
 
 -- ---- the whole input

@@ -1,5 +1,5 @@
--- The printer prints the queries that a session issues: for an input that is accepted, begin is accepted too, and issue to each server writes the
--- very query that stands on the server's line.
+-- The printer prints the queries that a session issues (`printed-as-issued`): for an input that is accepted, begin is accepted too, and
+-- issue to each server writes the very query that stands on the server's line. Rests on the session's laws of begin and issue.
 use mathlib.Core.Path.{_≡_, refl, sym, ap, _∙_}
 use mathlib.Core.List.{List}
 use mathlib.Core.Option.{some}

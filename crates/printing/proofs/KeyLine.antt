@@ -1,4 +1,4 @@
--- The key's line of an input: where it was read, its numbers stand after its name.
+-- The key's line of an input: where it was read, its numbers stand after its name (`key-line-read`).
 use mathlib.Core.Path.{_≡_, refl, ap, _∙_}
 use mathlib.Core.Bool.{Bool, true, false}
 use mathlib.Core.List.{List}

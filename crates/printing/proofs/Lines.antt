@@ -1,4 +1,4 @@
--- The output's lines, server by server.
+-- The output's lines, server by server: those of the first servers (`linesTo`), one more (`lines-more`), and all (`lines-all`).
 use mathlib.Core.Path.{_≡_, refl, ap, _∙_}
 use mathlib.Core.List.{List, [], _++_, flatMap}
 use Prim.Native.Nat.{ℕ, _+_}

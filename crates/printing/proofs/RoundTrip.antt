@@ -1,5 +1,5 @@
--- What is written as an input reads back: a catalogue, a wanted message and a key's numbers of at most five digits each are exactly what
--- the input made of them asks for.
+-- What is written as an input reads back (`input-reads-back`): a catalogue, a wanted message and a key's numbers of at most five digits each
+-- are exactly what the input made of them asks for. Rests on the catalogue's text and its lines reading back.
 use mathlib.Core.Path.{_≡_, sym, ap, _∙_}
 use mathlib.Core.Bool.{true, false}
 use mathlib.Core.List.{List, [], _∷_, _++_, flatMap, append-assoc}
@@ -12,12 +12,13 @@ use lib.ListN.{length, drop, getD, length-append, length-drop, List·getD-append
 use lib.Seq.{getD-drop, take-append-seam, drop-append-seam}
 use Rattle.lists.specs.Ascii.{ascii}
 use Rattle.lists.specs.Below.{Below}
+use Rattle.lists.proofs.Each.{All-get}
 use Rattle.lists.proofs.Cuts.{drop-after}
 use Rattle.text_lines.specs.declared.Line.the-variants.{Value}
 use Rattle.text_lines.specs.Decimal.{decimal, isDigit, digitCount}
 use Rattle.text_lines.specs.Lines.{numberText, begins, isNumeral}
 use Rattle.text_lines.proofs.Begins.{begins-joined}
-use Rattle.text_lines.proofs.DigitTexts.{below-digits, digit-range, digits-at, count-digits}
+use Rattle.text_lines.proofs.DigitTexts.{below-digits, digit-range, count-digits}
 use Rattle.text_lines.proofs.Decimal.{length-most, some-digits, decimal-digits, value-decimal}
 use Rattle.text_lines.proofs.Numerals.{no-leading-zero}
 use Rattle.text_lines.proofs.RoundTrip.{line-written}
@@ -74,7 +75,8 @@ numbers-written text (suc most) n (x ∷ numbers) at h b few e =
     let space : drop end text ≡ 32 ∷ rest = drop-after text (decimal n) (32 ∷ rest) at here in
     let byte = byte-at text rest end 32 space in
     let others : numbersFrom most text (end + 1) ≡ some (x ∷ numbers) =
-    numbers-written text most x numbers (end + 1) (b 0 (omega arith)) (λ i k. b (suc i) (omega arith)) (omega arith) (drop-after text (32 ∷ []) rest end space) in
+    numbers-written text most x numbers (end + 1) (b 0 (omega arith)) (λ i k. b (suc i) (omega arith)) (omega arith)
+    (drop-after text (32 ∷ []) rest end space) in
     at-more most text at n end
     (numeral-written text rest at n 32 h (below-digits 32 (omega arith)) here)
     (ends-not text rest end 32 space (λ z. let w : ⊥ = omega arith in w))
@@ -97,7 +99,7 @@ list-written text (n ∷ numbers) at b e =
     let first : getD text at 0 ≡ getD (decimal n) 0 0 =
     ap (λ (m : ℕ). getD text m 0) (let z : at ≡ at + 0 = omega arith in z) ∙ sym (getD-drop at text 0 0)
     ∙ ap (λ (l : List ℕ). getD l 0 0) here ∙ List·getD-append (decimal n) rest 0 0 (some-digits n) in
-    let range = digit-range (getD (decimal n) 0 0) (digits-at (decimal-digits n) 0 (some-digits n)) in
+    let range = digit-range (getD (decimal n) 0 0) (All-get 0 (decimal-digits n) 0 (some-digits n)) in
     let other : getD text at 0 ≡ 10 → ⊥ = λ z. let w : ⊥ = omega arith in w in
     let l = sym (length-drop at text) ∙ ap length here ∙ length-append (decimal n) rest in
     let m = length-append (afterSpaces numbers) (10 ∷ []) in

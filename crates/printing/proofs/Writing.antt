@@ -1,4 +1,4 @@
--- How long the parts of an output's lines are.
+-- How long the parts of an output's lines are: what stands before a query (`head-length`), and a refusal's line (`refusal-most`).
 use mathlib.Core.Path.{_≡_}
 use mathlib.Core.List.{_++_}
 use Prim.Native.Nat.{ℕ, _+_, _<_}
@@ -7,7 +7,8 @@ use lib.ListN.{length, length-append}
 use Rattle.lists.specs.Ascii.{ascii}
 use Rattle.text_lines.specs.Decimal.{decimal}
 use Rattle.refusal.specs.declared.Refusal.{Refusal}
-use Rattle.refusal.specs.declared.Refusal.the-variants.{Text, Bounds, Server, Wanted, KeyLength, KeyEntry, Query, StoreLength, Room, AnswerLength, History, Missing}
+use Rattle.refusal.specs.declared.Refusal.the-variants.{Text, Bounds, Server, Wanted, KeyLength, KeyEntry}
+use Rattle.refusal.specs.declared.Refusal.the-variants.{Query, StoreLength, Room, AnswerLength, History, Missing}
 use Rattle.refusal.specs.Numbers.{numberOf}
 use Rattle.printing.specs.Output.{queryHead}
 

@@ -7,7 +7,7 @@ use mathlib.Core.Option.{Option, none, some}
 use lib.ListN.{length, replicate}
 use Rattle.lists.specs.Ascii.{ascii}
 use Rattle.lists.specs.Below.{allBelow}
-use Rattle.lists.specs.Parts.{put}
+use Rattle.lists.specs.Padded.{padded}
 use Rattle.lists.specs.Ranges.{range}
 use Rattle.refusal.specs.declared.Refusal.{Refusal}
 use Rattle.refusal.specs.declared.Refusal.the-variants.{Text, KeyEntry}
@@ -76,4 +76,4 @@ blank = replicate pageBytes 0
 
 -- the output at the start, and zeros after it
 unfoldable pub pageOf : List ℕ → Page
-pageOf output = record { bytes = put 0 output blank; length = length output }
+pageOf output = record { bytes = padded pageBytes output; length = length output }

@@ -1,13 +1,17 @@
--- What inner functions compute: the checks of what is asked for that need no code, and the query's length that they give.
+-- What inner functions compute: the checks of what is asked for that need no code, the query's length that they give, and the room for a key
+-- or a query.
 use Prim.Native.Nat.{ℕ}
 use mathlib.Core.Bool.{Bool, not}
+use mathlib.Core.List.{List}
 use lib.Dec.{leb, eqb}
+use lib.ListN.{replicate}
 use Rattle.refusal.specs.declared.Refusal.the-variants.{Wanted, KeyLength, KeyEntry}
 use Rattle.refusal.specs.declared.Verdict.{Verdict}
 use Rattle.refusal.specs.declared.Verdict.the-variants.{Accepted, Refused}
 use Rattle.refusal.specs.declared.Outcome.{Outcome}
 use Rattle.refusal.specs.declared.Outcome.the-variants.{Value, Refused as NoValue}
 use Rattle.refusal.specs.Chain.{refuseIf, andThen}
+use Rattle.parameters.specs.Measures.{keyPlaces}
 use Rattle.scheme.specs.Scheme.{Scheme}
 use Rattle.catalogue.specs.declared.Catalogue.{Catalogue}
 use Rattle.catalogue.specs.Catalogue.{catalogueVerdict}
@@ -25,3 +29,7 @@ module _ (schemeOf : Catalogue → Scheme) where
 abbrev pub valueBy : Verdict → ℕ → Outcome
 valueBy Accepted value = Value value
 valueBy (Refused refusal) value = NoValue refusal
+
+-- room for every key and every query of an admitted catalogue, all zeros
+unfoldable pub blankPlaces : List ℕ
+blankPlaces = replicate keyPlaces 0

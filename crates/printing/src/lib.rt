@@ -19,7 +19,7 @@ ghost use Rattle.number_lists.specs.declared.Scanned.the-variants.{Of};
 ghost use Rattle.number_lists.specs.NumberLists.{numbersAt, scanOf, listOf};
 ghost use Rattle.printing.specs.Input.{asked};
 ghost use Rattle.printing.specs.Output.{queryHead, queryLine, refusalLine, queryLines, answerTo, printed, pageBytes, blank, pageOf};
-ghost use Rattle.printing.specs.Steps.{checkVerdict};
+ghost use Rattle.printing.specs.Steps.{checkVerdict, blankPlaces};
 
 // What can be said of an input before its key's entries are read.
 mod checks;
@@ -65,7 +65,7 @@ fn put_line(out: &mut [u8], at: usize, server: usize, query: &[u8]) -> usize
 
 // 2,048 zeros: room for every key and every query of an admitted catalogue.
 fn zeros() -> [u8; 2048]
-    ensures { λ r. ⌜ length r ≡ 2048 ⌝ }
+    ensures { λ r. ⌜ r ≡ blankPlaces ⌝ }
 {
     [0; 2048]
 }

@@ -3,6 +3,8 @@
 use libc::STDIN_FILENO;
 use libc::STDOUT_FILENO;
 
+// What is proved of it: it ends, stays within its buffer and its page, and what it hands to `write_all` is the page that `printing::print` gives for the
+// bytes that `read_full` left in the buffer. It has no equation, as the kit's io says nothing of what a file holds or comes to hold.
 fn main() {
     let mut buffer = [0u8; 65537];
     let n = io::read_full(STDIN_FILENO, &mut buffer);

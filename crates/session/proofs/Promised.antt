@@ -16,7 +16,7 @@ use Rattle.parameters.specs.Measures.{keyPlaces}
 use Rattle.scheme.specs.Scheme.{Valid}
 use Rattle.catalogue.specs.declared.Catalogue.{Catalogue}
 use Rattle.catalogue.specs.Catalogue.{Admitted}
-use Rattle.catalogue.proofs.SmallSizes.{Small}
+use Rattle.parameters.proofs.SmallSizes.{Small}
 use Rattle.catalogue.proofs.Admitted.{admitted-small}
 use Rattle.codes.specs.Codes.{schemeOf}
 use Rattle.codes.proofs.Promises.{promises, scheme-sizes}

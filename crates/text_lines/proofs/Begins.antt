@@ -1,4 +1,5 @@
--- Whether a text begins with a name, byte by byte, and what follows if it does.
+-- Whether a text begins with a name: byte by byte as a loop tests it (`begins-same`, `begins-other`, `begins-all`), and as one equation, the
+-- text is the name and what follows (`begins-split`, `begins-joined`).
 use mathlib.Core.Path.{_≡_, refl, sym, ap, ap₂, _∙_}
 use mathlib.Core.Bool.{true, false}
 use mathlib.Core.List.{List, [], _∷_, _++_}

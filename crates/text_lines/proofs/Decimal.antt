@@ -1,4 +1,5 @@
--- Laws of the decimal digits of a number: how they are made, how many they are, and that their value is the number.
+-- The decimal digits of a number: how they are made (`decimal-small`, `decimal-large`), how many they are (`length-most`), and that their
+-- value is the number (`value-decimal`). All by `by-digits`: a property of the small numbers that passes from n / 10 to n.
 use mathlib.Core.Path.{_≡_, refl, ap, _∙_}
 use mathlib.Core.Bool.{Bool, true, false}
 use mathlib.Core.List.{List, [], _∷_, _++_}
@@ -9,8 +10,10 @@ use native.Mathlib.Omega.{arith}
 use borrow.Author.Tests.{ltb-true, ltb-false, lt-ltb, le-ltb}
 use lib.Dec.{ltb}
 use lib.ListN.{length, getD, length-append, List·getD-append}
+use Rattle.lists.specs.Sums.{allNil, allCons}
+use Rattle.lists.proofs.Each.{All-append}
 use Rattle.text_lines.specs.Decimal.{digit, decimalIn, decimal, valueFrom}
-use Rattle.text_lines.proofs.DigitTexts.{Digits, none, more, digits-append, digit-is, value-append, value-last}
+use Rattle.text_lines.proofs.DigitTexts.{Digits, digit-is, value-append, value-last}
 
 -- ---- how they are made
 
@@ -93,10 +96,10 @@ pub decimal-digits : (n : ℕ) → Digits (decimal n)
 decimal-digits = by-digits (λ n. Digits (decimal n)) small large
   where
     small : (n : ℕ) → n < 10 → Digits (decimal n)
-    small n h = rw (decimal-small n h) (more (digit-is n h) none)
+    small n h = rw (decimal-small n h) (allCons (digit-is n h) allNil)
 
     large : (n : ℕ) → 10 ≤ n → Digits (decimal (n / 10)) → Digits (decimal n)
-    large n h d = rw (decimal-large n h) (digits-append d (more (digit-is (n % 10) (omega arith)) none))
+    large n h d = rw (decimal-large n h) (All-append d (allCons (digit-is (n % 10) (omega arith)) allNil))
 
 pub first-digit : (n : ℕ) → 0 < n → 48 < getD (decimal n) 0 0
 first-digit = by-digits (λ n. 0 < n → 48 < getD (decimal n) 0 0) small large

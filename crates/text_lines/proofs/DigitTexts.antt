@@ -1,15 +1,16 @@
--- Texts of digits: how many a text begins with, and their value, byte by byte.
+-- Texts of digits (`Digits`): how many a text begins with (`digits-first`, `count-digits`), and their value (`value-append`); both byte by
+-- byte, as a loop goes on from place i (`count-more`, `value-more`).
 use mathlib.Core.Path.{_≡_, refl, sym, ap, _∙_}
 use mathlib.Core.Bool.{Bool, true, false, cond}
 use mathlib.Core.List.{List, [], _∷_, _++_}
-use Prim.Native.Nat.{ℕ, zero, suc, _+_, _-_, _*_, _≤_, _<_}
-use native.Mathlib.Nat.{not-suc-le-zero, le-of-suc-le-suc}
+use Prim.Native.Nat.{ℕ, suc, _+_, _-_, _*_, _≤_, _<_}
 use native.Mathlib.Numerals.{add-one}
 use native.Mathlib.Omega.{arith}
 use borrow.Author.Tests.{leb-true, le-leb, lt-leb}
 use lib.Dec.{leb}
 use lib.ListN.{length, getD, take, drop}
 use lib.Seq.{drop-cons, drop-length, take-length}
+use Rattle.lists.specs.Sums.{All, allNil, allCons}
 use Rattle.lists.proofs.Both.{both-true}
 use Rattle.text_lines.specs.Decimal.{digit, isDigit, digitCount, valueFrom}
 
@@ -33,28 +34,18 @@ digit-range byte e =
 
 -- ---- a text of digits alone
 
-pub data Digits : List ℕ → Type 0 where
-  none : Digits []
-  more : {x : ℕ} {xs : List ℕ} → isDigit x ≡ true → Digits xs → Digits (x ∷ xs)
-
-pub digits-append : {xs ys : List ℕ} → Digits xs → Digits ys → Digits (xs ++ ys)
-digits-append none e = e
-digits-append (more d ds) e = more d (digits-append ds e)
-
-pub digits-at : {xs : List ℕ} → Digits xs → (i : ℕ) → i < length xs → isDigit (getD xs i 0) ≡ true
-digits-at none i h = absurd (not-suc-le-zero h)
-digits-at (more d ds) zero h = d
-digits-at (more d ds) (suc i) h = digits-at ds i (le-of-suc-le-suc h)
+abbrev pub Digits : List ℕ → Type 0
+Digits = All (λ byte. isDigit byte ≡ true)
 
 -- those that a text begins with
 pub digits-first : (text : List ℕ) → Digits (take (digitCount text) text)
 unfolding digitCount
-digits-first [] = none
+digits-first [] = allNil
 digits-first (x ∷ text) = go (isDigit x) refl (digits-first text)
   where
     go : (t : Bool) → isDigit x ≡ t → Digits (take (digitCount text) text) → Digits (take (digitCount (x ∷ text)) (x ∷ text))
-    go true e rest = rw e (more e rest)
-    go false e rest = rw e none
+    go true e rest = rw e (allCons e rest)
+    go false e rest = rw e allNil
 
 pub count-within : (text : List ℕ) → digitCount text ≤ length text
 unfolding digitCount
@@ -72,13 +63,18 @@ all-digits text e = rw (e, take-length) at (digits-first text)
 -- digits, and then another byte
 pub count-digits : {xs : List ℕ} → Digits xs → (y : ℕ) (rest : List ℕ) → isDigit y ≡ false → digitCount (xs ++ (y ∷ rest)) ≡ length xs
 unfolding digitCount
-count-digits none y rest e = simp e
-count-digits (more d ds) y rest e = simp d (ap suc (count-digits ds y rest e))
+count-digits allNil y rest e = simp e
+count-digits (allCons d ds) y rest e = simp d (ap suc (count-digits ds y rest e))
 
 pub count-all : {xs : List ℕ} → Digits xs → digitCount xs ≡ length xs
 unfolding digitCount
-count-all none = refl
-count-all (more d ds) = simp d (ap suc (count-all ds))
+count-all allNil = refl
+count-all (allCons d ds) = simp d (ap suc (count-all ds))
+
+-- the digits that a text begins with, lent as a part
+pub count-first : (text : List ℕ) (count : ℕ) → count ≡ digitCount text → digitCount (take count text) ≡ length (take count text)
+count-first text count e =
+    ap (λ (n : ℕ). digitCount (take n text)) e ∙ count-all (digits-first text) ∙ ap (λ (n : ℕ). length (take n text)) (sym e)
 
 -- ---- counting digits in a loop
 

@@ -1,5 +1,5 @@
--- A line of a name and a number: past the end of a text there is none, a name that a text begins with lies within it, and how
--- long the line is.
+-- A line of a name and a number: past the end of a text there is none (`past-end`), a name that a text begins with lies within it
+-- (`name-within`), and how long the line is (`number-text-length`).
 use mathlib.Core.Path.{_≡_, ap, _∙_}
 use mathlib.Core.Bool.{true}
 use mathlib.Core.List.{List, [], _∷_, _++_}

@@ -10,10 +10,11 @@ use borrow.Author.Tests.{leb-true, ltb-true, ltb-false, lt-ltb, le-ltb, ne-eqb, 
 use lib.Dec.{leb, ltb, eqb}
 use lib.ListN.{length, take, drop, getD, take-append-drop, List·getD-append}
 use lib.Seq.{length-take-le, getD-take}
+use Rattle.lists.specs.Sums.{allNil, allCons}
 use Rattle.lists.proofs.Both.{both-true}
 use Rattle.text_lines.specs.Decimal.{digit, decimal, digitCount, valueFrom}
 use Rattle.text_lines.specs.Lines.{leadingZero, isNumeral}
-use Rattle.text_lines.proofs.DigitTexts.{Digits, none, more, digit-range, digits-first, count-within}
+use Rattle.text_lines.proofs.DigitTexts.{Digits, digit-range, digits-first, count-within}
 use Rattle.text_lines.proofs.Decimal.{decimal-small, decimal-large, length-small, some-digits, first-digit, below-power}
 
 pub no-leading-zero : (n : ℕ) (rest : List ℕ) → leadingZero (length (decimal n)) (decimal n ++ rest) ≡ false
@@ -32,8 +33,8 @@ no-leading-zero n rest = go (ltb n 10) refl
 
 after-front : (front : ℕ) {xs : List ℕ} → 0 < front → Digits xs → decimal (valueFrom front xs) ≡ decimal front ++ xs
 unfolding valueFrom
-after-front front h none = sym (append-nil (decimal front))
-after-front front h (more {x = x} {xs = xs} d ds) =
+after-front front h allNil = sym (append-nil (decimal front))
+after-front front h (allCons {x = x} {xs = xs} d ds) =
     let range = digit-range x d in
     let next = front * 10 + (x - 48) in
     let high : 10 ≤ next = omega arith in
@@ -48,15 +49,15 @@ first-is x h k =
 
 pub decimal-value : {xs : List ℕ} → Digits xs → 1 ≤ length xs → leadingZero (length xs) xs ≡ false → decimal (valueFrom 0 xs) ≡ xs
 unfolding valueFrom
-decimal-value none h e = absurd (not-suc-le-zero h)
-decimal-value (more {x = x} d none) h e = let r = digit-range x d in first-is x (r .0) (r .1)
-decimal-value (more {x = x} d (more {x = y} {xs = xs} f ds)) h e =
+decimal-value allNil h e = absurd (not-suc-le-zero h)
+decimal-value (allCons {x = x} d allNil) h e = let r = digit-range x d in first-is x (r .0) (r .1)
+decimal-value (allCons {x = x} d (allCons {x = y} {xs = xs} f ds)) h e =
     let r = digit-range x d in
     let two : ltb 1 (length (x ∷ (y ∷ xs))) ≡ true = lt-ltb 1 (length (x ∷ (y ∷ xs))) (omega arith) in
     let other : eqb x 48 ≡ false = rw two at e in
     let no48 = eqb-false x 48 other in
     let above : 48 < x = omega arith in
-    after-front (0 * 10 + (x - 48)) (omega arith) (more f ds) ∙ ap (λ (l : List ℕ). l ++ (y ∷ xs)) (first-is x (r .0) (r .1))
+    after-front (0 * 10 + (x - 48)) (omega arith) (allCons f ds) ∙ ap (λ (l : List ℕ). l ++ (y ∷ xs)) (first-is x (r .0) (r .1))
 
 -- ---- a text that begins with a number
 

@@ -1,4 +1,5 @@
--- A line that is written reads back, and a line that is read is what is written for its value.
+-- A line that is written reads back (`line-written`), and a line that is read is what is written for its value (`line-read`).
+-- Rests on the decimal digits of a number (`Decimal`) and on digits without leading zero (`Numerals`).
 use mathlib.Core.Path.{_≡_, refl, ap, _∙_}
 use mathlib.Core.Bool.{Bool, true, false, cond, _&&_}
 use mathlib.Core.List.{List, _∷_, _++_, append-assoc}

@@ -7,21 +7,21 @@ use Rattle.catalogue.proofs.in_bounds.Tie as tie
 enum-told : tie.Need-enum-told
 enum-told c = search needs
 
-short-fits-requires : tie.Need-short-fits-requires
-short-fits-requires c κs = search needs
+fits-requires : tie.Need-fits-requires
+fits-requires c κs = search needs
 
 enum-told-2 : tie.Need-enum-told-2
 enum-told-2 c = search needs
 
-even-fits-requires : tie.Need-even-fits-requires
-even-fits-requires c κs = search needs
+fits-requires-2 : tie.Need-fits-requires-2
+fits-requires-2 c κs = search needs
 
 returns : tie.Need-returns
-returns c = c .short-fits .ensures ∙ simp (c .before .enum-told .given .1)
+returns c = c .fits2 .ensures ∙ simp (c .before .enum-told .given .1)
 
 returns-2 : tie.Need-returns-2
-returns-2 c = c .even-fits .ensures ∙ simp (c .before .enum-told2 .given .1)
+returns-2 c = c .fits3 .ensures ∙ simp (c .before .enum-told2 .given .1)
 
 pub in-bounds-spec : {M : Type 1} → statement M
 in-bounds-spec =
-    tie.close (tie.spec enum-told short-fits-requires enum-told-2 even-fits-requires returns returns-2)
+    tie.close (tie.spec enum-told fits-requires enum-told-2 fits-requires-2 returns returns-2)

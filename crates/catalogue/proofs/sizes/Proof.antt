@@ -24,16 +24,16 @@ enum-told c = search needs
 enum-told-2 : tie.Need-enum-told-2
 enum-told-2 c = search needs
 
-short-sizes-requires : tie.Need-short-sizes-requires
-short-sizes-requires c κs =
+sizes-requires : tie.Need-sizes-requires
+sizes-requires c κs =
     let from = c .before .before .before .before in
     rw (c .enum-told2 .given .1) at (admitted-fits (from .before .args .c) (sym (from .verdict .ensures) ∙ c .before .before .enum-told .given .1))
 
 enum-told-3 : tie.Need-enum-told-3
 enum-told-3 c = search needs
 
-even-sizes-requires : tie.Need-even-sizes-requires
-even-sizes-requires c κs =
+sizes-requires-2 : tie.Need-sizes-requires-2
+sizes-requires-2 c κs =
     let from = c .before .before .before .before in
     rw (c .enum-told3 .given .1) at (admitted-fits (from .before .args .c) (sym (from .verdict .ensures) ∙ c .before .before .enum-told .given .1))
 
@@ -41,13 +41,13 @@ returns-2 : tie.Need-returns-2
 unfolding measuredOf sizesOf
 returns-2 c =
     let from = c .before .before .before .before .before in
-    ap Of (c .short-sizes .ensures) ∙ simp (sym (from .verdict .ensures) ∙ c .before .before .before .enum-told .given .1, c .before .enum-told2 .given .1)
+    ap Of (c .sizes .ensures) ∙ simp (sym (from .verdict .ensures) ∙ c .before .before .before .enum-told .given .1, c .before .enum-told2 .given .1)
 
 returns-3 : tie.Need-returns-3
 unfolding measuredOf sizesOf
 returns-3 c =
     let from = c .before .before .before .before .before in
-    ap Of (c .even-sizes .ensures) ∙ simp (sym (from .verdict .ensures) ∙ c .before .before .before .enum-told .given .1, c .before .enum-told3 .given .1)
+    ap Of (c .sizes2 .ensures) ∙ simp (sym (from .verdict .ensures) ∙ c .before .before .before .enum-told .given .1, c .before .enum-told3 .given .1)
 
 pub sizes-spec : {M : Type 1} → statement M
 sizes-spec =
@@ -58,8 +58,8 @@ sizes-spec =
     returns
     enum-told
     enum-told-2
-    short-sizes-requires
+    sizes-requires
     enum-told-3
-    even-sizes-requires
+    sizes-requires-2
     returns-2
     returns-3)

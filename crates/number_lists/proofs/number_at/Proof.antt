@@ -24,7 +24,9 @@ numeral-requires : tie.Need-numeral-requires
 numeral-requires c κs = search needs
 
 returns-2 : tie.Need-returns-2
-returns-2 c = c .numeral .ensures ∙ ap (numeralFrom (c .before .before .before .before .args .at)) (to-end (c .before .before .before .before .args .text .now) (c .before .before .before .before .args .at))
+returns-2 c =
+    let a = c .before .before .before .before .args in
+    c .numeral .ensures ∙ ap (numeralFrom (a .at)) (to-end (a .text .now) (a .at))
 
 pub number-at-spec : {M : Type 1} → statement M
 number-at-spec =

@@ -1,15 +1,14 @@
 -- `number_lists::numeral` meets its contract: the test is the rule's, and the digits that are lent have the value.
-use mathlib.Core.Path.{_≡_, sym, ap, _∙_}
-use Prim.Native.Nat.{ℕ, _≤_}
+use mathlib.Core.Path.{_≡_, sym, _∙_}
+use Prim.Native.Nat.{_≤_}
 use native.Mathlib.Omega.{arith}
 use borrow.Author.Tests.{leb-true, not-true, not-false}
 use lib.Dec.{leb}
 use lib.ListN.{length, take, length-take}
 use lib.Seq.{length-take-le}
 use Rattle.lists.proofs.Both.{both-true}
-use Rattle.text_lines.specs.Decimal.{digitCount}
 use Rattle.text_lines.specs.Lines.{isNumeral}
-use Rattle.text_lines.proofs.DigitTexts.{digits-first, count-all}
+use Rattle.text_lines.proofs.DigitTexts.{count-first}
 use Rattle.number_lists.specs.NumberLists.{numeralFrom}
 use borrow.Author.Needs.{needs}
 use Rattle.number_lists.proofs.numeral.Statement.{statement}
@@ -36,14 +35,17 @@ value-requires c κs =
     let long : length (take (d .result) text) ≡ d .result = length-take-le (d .result) text (d .ensures .1) in
     let rule = sym (c .before .before .is-numeral .ensures) ∙ not-false _ (c .before .if1 .left) in
     let few : d .result ≤ 5 = leb-true (d .result) 5 (both-true _ _ (both-true (leb 1 (d .result)) _ rule .1) .0) in
-    (omega arith, ap (λ (n : ℕ). digitCount (take n text)) (d .ensures .0) ∙ count-all (digits-first text) ∙ ap (λ (n : ℕ). length (take n text)) (sym (d .ensures .0)))
+    (omega arith, count-first text (d .result) (d .ensures .0))
 
 add-t9 : tie.Need-add-t9
 add-t9 c = search needs
 
 returns-2 : tie.Need-returns-2
 unfolding numeralFrom
-returns-2 c = simp (sym (c .before .before .before .before .digits .ensures .0), sym (c .before .before .before .is-numeral .ensures) ∙ not-false _ (c .before .before .if1 .left), c .value .ensures)
+returns-2 c =
+    let from = c .before .before .before in
+    let rule = sym (from .is-numeral .ensures) ∙ not-false _ (c .before .before .if1 .left) in
+    simp (sym (from .before .digits .ensures .0), rule, c .value .ensures)
 
 pub numeral-spec : {M : Type 1} → statement M
 numeral-spec =

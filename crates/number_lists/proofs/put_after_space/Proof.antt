@@ -32,8 +32,11 @@ returns c =
     let first = c .before .before .before .before .before .before .put-bytes in
     let second = c .before .before .put-decimal in
     let e = first .ensures .0 in
-    let f = second .ensures .0 in
-    (omega arith, second .ensures .1 ∙ put-next (a .at) (first .result) (ascii " ") (decimal (a .n)) (a .out .now) (first .last .0) (omega arith) e (first .ensures .1))
+    let f = second .ensures .0 in (
+      omega arith,
+      second .ensures .1
+          ∙ put-next (a .at) (first .result) (ascii " ") (decimal (a .n)) (a .out .now) (first .last .0) (omega arith) e (first .ensures .1),
+    )
 
 pub put-after-space-spec : {M : Type 1} → statement M
 put-after-space-spec =

@@ -13,7 +13,10 @@ use Rattle.number_lists.proofs.put_after_spaces.Statement.{statement}
 use Rattle.number_lists.proofs.put_after_spaces.Tie as tie
 
 abbrev Inv-loop : tie.InvT-loop
-Inv-loop out₀ start numbers at₀ i₀ out at i = (i ≤ length numbers) × (at ≡ start + length (afterSpaces (take i numbers))) × (at ≤ start + 4 * i) × (out ≡ put start (afterSpaces (take i numbers)) out₀) × (length out ≡ length out₀)
+Inv-loop out₀ start numbers at₀ i₀ out at i =
+    (i ≤ length numbers) × (at ≡ start + length (afterSpaces (take i numbers))) × (at ≤ start + 4 * i)
+    × (out ≡ put start (afterSpaces (take i numbers)) out₀)
+    × (length out ≡ length out₀)
 
 abbrev μ-loop : tie.MeasureT-loop
 μ-loop out₀ start numbers at₀ i₀ out at i = length numbers - i
@@ -50,13 +53,16 @@ loop-again c =
     let n = getD numbers (at .i) 0 in
     let b = byte-length n (omega (arith, c .before .before .before .before .shared-slice-known2 .given (at .i))) in
     let more = after-more numbers (at .i) (omega arith) in
-    let l = ap length more ∙ length-append (afterSpaces (take (at .i) numbers)) (afterSpace n) in
+    let done = afterSpaces (take (at .i) numbers) in
+    let l = ap length more ∙ length-append done (afterSpace n) in
     let e = put-it .ensures .0 in
     let k = put-it .kept .0 in (
       omega arith,
       omega arith,
       omega arith,
-      put-it .ensures .1 ∙ put-next (a .start) (at .at) (afterSpaces (take (at .i) numbers)) (afterSpace n) (a .out .now) (at .out) (omega arith) (at .inv .1) (at .inv .3) ∙ ap (λ (t : List ℕ). put (a .start) t (a .out .now)) (sym more),
+      put-it .ensures .1
+          ∙ put-next (a .start) (at .at) done (afterSpace n) (a .out .now) (at .out) (omega arith) (at .inv .1) (at .inv .3)
+          ∙ ap (λ (t : List ℕ). put (a .start) t (a .out .now)) (sym more),
       omega arith,
     )
 

@@ -59,13 +59,17 @@ returns-2 c =
     let numbers = a .numbers .now in
     let first = c .before .before .before .before .before .before .before .put-decimal in
     let rest = c .before .before .put-after-spaces in
-    let b = byte-length (getD numbers 0 0) (omega (arith, c .before .before .before .before .before .before .before .before .before .shared-slice-known2 .given 0)) in
+    let byte = c .before .before .before .before .before .before .before .before .before .shared-slice-known2 .given 0 in
+    let b = byte-length (getD numbers 0 0) (omega (arith, byte)) in
+    let others = afterSpaces (drop 1 numbers) in
     let whole = spaced-some numbers (omega arith) in
-    let l = ap length whole ∙ length-append (decimal (getD numbers 0 0)) (afterSpaces (drop 1 numbers)) in
+    let l = ap length whole ∙ length-append (decimal (getD numbers 0 0)) others in
     let d = length-drop 1 numbers in
     let end = to-end numbers 1 in
     let e = first .ensures .0 in
-    let f : rest .result ≡ first .result + length (afterSpaces (drop 1 numbers)) = rest .ensures .0 ∙ ap (λ (t : List ℕ). first .result + length (afterSpaces t)) end in
+    let f : rest .result ≡ first .result + length others =
+    rest .ensures .0 ∙ ap (λ (t : List ℕ). first .result + length (afterSpaces t)) end
+    in
     let g = rest .ensures .1 .0 in
     let h = ap length end in (
       omega arith,
@@ -73,7 +77,7 @@ returns-2 c =
         omega arith,
         rest .ensures .1 .1
             ∙ ap (λ (t : List ℕ). put (first .result) (afterSpaces t) (first .last .0)) end
-            ∙ put-next (a .at) (first .result) (decimal (getD numbers 0 0)) (afterSpaces (drop 1 numbers)) (a .out .now) (first .last .0) (omega arith) e (first .ensures .1)
+            ∙ put-next (a .at) (first .result) (decimal (getD numbers 0 0)) others (a .out .now) (first .last .0) (omega arith) e (first .ensures .1)
             ∙ ap (λ (t : List ℕ). put (a .at) t (a .out .now)) (sym whole),
       ),
     )

@@ -51,13 +51,16 @@ returns-2 c =
     let at = c .before .before .before .before .before .before .before .before .loop in
     let text = c .before .before .before .before .before .before .before .before .before .before .args .text .now in
     let here = sym (c .before .before .before .before .before .before .number-at .ensures) ∙ c .before .before .before .before .value .given .1 in
-    ap (Of (at .count + 1)) (c .before .before .still-bytes .ensures) ∙ sym (at .inv .1 ∙ scan-last text (at .at) (at .count) (at .bytes) _ _ (omega arith) here (sym (c .before .ends .ensures) ∙ c .if1 .taken))
+    let over = sym (c .before .ends .ensures) ∙ c .if1 .taken in
+    ap (Of (at .count + 1)) (c .before .before .still-bytes .ensures)
+    ∙ sym (at .inv .1 ∙ scan-last text (at .at) (at .count) (at .bytes) _ _ (omega arith) here over)
 
 returns-3 : tie.Need-returns-3 Inv-loop μ-loop
 returns-3 c =
     let at = c .before .before .before .before .before .before .before .before .before .loop in
     let text = c .before .before .before .before .before .before .before .before .before .before .before .args .text .now in
-    let here = sym (c .before .before .before .before .before .before .before .number-at .ensures) ∙ c .before .before .before .before .before .value .given .1 in
+    let read = c .before .before .before .before .before in
+    let here = sym (read .before .before .number-at .ensures) ∙ read .value .given .1 in
     sym (at .inv .1 ∙ scan-past text (at .at) (at .count) (at .bytes) _ _ (omega arith) here (c .if2 .taken))
 
 shared-slice-read-if3 : tie.Need-shared-slice-read-if3 Inv-loop μ-loop
@@ -67,14 +70,17 @@ returns-4 : tie.Need-returns-4 Inv-loop μ-loop
 returns-4 c =
     let at = c .before .before .before .before .before .before .before .before .before .before .before .loop in
     let text = c .before .before .before .before .before .before .before .before .before .before .before .before .before .args .text .now in
-    let here = sym (c .before .before .before .before .before .before .before .before .before .number-at .ensures) ∙ c .before .before .before .before .before .before .before .value .given .1 in
-    sym (at .inv .1 ∙ scan-other text (at .at) (at .count) (at .bytes) _ _ (omega arith) here (sym (c .before .before .before .before .ends .ensures) ∙ c .before .before .before .if1 .left) (ne-eqb _ _ (c .if3 .taken)))
+    let read = c .before .before .before .before .before .before .before in
+    let here = sym (read .before .before .number-at .ensures) ∙ read .value .given .1 in
+    let on = sym (c .before .before .before .before .ends .ensures) ∙ c .before .before .before .if1 .left in
+    sym (at .inv .1 ∙ scan-other text (at .at) (at .count) (at .bytes) _ _ (omega arith) here on (ne-eqb _ _ (c .if3 .taken)))
 
 add-at : tie.Need-add-at Inv-loop μ-loop
 add-at c =
     let at = c .before .before .before .before .before .before .before .before .before .before .before .loop in
     let text = c .before .before .before .before .before .before .before .before .before .before .before .before .before .args .text .now in
-    let here = sym (c .before .before .before .before .before .before .before .before .before .number-at .ensures) ∙ c .before .before .before .before .before .before .before .value .given .1 in
+    let read = c .before .before .before .before .before .before .before in
+    let here = sym (read .before .before .number-at .ensures) ∙ read .value .given .1 in
     let w = numeral-within text (at .at) _ _ here in
     omega arith
 
@@ -82,7 +88,8 @@ loop-less : tie.Need-loop-less Inv-loop μ-loop
 loop-less c =
     let at = c .before .before .before .before .before .before .before .before .before .before .before .loop in
     let text = c .before .before .before .before .before .before .before .before .before .before .before .before .before .args .text .now in
-    let here = sym (c .before .before .before .before .before .before .before .before .before .number-at .ensures) ∙ c .before .before .before .before .before .before .before .value .given .1 in
+    let read = c .before .before .before .before .before .before .before in
+    let here = sym (read .before .before .number-at .ensures) ∙ read .value .given .1 in
     let w = numeral-within text (at .at) _ _ here in
     omega arith
 
@@ -90,9 +97,13 @@ loop-again : tie.Need-loop-again Inv-loop μ-loop
 loop-again c =
     let at = c .before .before .before .before .before .before .before .before .before .before .before .loop in
     let text = c .before .before .before .before .before .before .before .before .before .before .before .before .before .args .text .now in
-    let here = sym (c .before .before .before .before .before .before .before .before .before .number-at .ensures) ∙ c .before .before .before .before .before .before .before .value .given .1 in
+    let read = c .before .before .before .before .before .before .before in
+    let here = sym (read .before .before .number-at .ensures) ∙ read .value .given .1 in
     let w = numeral-within text (at .at) _ _ here in
-    (omega arith, at .inv .1 ∙ scan-more text (at .at) (at .count) (at .bytes) _ _ (omega arith) here (sym (c .before .before .before .before .ends .ensures) ∙ c .before .before .before .if1 .left) (eq-eqb _ _ (c .if3 .left)) ∙ ap (scanLeft text _ (at .count + 1)) (sym (c .before .before .before .before .before .still-bytes .ensures)))
+    let on = sym (c .before .before .before .before .ends .ensures) ∙ c .before .before .before .if1 .left in
+    let more = scan-more text (at .at) (at .count) (at .bytes) _ _ (omega arith) here on (eq-eqb _ _ (c .if3 .left)) in
+    let still = sym (c .before .before .before .before .before .still-bytes .ensures) in
+    (omega arith, at .inv .1 ∙ more ∙ ap (scanLeft text _ (at .count + 1)) still)
 
 returns-5 : tie.Need-returns-5 Inv-loop μ-loop
 returns-5 c =

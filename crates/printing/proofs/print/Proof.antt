@@ -6,15 +6,16 @@ use native.Mathlib.Omega.{arith}
 use borrow.Author.Needs.{needs}
 use lib.ListN.{length, drop, length-append}
 use Rattle.lists.specs.Parts.{put}
+use Rattle.lists.proofs.Puts.{put-padded}
 use Rattle.codes.specs.Codes.{schemeOf}
 use Rattle.printing.specs.declared.Page.{Page}
-use Rattle.printing.specs.Output.{printed, blank, pageOf}
+use Rattle.printing.specs.Output.{printed, pageBytes, blank, pageOf}
 use Rattle.printing.proofs.print.Statement.{statement}
 use Rattle.printing.proofs.print.Tie as tie
 
 page-is : (text bytes : List ℕ) (n : ℕ) → n ≡ length text → bytes ≡ put 0 text blank → _≡_ {A = Page} (record { bytes = bytes; length = n }) (pageOf text)
-unfolding pageOf
-page-is text bytes n e f = rw (e, f)
+unfolding pageOf blank
+page-is text bytes n e f = rw (e, f ∙ put-padded text pageBytes)
 
 -- what was written without changing the buffer's length fits it
 page-fits : (text before after : List ℕ) → after ≡ put 0 text before → length after ≡ length before → length text ≤ length before

@@ -43,9 +43,12 @@ returns-2 c =
     let from = c .before .before .before .before .before .before .before .before .before .before in
     let a = from .args in
     let numbers = numbersAt (a .text .now) (a .at) in
-    let refused = value-refused _ _ _ (sym (c .before .before .before .before .before .before .before .check .ensures) ∙ c .before .before .before .before .before .outcome2 .given .1) in
+    let told = c .before .before .before .before .before in
+    let refused = value-refused _ _ _ (sym (told .before .before .check .ensures) ∙ told .outcome2 .given .1) in
     let found = scanned-list numbers (a .count) (a .bytes) (from .pre .0) in
-    written-as _ _ (a .out .now) _ _ (answer-refused schemeOf (a .c) (a .wanted) (listOf numbers) _ (rw (found .0, found .1) refused)) (c .before .before .put-refusal .ensures)
+    written-as _ _ (a .out .now) _ _
+    (answer-refused schemeOf (a .c) (a .wanted) (listOf numbers) _ (rw (found .0, found .1) refused))
+    (c .before .before .put-refusal .ensures)
 
 pub put-asked-spec : {M : Type 1} → statement M
 put-asked-spec =

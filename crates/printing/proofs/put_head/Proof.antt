@@ -3,7 +3,7 @@ use native.Mathlib.Omega.{arith}
 use Rattle.lists.specs.Ascii.{ascii}
 use Rattle.text_lines.specs.Decimal.{decimal}
 use Rattle.text_lines.proofs.Decimal.{length-most}
-use Rattle.printing.proofs.Parts.{put-three}
+use Rattle.lists.proofs.Puts.{put-three}
 use Rattle.printing.proofs.Writing.{head-length}
 use borrow.Author.Needs.{needs}
 use Rattle.printing.proofs.put_head.Statement.{statement}
@@ -46,8 +46,13 @@ returns c =
     let e = first .ensures .0 in
     let f = second .ensures .0 in
     let g = third .ensures .0 in
-    let l = head-length (a .server) in
-    (omega arith, put-three (a .at) (ascii "mirror=") (decimal (a .server)) (ascii " request=") (a .out .now) (first .last .0) (second .last .0) (third .last .0) (first .result) (second .result) (omega arith) e f (first .ensures .1) (second .ensures .1) (third .ensures .1))
+    let l = head-length (a .server) in (
+      omega arith,
+      put-three (a .at) (ascii "mirror=") (decimal (a .server)) (ascii " request=")
+          (a .out .now) (first .last .0) (second .last .0) (third .last .0)
+          (first .result) (second .result) (omega arith) e f
+          (first .ensures .1) (second .ensures .1) (third .ensures .1),
+    )
 
 pub put-head-spec : {M : Type 1} → statement M
 put-head-spec =

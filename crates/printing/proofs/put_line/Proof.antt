@@ -6,7 +6,7 @@ use Rattle.lists.specs.Ascii.{ascii}
 use Rattle.text_lines.proofs.Decimal.{length-most}
 use Rattle.number_lists.specs.NumberLists.{spaced}
 use Rattle.printing.specs.Output.{queryHead, queryLine}
-use Rattle.printing.proofs.Parts.{put-three}
+use Rattle.lists.proofs.Puts.{put-three}
 use Rattle.printing.proofs.Writing.{head-length}
 use borrow.Author.Needs.{needs}
 use Rattle.printing.proofs.put_line.Statement.{statement}
@@ -55,7 +55,12 @@ returns c =
     let h = second .ensures .1 .0 in
     let m = length-append (queryHead (a .server)) (spaced query ++ ascii "\n") in
     let n = length-append (spaced query) (ascii "\n") in
-    (omega arith, (omega arith, put-three (a .at) (queryHead (a .server)) (spaced query) (ascii "\n") (a .out .now) (first .last .0) (second .last .0) (third .last .0) (first .result) (second .result) (omega arith) e f (first .ensures .1) (second .ensures .1 .1) (third .ensures .1)))
+    let written =
+    put-three (a .at) (queryHead (a .server)) (spaced query) (ascii "\n")
+    (a .out .now) (first .last .0) (second .last .0) (third .last .0)
+    (first .result) (second .result) (omega arith) e f
+    (first .ensures .1) (second .ensures .1 .1) (third .ensures .1) in
+    (omega arith, (omega arith, written))
 
 pub put-line-spec : {M : Type 1} → statement M
 put-line-spec =

@@ -48,9 +48,11 @@ same-length-2 c = search needs
 returns-2 : tie.Need-returns-2
 unfolding printed inputAsks linesAsk
 returns-2 c =
-    let a = c .before .before .before .before .before .before .before .before .before .before .before .args in
-    let text = a .input .now in
-    let e : printed schemeOf text ≡ refusalLine Text = simp (le-ltb _ _ (c .before .before .before .before .before .before .before .before .if1 .left), sym (c .before .before .before .before .before .before .before .four-lines .ensures), c .before .before .before .before .enum-told2 .given .1) in
+    let lines = c .before .before .before .before .before .before .before in
+    let short = lines .before in
+    let a = short .before .before .before .args in
+    let e : printed schemeOf (a .input .now) ≡ refusalLine Text =
+    simp (le-ltb _ _ (short .if1 .left), sym (lines .four-lines .ensures), c .before .before .before .before .enum-told2 .given .1) in
     written-as _ _ (a .out .now) _ _ e (c .before .before .put-refusal2 .ensures)
 
 slice-aggregate-number-line : tie.Need-slice-aggregate-number-line
@@ -74,9 +76,14 @@ same-length-3 c = search needs
 returns-3 : tie.Need-returns-3
 unfolding printed inputAsks linesAsk
 returns-3 c =
-    let a = c .before .before .before .before .before .before .before .before .before .before .before .before .before .before .before .args in
-    let text = a .input .now in
-    let e : printed schemeOf text ≡ refusalLine Text = simp (le-ltb _ _ (c .before .before .before .before .before .before .before .before .before .before .before .before .if1 .left), sym (c .before .before .before .before .before .before .before .before .before .before .before .four-lines .ensures), c .before .before .before .before .before .before .before .before .enum-told .given .1, sym (c .before .before .before .before .before .before .number-line .ensures) ∙ c .before .before .before .before .enum-told3 .given .1) in
+    let line = c .before .before .before .before .before .before in
+    let found = line .before .before in
+    let lines = found .before .before .before in
+    let short = lines .before in
+    let a = short .before .before .before .args in
+    let wanted = sym (line .number-line .ensures) ∙ c .before .before .before .before .enum-told3 .given .1 in
+    let e : printed schemeOf (a .input .now) ≡ refusalLine Text =
+    simp (le-ltb _ _ (short .if1 .left), sym (lines .four-lines .ensures), found .enum-told .given .1, wanted) in
     written-as _ _ (a .out .now) _ _ e (c .before .before .put-refusal3 .ensures)
 
 scan-key-requires : tie.Need-scan-key-requires
@@ -97,9 +104,19 @@ same-length-4 c = search needs
 returns-4 : tie.Need-returns-4
 unfolding printed inputAsks linesAsk
 returns-4 c =
-    let a = c .before .before .before .before .before .before .before .before .before .before .before .before .before .before .before .before .before .before .before .args in
+    let scanned = c .before .before .before .before .before .before in
+    let asks = scanned .before .before in
+    let line = asks .before .before in
+    let found = line .before .before in
+    let lines = found .before .before .before in
+    let short = lines .before in
+    let a = short .before .before .before .args in
     let text = a .input .now in
-    let e : printed schemeOf text ≡ refusalLine Text = simp (le-ltb _ _ (c .before .before .before .before .before .before .before .before .before .before .before .before .before .before .before .before .if1 .left), sym (c .before .before .before .before .before .before .before .before .before .before .before .before .before .before .before .four-lines .ensures), c .before .before .before .before .before .before .before .before .before .before .before .before .enum-told .given .1, sym (c .before .before .before .before .before .before .before .before .before .before .number-line .ensures) ∙ c .before .before .before .before .before .before .before .before .wanted .given .1, scan-refused (keyLine text (c .before .before .before .before .before .before .before .before .wanted .given .0 .1 .0)) (sym (c .before .before .before .before .before .before .scan-key .ensures) ∙ c .before .before .before .before .enum-told4 .given .1)) in
+    let wanted = sym (line .number-line .ensures) ∙ asks .wanted .given .1 in
+    let none = sym (scanned .scan-key .ensures) ∙ c .before .before .before .before .enum-told4 .given .1 in
+    let key = scan-refused (keyLine text (asks .wanted .given .0 .1 .0)) none in
+    let e : printed schemeOf text ≡ refusalLine Text =
+    simp (le-ltb _ _ (short .if1 .left), sym (lines .four-lines .ensures), found .enum-told .given .1, wanted, key) in
     written-as _ _ (a .out .now) _ _ e (c .before .before .put-refusal4 .ensures)
 
 add-put-asked : tie.Need-add-put-asked
@@ -109,8 +126,11 @@ add-put-asked c =
 
 put-asked-requires : tie.Need-put-asked-requires
 put-asked-requires c κs =
-    let told = sym (c .before .before .before .before .scan-key .ensures) ∙ c .before .before .count .given .1 in
-    (ap scanOf (sym (key-line-read _ _ _ _ told .1)) ∙ told, c .before .before .before .before .before .before .before .before .before .before .before .before .before .before .before .before .before .pre)
+    let scanned = c .before .before .before .before in
+    let found = scanned .before .before .before .before .before .before in
+    let start = found .before .before .before .before .before .before .before in
+    let told = sym (scanned .scan-key .ensures) ∙ c .before .before .count .given .1 in
+    (ap scanOf (sym (key-line-read _ _ _ _ told .1)) ∙ told, start .pre)
 
 same-length-5 : tie.Need-same-length-5
 same-length-5 c = search needs
@@ -118,12 +138,22 @@ same-length-5 c = search needs
 returns-5 : tie.Need-returns-5
 unfolding printed inputAsks linesAsk
 returns-5 c =
-    let a = c .before .before .before .before .before .before .before .before .before .before .before .before .before .before .before .before .before .before .before .before .args in
+    let scanned = c .before .before .before .before .before .before .before in
+    let asks = scanned .before .before in
+    let line = asks .before .before in
+    let found = line .before .before in
+    let lines = found .before .before .before in
+    let short = lines .before in
+    let a = short .before .before .before .args in
     let text = a .input .now in
-    let told = sym (c .before .before .before .before .before .before .before .scan-key .ensures) ∙ c .before .before .before .before .before .count .given .1 in
+    let told = sym (scanned .scan-key .ensures) ∙ c .before .before .before .before .before .count .given .1 in
     let numbers = key-line-read _ _ _ _ told .1 in
-    let found = scanned-some _ _ _ (ap scanOf (sym numbers) ∙ told) in
-    let e : printed schemeOf text ≡ answerTo schemeOf (asked (c .before .before .before .before .before .before .before .before .before .before .before .before .before .before .before .before .four-lines .result .catalogue) (c .before .before .before .before .before .before .before .before .before .wanted .given .0 .0) (listOf (numbersAt text (c .before .before .before .before .before .before .before .before .before .wanted .given .0 .1 .0 + 4)))) = simp (le-ltb _ _ (c .before .before .before .before .before .before .before .before .before .before .before .before .before .before .before .before .before .if1 .left), sym (c .before .before .before .before .before .before .before .before .before .before .before .before .before .before .before .before .four-lines .ensures), c .before .before .before .before .before .before .before .before .before .before .before .before .before .enum-told .given .1, sym (c .before .before .before .before .before .before .before .before .before .before .before .number-line .ensures) ∙ c .before .before .before .before .before .before .before .before .before .wanted .given .1, numbers ∙ found) in
+    let wanted = sym (line .number-line .ensures) ∙ asks .wanted .given .1 in
+    let key = numbers ∙ scanned-some _ _ _ (ap scanOf (sym numbers) ∙ told) in
+    let at = asks .wanted .given .0 .1 .0 + 4 in
+    let ask = asked (lines .four-lines .result .catalogue) (asks .wanted .given .0 .0) (listOf (numbersAt text at)) in
+    let e : printed schemeOf text ≡ answerTo schemeOf ask =
+    simp (le-ltb _ _ (short .if1 .left), sym (lines .four-lines .ensures), found .enum-told .given .1, wanted, key) in
     written-as _ _ (a .out .now) _ _ e (c .before .before .put-asked .ensures)
 
 pub put-page-spec : {M : Type 1} → statement M

@@ -88,7 +88,8 @@ loop-again c =
     let f = put-it .ensures .1 .0 in
     let k = put-it .kept .0 in
     let i = at .inv in
-    let next : (at .server + 1) * (19 + 4 * a .size) ≡ at .server * (19 + 4 * a .size) + (19 + 4 * a .size) = rw (add-one) (suc-mul (at .server) (19 + 4 * a .size)) in
+    let long = 19 + 4 * a .size in
+    let next : (at .server + 1) * long ≡ at .server * long + long = rw (add-one) (suc-mul (at .server) long) in
     record {
       few = omega arith;
       place = omega arith;
@@ -109,8 +110,9 @@ returns c =
     let a = c .before .before .before .before .before .args in
     let i = c .before .before .loop .inv in
     let few = i .few in
-    let all : linesTo schemeOf (asked (a .c) (a .wanted) (a .key .now)) (c .before .before .loop .server) ≡ queryLines schemeOf (asked (a .c) (a .wanted) (a .key .now)) =
-    ap (linesTo schemeOf (asked (a .c) (a .wanted) (a .key .now))) (let e : c .before .before .loop .server ≡ a .c .servers = omega arith in e) ∙ lines-all schemeOf (asked (a .c) (a .wanted) (a .key .now)) in
+    let ask = asked (a .c) (a .wanted) (a .key .now) in
+    let e : c .before .before .loop .server ≡ a .c .servers = omega arith in
+    let all : linesTo schemeOf ask (c .before .before .loop .server) ≡ queryLines schemeOf ask = ap (linesTo schemeOf ask) e ∙ lines-all schemeOf ask in
     (i .place ∙ ap length all, i .lines ∙ ap (λ (t : List ℕ). put 0 t (a .out .now)) all)
 
 pub put-queries-spec : {M : Type 1} → statement M

@@ -25,7 +25,10 @@ cast-put-line c = search needs
 
 put-line-requires : tie.Need-put-line-requires
 put-line-requires c κs =
-    let n = number-text-most (ascii "refused=") 1 (c .before .before .number .result) (rw (c .before .before .number .ensures) (refusal-most (c .before .before .before .before .args .refusal))) in omega arith
+    let number = c .before .before .number in
+    let refusal = c .before .before .before .before .args .refusal in
+    let n = number-text-most (ascii "refused=") 1 (number .result) (rw (number .ensures) (refusal-most refusal)) in
+    omega arith
 
 same-length : tie.Need-same-length
 same-length c = search needs

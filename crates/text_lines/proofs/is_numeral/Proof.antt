@@ -25,7 +25,8 @@ unfolding isNumeral
 returns-4 c =
     let from = c .before .before .before in
     let text = from .before .args .text .now in
-    simp (le-leb _ _ (from .if1 .left), le-leb _ _ (c .before .before .if2 .left), lt-ltb _ _ (c .before .if3 .left), List·getD-eq-default text 0 {n = 0} (omega arith))
+    let none = List·getD-eq-default text 0 {n = 0} (omega arith) in
+    simp (le-leb _ _ (from .if1 .left), le-leb _ _ (c .before .before .if2 .left), lt-ltb _ _ (c .before .if3 .left), none)
 
 shared-slice-read-result : tie.Need-shared-slice-read-result
 shared-slice-read-result c = search needs

@@ -1,6 +1,6 @@
 -- `text_lines::number` meets its contract: the tests are the rule's, and the digits that are lent have the value.
-use mathlib.Core.Path.{_≡_, sym, ap, _∙_}
-use Prim.Native.Nat.{ℕ, _≤_}
+use mathlib.Core.Path.{_≡_, sym, _∙_}
+use Prim.Native.Nat.{_≤_}
 use native.Mathlib.Omega.{arith}
 use borrow.Author.Needs.{needs}
 use borrow.Author.Tests.{leb-true, eq-eqb, ne-eqb, not-true, not-false}
@@ -8,9 +8,8 @@ use lib.Dec.{leb}
 use lib.ListN.{length, take, length-take, List·getD-eq-default}
 use lib.Seq.{length-take-le}
 use Rattle.lists.proofs.Both.{both-true}
-use Rattle.text_lines.specs.Decimal.{digitCount}
 use Rattle.text_lines.specs.Lines.{isNumeral, numberAt}
-use Rattle.text_lines.proofs.DigitTexts.{digits-first, count-all}
+use Rattle.text_lines.proofs.DigitTexts.{count-first}
 use Rattle.text_lines.proofs.number.Statement.{statement}
 use Rattle.text_lines.proofs.number.Tie as tie
 
@@ -30,7 +29,8 @@ unfolding numberAt
 returns-2 c =
     let from = c .before .before in
     let text = from .before .before .before .args .text .now in
-    simp (sym (from .before .digits .ensures .0), sym (from .is-numeral .ensures) ∙ not-false _ (c .before .if1 .left), List·getD-eq-default text 0 {n = from .before .digits .result} (omega arith))
+    let rule = sym (from .is-numeral .ensures) ∙ not-false _ (c .before .if1 .left) in
+    simp (sym (from .before .digits .ensures .0), rule, List·getD-eq-default text 0 {n = from .before .digits .result} (omega arith))
 
 shared-slice-read-if3 : tie.Need-shared-slice-read-if3
 shared-slice-read-if3 c = search needs
@@ -39,7 +39,8 @@ returns-3 : tie.Need-returns-3
 unfolding numberAt
 returns-3 c =
     let from = c .before .before .before .before in
-    simp (sym (from .before .digits .ensures .0), sym (from .is-numeral .ensures) ∙ not-false _ (c .before .before .before .if1 .left), ne-eqb _ _ (c .if3 .taken))
+    let rule = sym (from .is-numeral .ensures) ∙ not-false _ (c .before .before .before .if1 .left) in
+    simp (sym (from .before .digits .ensures .0), rule, ne-eqb _ _ (c .if3 .taken))
 
 slice-aggregate-value : tie.Need-slice-aggregate-value
 slice-aggregate-value c = simp length-take (omega arith)
@@ -53,7 +54,7 @@ value-requires c κs =
     let long : length (take (d .result) text) ≡ d .result = length-take-le (d .result) text (d .ensures .1) in
     let rule = sym (from .is-numeral .ensures) ∙ not-false _ (c .before .before .before .before .if1 .left) in
     let few : d .result ≤ 5 = leb-true (d .result) 5 (both-true _ _ (both-true (leb 1 (d .result)) _ rule .1) .0) in
-    (omega arith, ap (λ (n : ℕ). digitCount (take n text)) (d .ensures .0) ∙ count-all (digits-first text) ∙ ap (λ (n : ℕ). length (take n text)) (sym (d .ensures .0)))
+    (omega arith, count-first text (d .result) (d .ensures .0))
 
 add-t7 : tie.Need-add-t7
 add-t7 c = search needs
@@ -65,7 +66,8 @@ returns-4 : tie.Need-returns-4
 unfolding numberAt
 returns-4 c =
     let from = c .before .before .before .before .before .before in
-    simp (sym (from .before .digits .ensures .0), sym (from .is-numeral .ensures) ∙ not-false _ (c .before .before .before .before .before .if1 .left), eq-eqb _ _ (c .before .before .if3 .left), c .value .ensures)
+    let rule = sym (from .is-numeral .ensures) ∙ not-false _ (c .before .before .before .before .before .if1 .left) in
+    simp (sym (from .before .digits .ensures .0), rule, eq-eqb _ _ (c .before .before .if3 .left), c .value .ensures)
 
 pub number-spec : {M : Type 1} → statement M
 number-spec =

@@ -13,15 +13,18 @@ use Rattle.text_lines.proofs.number_line.Statement.{statement}
 use Rattle.text_lines.proofs.number_line.Tie as tie
 
 -- what the test of the name says
-tested : (c : tie.After-starts) → c .starts .result ≡ begins (c .before .before .before .before .before .args .name .now) (drop (c .before .before .before .before .before .args .at) (c .before .before .before .before .before .args .text .now))
+tested : (c : tie.After-starts)
+    → let a = c .before .before .before .before .before .args in c .starts .result ≡ begins (a .name .now) (drop (a .at) (a .text .now))
 tested c =
     let a = c .before .before .before .before .before .args in
     c .starts .ensures ∙ ap (begins (a .name .now)) (to-end (a .text .now) (a .at))
 
-found : (c : tie.Else2) → begins (c .before .before .before .before .before .before .args .name .now) (drop (c .before .before .before .before .before .before .args .at) (c .before .before .before .before .before .before .args .text .now)) ≡ true
+found : (c : tie.Else2)
+    → let a = c .before .before .before .before .before .before .args in begins (a .name .now) (drop (a .at) (a .text .now)) ≡ true
 found c = sym (tested (c .before)) ∙ not-false _ (c .if2 .left)
 
-within : (c : tie.Else2) → c .before .before .before .before .before .before .args .at + length (c .before .before .before .before .before .before .args .name .now) ≤ length (c .before .before .before .before .before .before .args .text .now)
+within : (c : tie.Else2)
+    → let a = c .before .before .before .before .before .before .args in a .at + length (a .name .now) ≤ length (a .text .now)
 within c =
     let a = c .before .before .before .before .before .before .args in
     name-within (a .name .now) (a .text .now) (a .at) (c .before .before .before .if1 .left) (found c)

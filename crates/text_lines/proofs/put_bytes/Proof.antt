@@ -39,7 +39,10 @@ returns c =
     called .copy .ensures .1
     ∙ ap₂ (λ (s t : List ℕ). s ++ t) (take-length bytes) (drop-of-length-le part short)
     ∙ append-nil bytes in
-    (refl, ap (λ (l : List ℕ). take (a .at) (a .out .now) ++ (l ++ drop (a .at + length bytes - a .at) (drop (a .at) (a .out .now)))) copied ∙ put-part (a .at) (length bytes) bytes (a .out .now) refl)
+    let rest = drop (a .at + length bytes - a .at) (drop (a .at) (a .out .now)) in (
+      refl,
+      ap (λ (l : List ℕ). take (a .at) (a .out .now) ++ (l ++ rest)) copied ∙ put-part (a .at) (length bytes) bytes (a .out .now) refl,
+    )
 
 pub put-bytes-spec : {M : Type 1} → statement M
 put-bytes-spec =

@@ -82,6 +82,7 @@ loop-again : tie.Need-loop-again Inv-loop μ-loop
 loop-again c =
     let at = c .before in
     let from = at .before .before .before in
+    let a = from .args in
     let w = at .loop .inv in
     let front = at .loop .front in
     let p = w .place in
@@ -89,9 +90,11 @@ loop-again c =
     let e : at .loop .i ≡ suc (at .loop .i - 1) = omega arith in
     record {
       written = digit (front % 10) ∷ w .written;
-      whole = w .whole ∙ ap (λ (l : List ℕ). l ++ w .written) (decimal-large front (c .loop-test .taken)) ∙ append-assoc (decimal (front / 10)) (digit (front % 10) ∷ []) (w .written);
+      whole = w .whole
+          ∙ ap (λ (l : List ℕ). l ++ w .written) (decimal-large front (c .loop-test .taken))
+          ∙ append-assoc (decimal (front / 10)) (digit (front % 10) ∷ []) (w .written);
       place = omega arith;
-      bytes = next (from .args .at) (from .args .n) (from .args .out .now) (at .loop .i) front (at .loop .out) w (from .pre) (at .loop .i - 1) (digit (front % 10)) e;
+      bytes = next (a .at) (a .n) (a .out .now) (at .loop .i) front (at .loop .out) w (from .pre) (at .loop .i - 1) (digit (front % 10)) e;
     }
 
 cast-out-2 : tie.Need-cast-out-2 Inv-loop μ-loop
@@ -125,7 +128,10 @@ returns c =
     let p = w .place in
     let one = length-small front (c .loop-test .left) in
     let e : at .loop .i ≡ suc (from .args .at) = omega arith in
-    let all : decimal (from .args .n) ≡ digit front ∷ w .written = w .whole ∙ ap (λ (l : List ℕ). l ++ w .written) (decimal-small front (c .loop-test .left)) in (
+    let last : decimal front ++ w .written ≡ digit front ∷ w .written =
+    ap (λ (l : List ℕ). l ++ w .written) (decimal-small front (c .loop-test .left))
+    in
+    let all : decimal (from .args .n) ≡ digit front ∷ w .written = w .whole ∙ last in (
       ap (λ (m : ℕ). from .args .at + m) (at .before .width .ensures),
       next (from .args .at) (from .args .n) (from .args .out .now) (at .loop .i) front (at .loop .out) w (from .pre) (from .args .at) (digit front) e
           ∙ ap (λ (l : List ℕ). put (from .args .at) l (from .args .out .now)) (sym all),

@@ -5,8 +5,9 @@ use native.Mathlib.Nat.{pow-suc, pow-le-pow-right}
 use native.Mathlib.Numerals.{add-one}
 use native.Mathlib.Omega.{arith}
 use lib.ListN.{length, drop, getD}
+use Rattle.lists.proofs.Each.{All-get}
 use Rattle.text_lines.specs.Decimal.{valueFrom}
-use Rattle.text_lines.proofs.DigitTexts.{digit-range, all-digits, digits-at, value-more, value-end}
+use Rattle.text_lines.proofs.DigitTexts.{digit-range, all-digits, value-more, value-end}
 use Rattle.text_lines.proofs.value.Statement.{statement}
 use Rattle.text_lines.proofs.value.Tie as tie
 
@@ -25,7 +26,7 @@ turn c =
     let at = c .before .before in
     let text = at .before .args .text .now in
     let h : 10 ^ (at .loop .i) ≤ 10 ^ 5 = pow-le-pow-right {n = 10} (omega arith) {i = at .loop .i} {j = 5} (omega arith) in
-    let d = digit-range (getD text (at .loop .i) 0) (digits-at (all-digits text (at .before .pre .1)) (at .loop .i) (omega arith)) in
+    let d = digit-range (getD text (at .loop .i) 0) (All-get 0 (all-digits text (at .before .pre .1)) (at .loop .i) (omega arith)) in
     (omega arith, d .0, d .1)
 
 loop-holds : tie.Need-loop-holds Inv-loop μ-loop

@@ -7,7 +7,8 @@ use Rattle.trial_fetches.proofs.exchanges.Statement.{statement}
 use Rattle.trial_fetches.proofs.exchanges.Tie as tie
 
 abbrev Inv-loop : tie.InvT-loop
-Inv-loop store query₀ answer₀ answers₀ so-far₀ c n₀ query answer answers so-far n = (length query ≡ length query₀) × (length answer ≡ length answer₀) × (length answers ≡ length answers₀)
+Inv-loop store query₀ answer₀ answers₀ so-far₀ c n₀ query answer answers so-far n =
+    (length query ≡ length query₀) × (length answer ≡ length answer₀) × (length answers ≡ length answers₀)
 
 abbrev μ-loop : tie.MeasureT-loop
 μ-loop store query₀ answer₀ answers₀ so-far₀ c n₀ query answer answers so-far n = c .servers - n

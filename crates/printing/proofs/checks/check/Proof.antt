@@ -21,7 +21,8 @@ enum-known-measured-2 c = search needs
 returns : tie.Need-returns
 unfolding checkVerdict
 returns c =
-    let m = measured (c .before .before .before .before .before .args .c) _ _ (c .before .before .before .before .sizes .ensures) (c .before .before .measured .given .1) in
+    let from = c .before .before .before .before in
+    let m = measured (from .before .args .c) _ _ (from .sizes .ensures) (c .before .before .measured .given .1) in
     c .check-key .ensures ∙ simp (m .0, m .1)
 
 returns-2 : tie.Need-returns-2

@@ -10,10 +10,14 @@ returns-2 : tie.Need-returns-2
 returns-2 c = simp (lt-leb _ _ (c .before .if1 .left), ne-eqb _ _ (c .if2 .taken))
 
 returns-3 : tie.Need-returns-3
-returns-3 c = simp (lt-leb _ _ (c .before .before .if1 .left), eq-eqb _ _ (c .before .if2 .left), not-true (c .before .before .before .args .bytes) (c .if3 .taken))
+returns-3 c =
+    let bytes = c .before .before .before .args .bytes in
+    simp (lt-leb _ _ (c .before .before .if1 .left), eq-eqb _ _ (c .before .if2 .left), not-true bytes (c .if3 .taken))
 
 returns-4 : tie.Need-returns-4
-returns-4 c = simp (lt-leb _ _ (c .before .before .if1 .left), eq-eqb _ _ (c .before .if2 .left), not-false (c .before .before .before .args .bytes) (c .if3 .left))
+returns-4 c =
+    let bytes = c .before .before .before .args .bytes in
+    simp (lt-leb _ _ (c .before .before .if1 .left), eq-eqb _ _ (c .before .if2 .left), not-false bytes (c .if3 .left))
 
 pub check-key-spec : {M : Type 1} → statement M
 check-key-spec = tie.close (tie.spec returns returns-2 returns-3 returns-4)

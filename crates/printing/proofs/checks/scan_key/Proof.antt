@@ -1,14 +1,21 @@
 -- `printing::checks::scan_key` meets its contract: the part that is lent goes to the text's end, and past that end there is no line.
-use mathlib.Core.Path.{sym, ap, _∙_}
+use mathlib.Core.Path.{_≡_, sym, ap, _∙_}
 use native.Mathlib.Omega.{arith}
 use borrow.Author.Tests.{not-true, not-false}
-use lib.ListN.{drop-of-length-le}
+use lib.ListN.{drop, drop-of-length-le}
 use Rattle.lists.proofs.Cuts.{to-end}
 use Rattle.text_lines.specs.Lines.{begins}
 use Rattle.printing.specs.Input.{keyName, keyLine}
 use borrow.Author.Needs.{needs}
 use Rattle.printing.proofs.checks.scan_key.Statement.{statement}
 use Rattle.printing.proofs.checks.scan_key.Tie as tie
+
+-- what the test of the name says
+tested : (c : tie.After-starts)
+    → let a = c .before .before .before .before .before .args in c .starts .result ≡ begins keyName (drop (a .at) (a .text .now))
+tested c =
+    let a = c .before .before .before .before .before .args in
+    c .starts .ensures ∙ ap (begins keyName) (to-end (a .text .now) (a .at))
 
 returns : tie.Need-returns
 unfolding keyLine begins
@@ -31,7 +38,7 @@ starts-requires c κs = search needs
 
 returns-2 : tie.Need-returns-2
 unfolding keyLine
-returns-2 c = simp (sym (c .before .starts .ensures ∙ ap (begins keyName) (to-end (c .before .before .before .before .before .before .args .text .now) (c .before .before .before .before .before .before .args .at))) ∙ not-true _ (c .if2 .taken))
+returns-2 c = simp (sym (tested (c .before)) ∙ not-true _ (c .if2 .taken))
 
 add-scan : tie.Need-add-scan
 add-scan c = search needs
@@ -41,7 +48,7 @@ scan-requires c κs = search needs
 
 returns-3 : tie.Need-returns-3
 unfolding keyLine
-returns-3 c = c .scan .ensures ∙ simp (sym (c .before .before .starts .ensures ∙ ap (begins keyName) (to-end (c .before .before .before .before .before .before .before .args .text .now) (c .before .before .before .before .before .before .before .args .at))) ∙ not-false _ (c .before .if2 .left))
+returns-3 c = c .scan .ensures ∙ simp (sym (tested (c .before .before)) ∙ not-false _ (c .before .if2 .left))
 
 pub scan-key-spec : {M : Type 1} → statement M
 scan-key-spec =

@@ -1,12 +1,12 @@
--- `catalogue::even_sizes` meets its contract: the sizes of admitted parameters are small, so no sum and no product wraps.
+-- `parameters::even::sizes` meets its contract: the sizes of admitted parameters are small, so no sum and no product wraps.
 use Prim.Native.Nat.{_-_, _^_, _≤_}
 use native.Mathlib.Nat.{one-le-pow}
 use native.Mathlib.Omega.{arith}
 use Rattle.parameters.specs.Measures.{evenRows, evenSizes}
 use Rattle.parameters.proofs.Bounds.{EvenBounds, even-bounds}
-use Rattle.catalogue.proofs.SmallSizes.{Small, share-small, rows-small, even-small}
-use Rattle.catalogue.proofs.even_sizes.Statement.{statement}
-use Rattle.catalogue.proofs.even_sizes.Tie as tie
+use Rattle.parameters.proofs.SmallSizes.{Small, share-small, rows-small, even-small}
+use Rattle.parameters.proofs.even.sizes.Statement.{statement}
+use Rattle.parameters.proofs.even.sizes.Tie as tie
 
 bounds : (c : tie.Start) → EvenBounds (c .args .n) (c .args .k) (c .args .s)
 bounds c = even-bounds (c .args .n) (c .args .k) (c .args .s) (c .pre)
@@ -71,8 +71,8 @@ returns : tie.Need-returns
 unfolding evenSizes evenRows
 returns c = rw (c .before .power .ensures, c .power2 .ensures)
 
-pub even-sizes-spec : {M : Type 1} → statement M
-even-sizes-spec =
+pub sizes-spec : {M : Type 1} → statement M
+sizes-spec =
     tie.close
     (tie.spec
     power-requires

@@ -2,7 +2,6 @@
 -- the last column of document 01's table (`from-seven`).
 use mathlib.Core.Path.{_≡_, refl, sym, ap, _∙_}
 use mathlib.Core.Bool.{Bool, true, false, _&&_}
-use mathlib.Core.List.{List, [], _∷_}
 use Prim.Native.Nat.{ℕ, _+_, _-_, _^_, _≤_}
 use native.Mathlib.Nat.{pow-le-pow-left, pow-le-pow-right}
 use native.Mathlib.Omega.{arith}
@@ -12,11 +11,7 @@ use lib.ListN.{getD}
 use Rattle.lists.specs.Ranges.{every}
 use Rattle.lists.proofs.Every.{every-at}
 use Rattle.lists.proofs.Both.{both-true}
-use Rattle.catalogue.specs.Most.{Most}
-
--- for N = 2, 3, .., 16
-abbrev pub table : List ℕ
-table = 8 ∷ 5 ∷ 4 ∷ 3 ∷ 3 ∷ 2 ∷ 2 ∷ 2 ∷ 2 ∷ 2 ∷ 2 ∷ 2 ∷ 2 ∷ 2 ∷ 2 ∷ []
+use Rattle.parameters.specs.Table.{table, mostMessages, Most}
 
 -- the rule of `Most`, as a test
 abbrev isMost : ℕ → ℕ → Bool
@@ -27,15 +22,17 @@ is-most N K e =
     let p = both-true (leb (N ^ K) 256) (ltb 256 (N ^ (K + 1))) e in
     record { within = leb-true (N ^ K) 256 (p .0); beyond = ltb-true 256 (N ^ (K + 1)) (p .1) }
 
+-- one computed test over all fifteen entries
 table-right : every 15 (λ i. isMost (i + 2) (getD table i 0)) ≡ true
 unfolding every
 table-right = refl
 
-pub table-most : (N : ℕ) → 2 ≤ N → N ≤ 16 → Most N (getD table (N - 2) 0)
+-- the rule holds at N's entry
+pub table-most : (N : ℕ) → 2 ≤ N → N ≤ 16 → Most N (mostMessages N)
 table-most N low high =
     let e : N - 2 + 2 ≡ N = omega arith in
-    is-most N (getD table (N - 2) 0)
-    (ap (λ (n : ℕ). isMost n (getD table (N - 2) 0)) (sym e)
+    is-most N (mostMessages N)
+    (ap (λ (n : ℕ). isMost n (mostMessages N)) (sym e)
     ∙ every-at 15 (λ i. isMost (i + 2) (getD table i 0)) table-right (N - 2) (omega arith))
 
 -- K is at most the entry exactly if N^K is at most 256
@@ -54,8 +51,8 @@ most-decides N K most low m = go (leb K most) refl
         sym (lt-leb (N ^ K) 256 (omega arith))
 
 -- K is within the even code's bound exactly if it is at most N's entry
-pub table-decides : (N K : ℕ) → 2 ≤ N → N ≤ 16 → leb (N ^ K) 256 ≡ leb K (getD table (N - 2) 0)
-table-decides N K low high = sym (most-decides N K (getD table (N - 2) 0) low (table-most N low high))
+pub table-decides : (N K : ℕ) → 2 ≤ N → N ≤ 16 → leb (N ^ K) 256 ≡ leb K (mostMessages N)
+table-decides N K low high = sym (most-decides N K (mostMessages N) low (table-most N low high))
 
 -- from N = 7 on the greatest K is 2
 pub from-seven : (N : ℕ) → 7 ≤ N → N ≤ 16 → Most N 2

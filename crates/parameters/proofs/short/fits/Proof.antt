@@ -1,13 +1,13 @@
--- `catalogue::short_fits` meets its contract: the shared bounds, then those on K.
+-- `parameters::short::fits` meets its contract: the shared bounds, then those on K.
 use mathlib.Core.Path.{_≡_, _∙_}
 use mathlib.Core.Bool.{false}
 use borrow.Author.Needs.{needs}
 use borrow.Author.Tests.{le-leb, lt-leb, not-true, not-false}
 use lib.Dec.{leb}
 use Rattle.parameters.specs.Bounds.{shortMessagesFit, shortFits}
-use Rattle.catalogue.proofs.Common.{common-fails, common-holds}
-use Rattle.catalogue.proofs.short_fits.Statement.{statement}
-use Rattle.catalogue.proofs.short_fits.Tie as tie
+use Rattle.parameters.proofs.Common.{common-fails, common-holds}
+use Rattle.parameters.proofs.short.fits.Statement.{statement}
+use Rattle.parameters.proofs.short.fits.Tie as tie
 
 common-fits-requires : tie.Need-common-fits-requires
 common-fits-requires c κs = search needs
@@ -35,5 +35,5 @@ returns-3 c =
     let some : leb (a .k) 32 ≡ shortMessagesFit (a .k) = simp (le-leb _ _ (c .if2 .left)) in
     some ∙ common-holds (a .n) (a .s) (f .result) (f .ensures) (shortMessagesFit (a .k)) (not-false (f .result) (c .before .if1 .left))
 
-pub short-fits-spec : {M : Type 1} → statement M
-short-fits-spec = tie.close (tie.spec common-fits-requires returns returns-2 returns-3)
+pub fits-spec : {M : Type 1} → statement M
+fits-spec = tie.close (tie.spec common-fits-requires returns returns-2 returns-3)

@@ -1,8 +1,8 @@
--- `catalogue::most_messages` meets its contract: the table's rule holds at each of its entries.
+-- `parameters::even::most_messages` meets its contract: it reads the table's entry for N.
+use mathlib.Core.Path.{refl}
 use borrow.Author.Needs.{needs}
-use Rattle.catalogue.proofs.Table.{table-most}
-use Rattle.catalogue.proofs.most_messages.Statement.{statement}
-use Rattle.catalogue.proofs.most_messages.Tie as tie
+use Rattle.parameters.proofs.even.most_messages.Statement.{statement}
+use Rattle.parameters.proofs.even.most_messages.Tie as tie
 
 sub-result : tie.Need-sub-result
 sub-result c = search needs
@@ -14,7 +14,7 @@ array-read-result : tie.Need-array-read-result
 array-read-result c = search needs
 
 returns : tie.Need-returns
-returns c = table-most (c .args .n) (c .pre .0) (c .pre .1)
+returns c = refl
 
 pub most-messages-spec : {M : Type 1} → statement M
 most-messages-spec = tie.close (tie.spec sub-result mul-result array-read-result returns)

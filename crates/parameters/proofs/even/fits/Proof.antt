@@ -1,16 +1,17 @@
--- `catalogue::even_fits` meets its contract: the shared bounds, then K against the table's entry, which decides N^K against 256.
-use mathlib.Core.Path.{_≡_, sym, _∙_}
+-- `parameters::even::fits` meets its contract: the shared bounds, then K against the table's entry, which decides N^K against 256.
+use mathlib.Core.Path.{_≡_, sym, ap, _∙_}
 use mathlib.Core.Bool.{false}
-use Prim.Native.Nat.{_^_, _≤_}
+use Prim.Native.Nat.{ℕ, _^_, _≤_}
 use borrow.Author.Needs.{needs}
 use borrow.Author.Tests.{le-leb, lt-leb, leb-true, not-true, not-false}
 use lib.Dec.{leb}
 use Rattle.lists.proofs.Both.{both-true}
 use Rattle.parameters.specs.Bounds.{serversFit, symbolFits, evenMessagesFit, evenFits}
-use Rattle.catalogue.proofs.Common.{common-fails, common-holds}
-use Rattle.catalogue.proofs.Table.{most-decides}
-use Rattle.catalogue.proofs.even_fits.Statement.{statement}
-use Rattle.catalogue.proofs.even_fits.Tie as tie
+use Rattle.parameters.specs.Table.{mostMessages}
+use Rattle.parameters.proofs.Common.{common-fails, common-holds}
+use Rattle.parameters.proofs.Table.{table-decides}
+use Rattle.parameters.proofs.even.fits.Statement.{statement}
+use Rattle.parameters.proofs.even.fits.Tie as tie
 
 common-fits-requires : tie.Need-common-fits-requires
 common-fits-requires c κs = search needs
@@ -47,10 +48,14 @@ unfolding evenFits
 returns-3 c =
     let f = c .before .before .before .common-fits in
     let a = c .before .before .before .before .args in
-    let decided = most-decides (a .n) (a .k) (c .most-messages .result) (servers (c .before) .0) (c .most-messages .ensures) in
+    let within = servers (c .before) in
+    let entry : leb (a .k) (c .most-messages .result) ≡ leb (a .k) (mostMessages (a .n)) =
+    ap (λ (most : ℕ). leb (a .k) most) (c .most-messages .ensures)
+    in
+    let decided = entry ∙ sym (table-decides (a .n) (a .k) (within .0) (within .1)) in
     let some : leb (a .n ^ a .k) 256 ≡ evenMessagesFit (a .n) (a .k) = simp (le-leb _ _ (c .before .if2 .left)) in
     decided ∙ some
     ∙ common-holds (a .n) (a .s) (f .result) (f .ensures) (evenMessagesFit (a .n) (a .k)) (not-false (f .result) (c .before .before .if1 .left))
 
-pub even-fits-spec : {M : Type 1} → statement M
-even-fits-spec = tie.close (tie.spec common-fits-requires returns returns-2 most-messages-requires returns-3)
+pub fits-spec : {M : Type 1} → statement M
+fits-spec = tie.close (tie.spec common-fits-requires returns returns-2 most-messages-requires returns-3)

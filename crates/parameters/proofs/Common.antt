@@ -1,8 +1,9 @@
--- The bounds of a code are those that the codes share, then those on K.
+-- The bounds of a code are those that the codes share, then those on K: where the shared ones fail so do all (`common-fails`), and where they
+-- hold the rest decides (`common-holds`).
 use mathlib.Core.Path.{_≡_, sym, ap, _∙_}
 use mathlib.Core.Bool.{Bool, true, false, _&&_, and-assoc}
 use Prim.Native.Nat.{ℕ}
 use Rattle.parameters.specs.Bounds.{serversFit, symbolFits}
 
 module _ (N S : ℕ) (common : Bool) (e : common ≡ serversFit N && symbolFits S) (rest : Bool) where
   common-first : serversFit N && (symbolFits S && rest) ≡ common && rest

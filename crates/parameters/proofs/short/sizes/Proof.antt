@@ -1,11 +1,11 @@
--- `catalogue::short_sizes` meets its contract: the sizes of admitted parameters are small, so no product wraps.
+-- `parameters::short::sizes` meets its contract: the sizes of admitted parameters are small, so no product wraps.
 use mathlib.Core.Path.{refl}
 use native.Mathlib.Omega.{arith}
 use Rattle.parameters.specs.Measures.{shortSizes}
 use Rattle.parameters.proofs.Bounds.{ShortBounds, short-bounds}
-use Rattle.catalogue.proofs.SmallSizes.{Small, short-small}
-use Rattle.catalogue.proofs.short_sizes.Statement.{statement}
-use Rattle.catalogue.proofs.short_sizes.Tie as tie
+use Rattle.parameters.proofs.SmallSizes.{Small, short-small}
+use Rattle.parameters.proofs.short.sizes.Statement.{statement}
+use Rattle.parameters.proofs.short.sizes.Tie as tie
 
 bounds : (c : tie.Start) → ShortBounds (c .args .n) (c .args .k) (c .args .s)
 bounds c = short-bounds (c .args .n) (c .args .k) (c .args .s) (c .pre)
@@ -31,5 +31,5 @@ returns : tie.Need-returns
 unfolding shortSizes
 returns c = refl
 
-pub short-sizes-spec : {M : Type 1} → statement M
-short-sizes-spec = tie.close (tie.spec sub-symbols mul-message mul-t6 sub-t7 returns)
+pub sizes-spec : {M : Type 1} → statement M
+sizes-spec = tie.close (tie.spec sub-symbols mul-message mul-t6 sub-t7 returns)

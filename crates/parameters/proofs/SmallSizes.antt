@@ -1,12 +1,14 @@
--- The sizes of an admitted catalogue are small: what callers need so that their sums and products fit.
-use Prim.Native.Nat.{ℕ, _-_, _*_, _^_, _≤_, _<_}
-use native.Mathlib.Nat.{mul-le-mul, pow-le-pow-right, div-le-self}
+-- Within the bounds of a code its sizes are small (`short-small`, `even-small`): what callers need so that their sums and products fit.
+-- Rests on the bounds as facts (`Bounds`).
+use mathlib.Core.Path.{_≡_, sym, ap, _∙_}
+use Prim.Native.Nat.{ℕ, suc, _-_, _*_, _^_, _≤_, _<_}
+use native.Mathlib.Nat.{mul-le-mul, mul-comm, mul-left-comm, pow-suc, pow-le-pow-right, div-le-self}
 use native.Mathlib.Omega.{arith}
 use Rattle.parameters.specs.declared.Sizes.{Sizes}
 use Rattle.parameters.specs.Measures.{shortSizes, evenRows, evenSizes, keyPlaces, mostServers}
 use Rattle.parameters.proofs.Bounds.{ShortBounds, EvenBounds}
 
--- the sizes, and the slots of N servers together
+-- the sizes, and the queries and slots of N servers together
 pub record Small (N : ℕ) (sizes : Sizes) : Type 0 where
   pub servers : N ≤ mostServers
   pub symbols : sizes .symbols ≤ 256
@@ -14,6 +16,7 @@ pub record Small (N : ℕ) (sizes : Sizes) : Type 0 where
   pub store : sizes .store < 2 ^ 32
   pub key : sizes .key ≤ keyPlaces
   pub query : sizes .query ≤ keyPlaces
+  pub queries : N * sizes .query ≤ keyPlaces
   pub slot : sizes .slot < 2 ^ 32
   pub slots : N * sizes .slot < 2 ^ 32
 
@@ -23,6 +26,7 @@ short-small N K S b =
     let n : N - 1 ≤ 15 = omega arith in
     let m : (N - 1) * S ≤ 15 * 4096 = mul-le-mul n (b .symbol-high) in
     let t : K * ((N - 1) * S) ≤ 32 * (15 * 4096) = mul-le-mul (b .messages-high) m in
+    let a : N * K ≤ 16 * 32 = mul-le-mul (b .servers-high) (b .messages-high) in
     let l : N * S ≤ 16 * 4096 = mul-le-mul (b .servers-high) (b .symbol-high) in
     record {
       servers = b .servers-high;
@@ -31,6 +35,7 @@ short-small N K S b =
       store = omega arith;
       key = omega arith;
       query = omega arith;
+      queries = omega arith;
       slot = omega arith;
       slots = omega arith;
     }
@@ -45,6 +50,13 @@ unfolding evenRows
 rows-small N K S b =
     let h = share-small N K S b in let d = div-le-self (N ^ (K - 1) - 1) (N - 1) in omega arith
 
+-- the queries of all servers name every symbol of every message once
+queries-whole : (N K : ℕ) → 1 ≤ K → N * (K * N ^ (K - 1)) ≡ K * N ^ K
+queries-whole N K h =
+    let less : N * N ^ (K - 1) ≡ N ^ K =
+    mul-comm N (N ^ (K - 1)) ∙ sym (pow-suc N (K - 1)) ∙ ap (λ (n : ℕ). N ^ n) (let e : suc (K - 1) ≡ K = omega arith in e) in
+    mul-left-comm N K (N ^ (K - 1)) ∙ ap (λ (n : ℕ). K * n) less
+
 pub even-small : (N K S : ℕ) → EvenBounds N K S → Small N (evenSizes N K S)
 unfolding evenSizes
 even-small N K S b =
@@ -52,6 +64,7 @@ even-small N K S b =
     let t : K * (N ^ K * S) ≤ 8 * (256 * 4096) = mul-le-mul (b .messages-high) m in
     let k : K * N ^ K ≤ 8 * 256 = mul-le-mul (b .messages-high) (b .symbols-high) in
     let q : K * N ^ (K - 1) ≤ 8 * 256 = mul-le-mul (b .messages-high) (share-small N K S b) in
+    let a : N * (K * N ^ (K - 1)) ≡ K * N ^ K = queries-whole N K (b .messages-low) in
     let s : evenRows N K * S ≤ 512 * 4096 = mul-le-mul (rows-small N K S b) (b .symbol-high) in
     let l : N * (evenRows N K * S) ≤ 16 * (512 * 4096) = mul-le-mul (b .servers-high) s in
     record {
@@ -61,6 +74,7 @@ even-small N K S b =
       store = omega arith;
       key = k;
       query = q;
+      queries = omega arith;
       slot = omega arith;
       slots = omega arith;
     }
