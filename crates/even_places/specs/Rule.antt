@@ -97,20 +97,22 @@ unfolding range keep
 others N n = keep (λ m. not (eqb m n)) (range 0 N)
 
 module _ (N K k : ℕ) where
-  -- the sets of the side rows of block b, in the order made: each set without k, in lexicographic order, (N - 1)^b times
+  -- The sets of the side rows of block b, in the order made: each set without k, in lexicographic order, (N - 1)^b times. In the first
+  -- block (01: block 1): each message but k alone, once
   unfoldable pub sideSets : ℕ → List (List Bool)
   unfolding has sets keep flatMap
   sideSets b = flatMap (replicate ((N - 1) ^ b)) (keep (λ A. not (has k A)) (sets K (suc b)))
 
   -- Server n's wanted rows of a block, where x is the next place of k and `before` has what each server made in the block before.
-  -- In the first block the row of k alone; later the side rows of each other server, ascending, each joined with the next place of k
+  -- In the first block (01: block 1): k alone, once. Later (01: block b above 1): for each other server, ascending, for each of its rows
+  -- of the block before without k, in the order made, that row joined with the next place of k
   unfoldable pub wantedOf : ℕ → List TurnRows → ℕ → ℕ → List Row
   unfolding others join flatMap
   wantedOf zero before n x = set (replicate K none) k (some x) ∷ []
   wantedOf (suc b) before n x = join k x (flatMap (λ m. getD before m idle .side) (others N n))
 
-  -- Server n's turn in block b, where c has the next place of each message: side rows, then wanted rows. In the first block they are
-  -- one row for each message, of its next place
+  -- Server n's turn in block b, where c has the next place of each message: side rows, each taking the next place of every message in
+  -- its set, then wanted rows. So in the first block each message gives its next place, one row each
   unfoldable pub turn : ℕ → List TurnRows → ℕ → List ℕ → TurnRows
   unfolding sideSets wantedOf number afters
   turn b before n c = record {

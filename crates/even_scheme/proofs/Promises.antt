@@ -47,9 +47,12 @@ even-laws sum N K S group fits = record {
   answer-fits = answer-fits sum N K S;
   recovers = recovers sum N K S group fits;
   exchange = evenExchange N K;
-  exchange-valid = λ server wanted other key there known known′ valid. moved-valid sum N K S fits server wanted server other key there known there known′ valid;
-  exchange-back = λ server wanted other key there known known′ valid. moved-back sum N K S fits server wanted server other key there known there known′ valid;
-  exchange-shown = λ server wanted other key there known known′ valid. moved-shown sum N K S fits server wanted server other key there known there known′ valid;
+  exchange-valid = λ server wanted other key there known known′ valid.
+      moved-valid sum N K S fits server wanted server other key there known there known′ valid;
+  exchange-back = λ server wanted other key there known known′ valid.
+      moved-back sum N K S fits server wanted server other key there known there known′ valid;
+  exchange-shown = λ server wanted other key there known known′ valid.
+      moved-shown sum N K S fits server wanted server other key there known there known′ valid;
 }
 
 pub even-written : (sum : Sum) (N K S : ℕ) → AbelianGroup sum S → evenFits N K S ≡ true → (wanted : ℕ) → wanted < K → (key : List ℕ)

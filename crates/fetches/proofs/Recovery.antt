@@ -14,7 +14,7 @@ use Rattle.lists.specs.Below.{Below}
 use Rattle.lists.proofs.Every.{every-true, every-false}
 use Rattle.lists.proofs.Mapped.{map-range}
 use Rattle.refusal.specs.declared.Verdict.{Verdict}
-use Rattle.refusal.specs.declared.Verdict.the-variants.{Accepted, Refused}
+use Rattle.refusal.specs.declared.Verdict.the-variants.{Accepted}
 use Rattle.refusal.specs.Chain.{refused, refuseIf}
 use Rattle.scheme.specs.Scheme.{Scheme, Valid, messageOf, honestAnswers, answersIn, recoverIn}
 use Rattle.scheme.specs.Laws.{Laws}

@@ -37,7 +37,8 @@ module _ (schemeOf : Catalogue → Scheme) where
 
   unchanged : (past : Past) (at : State) (call : Call) → Unchanged past (make schemeOf at call)
   unchanged past at (issuing server query answer) refusal e = let q = issue-goes schemeOf (at .session) server query .unchanged refusal e in rw q (refl, refl)
-  unchanged past at (taking server answer) refusal e = let q = take-goes schemeOf (at .session) server answer (at .answers) .unchanged refusal e in rw q (refl, refl)
+  unchanged past at (taking server answer) refusal e =
+      let q = take-goes schemeOf (at .session) server answer (at .answers) .unchanged refusal e in rw q (refl, refl)
   unchanged past at (recovering message) refusal e = let q = recover-goes schemeOf (at .session) (at .answers) message .unchanged refusal e in rw q (refl, refl)
 
   pub all-unchanged : (calls : List Call) (past : Past) (at : State) → Throughout Unchanged past (run schemeOf at calls)
