@@ -8,7 +8,8 @@ use Rattle.lists.proofs.Writing.{Pending, pending-start, pending-part, pending-
 use Rattle.lists.proofs.Puts.{put-padded}
 use Rattle.even_places.specs.Rule.{allSets, positions}
 use Rattle.even_layout.proofs.Blocks.{subsets-few, all-length}
-use Rattle.even_layout.proofs.Tables.{SetByte, byte-at, set-positions, setPositions, positionsFrom, positions-all, positions-none, positions-more, positions-room}
+use Rattle.even_layout.proofs.Tables.{SetByte, byte-at, set-positions, setPositions}
+use Rattle.even_layout.proofs.Tables.{positionsFrom, positions-all, positions-none, positions-more, positions-room}
 use Rattle.even_layout.proofs.positions.Statement.{statement}
 use Rattle.even_layout.proofs.positions.Tie as tie
 
