@@ -56,8 +56,8 @@ enum gozimpe_refusal {
  * store that is a mapped file must not be written or made shorter meanwhile. The pointer of a buffer of
  * length 0 may be anything, NULL too.
  *
- * Have 16 KiB of stack left at each call. Measured: 4,344 bytes; up to 7,480 in a process's first call, in
- * which the loader may look up memcpy.
+ * Have 16 KiB of stack left at each call. Measured: 4,328 bytes; 7,480 in a process's first call, in which
+ * the loader may look up memcpy.
  */
 int64_t gozimpe_answer(const uint8_t *catalogue, size_t catalogue_len,
                        uint64_t mirror,
