@@ -1,10 +1,13 @@
--- Every admitted catalogue's scheme keeps its promises: `promises`, by the laws of the code that the catalogue names. Its sizes are
--- the catalogue's: `scheme-sizes`.
+-- Every admitted catalogue's scheme keeps its promises: `promises`, by the laws of the code that the catalogue names, over the group that
+-- its symbols are combined in. Its sizes are the catalogue's: `scheme-sizes`.
 use mathlib.Core.Path.{_≡_, refl}
 use mathlib.Core.Bool.{true}
 use Prim.Native.Nat.{ℕ}
 use Rattle.parameters.specs.Bounds.{shortFits, evenFits}
-use Rattle.symbol.specs.Xor.{xor}
+use Rattle.symbol.specs.Sum.{Sum}
+use Rattle.symbol.specs.Group.{AbelianGroup}
+use Rattle.symbol.specs.Operations.{sumOf}
+use Rattle.symbol.proofs.Operations.{group-of}
 use Rattle.scheme.specs.Laws.{Laws}
 use Rattle.catalogue.specs.declared.Code.{Code}
 use Rattle.catalogue.specs.declared.Code.the-variants.{Short, Even}
@@ -12,26 +15,27 @@ use Rattle.catalogue.specs.declared.Catalogue.{Catalogue}
 use Rattle.catalogue.specs.Catalogue.{fits, Admitted, sizesBy, sizesOf}
 use Rattle.catalogue.proofs.Admitted.{admitted-fits}
 use Rattle.short_code.specs.Short.{shortScheme}
-use Rattle.short_code.proofs.Promises.{short-promises}
+use Rattle.short_code.proofs.Promises.{short-laws}
 use Rattle.even_scheme.specs.Even.{evenScheme}
-use Rattle.even_scheme.proofs.Promises.{even-promises}
-use Rattle.codes.specs.Codes.{schemeBy, schemeOf}
+use Rattle.even_scheme.proofs.Promises.{even-laws}
+use Rattle.codes.specs.Codes.{operation, schemeBy, schemeOf}
 
-promises-by : (code : Code) (N K S : ℕ) → fits code N K S ≡ true → Laws N K (schemeBy code N K S)
-promises-by Short = short-promises
-promises-by Even = even-promises
+laws-by : (code : Code) (sum : Sum) (N K S : ℕ) → AbelianGroup sum S → fits code N K S ≡ true → Laws N K (schemeBy code sum N K S)
+laws-by Short = short-laws
+laws-by Even = even-laws
 
 pub promises : (c : Catalogue) → Admitted c → Laws (c .servers) (c .messages) (schemeOf c)
 unfolding schemeOf
-promises c a = promises-by (c .code) (c .servers) (c .messages) (c .symbol) (admitted-fits c a)
+promises c a =
+    laws-by (c .code) (sumOf operation) (c .servers) (c .messages) (c .symbol) (group-of operation (c .symbol)) (admitted-fits c a)
 
-sizes-by : (code : Code) (N K S : ℕ) → schemeBy code N K S .sizes ≡ sizesBy code N K S
-sizes-by Short N K S = refl
-sizes-by Even N K S = refl
+sizes-by : (code : Code) (sum : Sum) (N K S : ℕ) → schemeBy code sum N K S .sizes ≡ sizesBy code N K S
+sizes-by Short sum N K S = refl
+sizes-by Even sum N K S = refl
 
 pub scheme-sizes : (c : Catalogue) → schemeOf c .sizes ≡ sizesOf c
 unfolding schemeOf sizesOf
-scheme-sizes c = sizes-by (c .code) (c .servers) (c .messages) (c .symbol)
+scheme-sizes c = sizes-by (c .code) (sumOf operation) (c .servers) (c .messages) (c .symbol)
 
 -- ---- what the code of an admitted catalogue says of its numbers
 
@@ -43,10 +47,10 @@ admitted-even c a e = rw e at (admitted-fits c a)
 
 -- ---- the scheme of a catalogue whose code is known
 
-pub scheme-short : (c : Catalogue) → c .code ≡ Short → schemeOf c ≡ shortScheme xor (c .servers) (c .messages) (c .symbol)
+pub scheme-short : (c : Catalogue) → c .code ≡ Short → schemeOf c ≡ shortScheme (sumOf operation) (c .servers) (c .messages) (c .symbol)
 unfolding schemeOf
 scheme-short c e = rw e
 
-pub scheme-even : (c : Catalogue) → c .code ≡ Even → schemeOf c ≡ evenScheme xor (c .servers) (c .messages) (c .symbol)
+pub scheme-even : (c : Catalogue) → c .code ≡ Even → schemeOf c ≡ evenScheme (sumOf operation) (c .servers) (c .messages) (c .symbol)
 unfolding schemeOf
 scheme-even c e = rw e

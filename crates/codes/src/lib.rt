@@ -2,6 +2,7 @@
 use catalogue::Catalogue;
 use catalogue::Code;
 use catalogue::Measured;
+use symbol::Operation;
 ghost use mathlib.Core.Path.{_≡_};
 ghost use mathlib.Core.Bool.{true};
 ghost use Prim.Native.Nat.{_*_, _≤_, _<_};
@@ -96,10 +97,11 @@ pub fn answer(c: Catalogue, server: usize, store: &[u8], query: &[u8], out: &mut
     requires { ⌜ schemeOf c .answerLength (now query) ≤ length (now out) ⌝ }
     ensures { λ _. ⌜ now (out .exit) ≡ put 0 (schemeOf c .answer (now (store .entry)) (now (query .entry))) (now (out .entry)) ⌝ }
 {
+    let op = Operation::ExclusiveOr;
     let code = c.code;
     match code {
-        Code::Short => short_code::answer(c.servers, c.messages, c.symbol, store, query, out),
-        Code::Even => even_answer::answer(c.servers, c.messages, c.symbol, store, query, out),
+        Code::Short => short_code::answer(op, c.servers, c.messages, c.symbol, store, query, out),
+        Code::Even => even_answer::answer(op, c.servers, c.messages, c.symbol, store, query, out),
     }
 }
 
@@ -112,9 +114,11 @@ pub fn recover(c: Catalogue, wanted: usize, key: &[u8], answers: &[u8], message:
     requires { ⌜ schemeOf c .sizes .message ≤ length (now message) ⌝ }
     ensures { λ _. ⌜ now (message .exit) ≡ put 0 (recoverIn (schemeOf c) (c .servers) wanted (now (key .entry)) (now (answers .entry))) (now (message .entry)) ⌝ }
 {
+    let op = Operation::ExclusiveOr;
     let code = c.code;
     match code {
         Code::Short => short_code::recover(
+            op,
             c.servers,
             c.messages,
             c.symbol,
@@ -124,6 +128,7 @@ pub fn recover(c: Catalogue, wanted: usize, key: &[u8], answers: &[u8], message:
             message,
         ),
         Code::Even => even_recover::recover(
+            op,
             c.servers,
             c.messages,
             c.symbol,

@@ -23,7 +23,7 @@ use Rattle.even_places.specs.Rule.{positions}
 use Rattle.even_places.proofs.AllSets.{layout-long}
 use Rattle.even_places.proofs.Positions.{positions-length}
 use Rattle.even_scheme.specs.Even.{numbersOf, evenAdmits}
-use Rattle.even_layout.specs.Layout.{Bounds}
+use Rattle.even_layout.specs.Layout.{LayoutBounds}
 use Rattle.even_answer.specs.Answering.{Answerable, cellOf}
 use Rattle.even_answer.proofs.Fresh.{named, distinct-cells}
 use Rattle.even_answer.proofs.RowLaws.{members-all}
@@ -33,17 +33,17 @@ pub positions-below : (N K : ℕ) → Below K (positions N K)
 unfolding positions
 positions-below N K i h = All-get 0 (All-flatMap (members 0) (All-imp (λ A e. members-all A e) (layout-long N K))) i h
 
-pub power-less : (N K : ℕ) → Bounds N K → N ^ (K - 1) ≤ 256
+pub power-less : (N K : ℕ) → LayoutBounds N K → N ^ (K - 1) ≤ 256
 power-less N K bounds =
     omega (arith, pow-le-pow-right {n = N} (let w : 0 < N = omega (arith, bounds .servers-low) in w) (let w : K - 1 ≤ K = omega arith in w), bounds .symbols-high)
 
 -- the positions of a query of the right length, from the table
-pub positions-front : (N K : ℕ) (table query : List ℕ) → Bounds N K → table ≡ padded 1024 (positions N K) → length query ≡ K * N ^ (K - 1)
+pub positions-front : (N K : ℕ) (table query : List ℕ) → LayoutBounds N K → table ≡ padded 1024 (positions N K) → length query ≡ K * N ^ (K - 1)
     → take (length query) table ≡ positions N K
 positions-front N K table query bounds e f =
     front-is (length query) table (positions N K) (replicate (1024 - length (positions N K)) 0) e (positions-length N K (bounds .servers-low) (bounds .messages-low) ∙ sym f)
 
-pub positions-fit : (N K : ℕ) (table query : List ℕ) → Bounds N K → table ≡ padded 1024 (positions N K) → length query ≡ K * N ^ (K - 1)
+pub positions-fit : (N K : ℕ) (table query : List ℕ) → LayoutBounds N K → table ≡ padded 1024 (positions N K) → length query ≡ K * N ^ (K - 1)
     → length query ≤ length table
 positions-fit N K table query bounds e f =
     front-fits (length query) table (positions N K) (replicate (1024 - length (positions N K)) 0) e (positions-length N K (bounds .servers-low) (bounds .messages-low) ∙ sym f)

@@ -11,13 +11,14 @@ use lib.Seq.{drop-cons, drop-drop}
 use Rattle.lists.specs.Below.{Below}
 use Rattle.lists.proofs.Each.{All-replicate}
 use Rattle.parameters.specs.Measures.{evenSizes}
-use Rattle.symbol.specs.Xor.{xor}
-use Rattle.even_places.specs.Sets.{ones, members, allSets}
+use Rattle.symbol.specs.Sum.{Sum}
+use Rattle.symbol.specs.Group.{AbelianGroup}
+use Rattle.even_places.specs.Sets.{onesIn, members, allSets}
 use Rattle.even_places.specs.Rule.{layout}
 use Rattle.even_places.proofs.Positions.{positions-length}
 use Rattle.even_places.proofs.AllSets.{layout-by-set}
 use Rattle.even_scheme.specs.Even.{rowAnswer, rowAnswers}
-use Rattle.even_layout.specs.Layout.{Bounds, rowsOf}
+use Rattle.even_layout.specs.Layout.{LayoutBounds, rowsOf}
 use Rattle.even_layout.proofs.Tables.{setPositions, positionsFrom, positions-all, positions-more}
 use Rattle.even_answer.proofs.RowLaws.{members-length, answers-length}
 
@@ -39,53 +40,54 @@ unfolding rowsFrom flatMap
 rows-more N K i h = rw (add-one i, drop-cons (allSets K) i [] h)
 
 -- the rows of a set take a number for each of its messages
-positions-rows : (A : List Bool) (n : ℕ) → length (flatMap (members 0) (replicate n A)) ≡ n * ones A
+positions-rows : (A : List Bool) (n : ℕ) → length (flatMap (members 0) (replicate n A)) ≡ n * onesIn A
 unfolding flatMap
-positions-rows A zero = sym (zero-mul (ones A))
+positions-rows A zero = sym (zero-mul (onesIn A))
 positions-rows A (suc n) =
-    omega (arith, length-append (members 0 A) (flatMap (members 0) (replicate n A)), members-length 0 A, positions-rows A n, suc-mul n (ones A))
+    omega (arith, length-append (members 0 A) (flatMap (members 0) (replicate n A)), members-length 0 A, positions-rows A n, suc-mul n (onesIn A))
 
 pub numbers-more : (N K i : ℕ) → i < length (allSets K)
-    → length (positionsFrom N K i) ≡ rowsOf N (getD (allSets K) i []) * ones (getD (allSets K) i []) + length (positionsFrom N K (i + 1))
+    → length (positionsFrom N K i) ≡ rowsOf N (getD (allSets K) i []) * onesIn (getD (allSets K) i []) + length (positionsFrom N K (i + 1))
 unfolding setPositions
 numbers-more N K i h =
     let A = getD (allSets K) i [] in
     ap length (positions-more N K i h) ∙ length-append (setPositions N A) (positionsFrom N K (i + 1))
     ∙ ap (λ (n : ℕ). n + length (positionsFrom N K (i + 1))) (positions-rows A (rowsOf N A))
 
-pub numbers-all : (N K : ℕ) → Bounds N K → length (positionsFrom N K 0) ≡ K * N ^ (K - 1)
+pub numbers-all : (N K : ℕ) → LayoutBounds N K → length (positionsFrom N K 0) ≡ K * N ^ (K - 1)
 numbers-all N K bounds = ap length (positions-all N K) ∙ positions-length N K (bounds .servers-low) (bounds .messages-low)
 
-module _ (N K S : ℕ) (store : List ℕ) where
+module _ (sum : Sum) (N K S : ℕ) (store : List ℕ) where
   answers-append : (A : List Bool) (n : ℕ) (more : List (List Bool)) (numbers : List ℕ)
-      → rowAnswers xor N K S store (replicate n A ++ more) numbers
-      ≡ rowAnswers xor N K S store (replicate n A) numbers ++ rowAnswers xor N K S store more (drop (n * ones A) numbers)
+      → rowAnswers sum N K S store (replicate n A ++ more) numbers
+      ≡ rowAnswers sum N K S store (replicate n A) numbers ++ rowAnswers sum N K S store more (drop (n * onesIn A) numbers)
   unfolding rowAnswers
-  answers-append A zero more numbers = rw (zero-mul (ones A))
+  answers-append A zero more numbers = rw (zero-mul (onesIn A))
   answers-append A (suc n) more numbers =
-      let front = rowAnswer xor N K S store A numbers in
-      let rest = drop (ones A) numbers in
-      let next : ones A + n * ones A ≡ suc n * ones A = omega (arith, suc-mul n (ones A)) in
+      let front = rowAnswer sum N K S store A numbers in
+      let rest = drop (onesIn A) numbers in
+      let next : onesIn A + n * onesIn A ≡ suc n * onesIn A = omega (arith, suc-mul n (onesIn A)) in
       ap (λ (l : List ℕ). front ++ l) (answers-append A n more rest)
-      ∙ sym (append-assoc front (rowAnswers xor N K S store (replicate n A) rest) (rowAnswers xor N K S store more (drop (n * ones A) rest)))
-      ∙ ap (λ (l : List ℕ). (front ++ rowAnswers xor N K S store (replicate n A) rest) ++ rowAnswers xor N K S store more l)
-      (drop-drop (n * ones A) (ones A) numbers ∙ ap (λ (m : ℕ). drop m numbers) next)
+      ∙ sym (append-assoc front (rowAnswers sum N K S store (replicate n A) rest) (rowAnswers sum N K S store more (drop (n * onesIn A) rest)))
+      ∙ ap (λ (l : List ℕ). (front ++ rowAnswers sum N K S store (replicate n A) rest) ++ rowAnswers sum N K S store more l)
+      (drop-drop (n * onesIn A) (onesIn A) numbers ∙ ap (λ (m : ℕ). drop m numbers) next)
 
   -- one set more, whose rows take `taken` numbers
-  pub answers-more : (i at taken : ℕ) (query : List ℕ) → i < length (allSets K) → taken ≡ rowsOf N (getD (allSets K) i []) * ones (getD (allSets K) i [])
-      → rowAnswers xor N K S store (rowsFrom N K i) (drop at query)
-      ≡ rowAnswers xor N K S store (replicate (rowsOf N (getD (allSets K) i [])) (getD (allSets K) i [])) (drop at query)
-      ++ rowAnswers xor N K S store (rowsFrom N K (i + 1)) (drop (at + taken) query)
+  pub answers-more : (i at taken : ℕ) (query : List ℕ) → i < length (allSets K)
+      → taken ≡ rowsOf N (getD (allSets K) i []) * onesIn (getD (allSets K) i [])
+      → rowAnswers sum N K S store (rowsFrom N K i) (drop at query)
+      ≡ rowAnswers sum N K S store (replicate (rowsOf N (getD (allSets K) i [])) (getD (allSets K) i [])) (drop at query)
+      ++ rowAnswers sum N K S store (rowsFrom N K (i + 1)) (drop (at + taken) query)
   answers-more i at taken query h e =
       let A = getD (allSets K) i [] in
-      let front = rowAnswers xor N K S store (replicate (rowsOf N A) A) (drop at query) in
-      ap (λ (L : List (List Bool)). rowAnswers xor N K S store L (drop at query)) (rows-more N K i h)
+      let front = rowAnswers sum N K S store (replicate (rowsOf N A) A) (drop at query) in
+      ap (λ (L : List (List Bool)). rowAnswers sum N K S store L (drop at query)) (rows-more N K i h)
       ∙ answers-append A (rowsOf N A) (rowsFrom N K (i + 1)) (drop at query)
-      ∙ ap (λ (l : List ℕ). front ++ rowAnswers xor N K S store (rowsFrom N K (i + 1)) l)
-      (drop-drop (rowsOf N A * ones A) at query ∙ ap (λ (m : ℕ). drop (at + m) query) (sym e))
+      ∙ ap (λ (l : List ℕ). front ++ rowAnswers sum N K S store (rowsFrom N K (i + 1)) l)
+      (drop-drop (rowsOf N A * onesIn A) at query ∙ ap (λ (m : ℕ). drop (at + m) query) (sym e))
 
   -- the answers to the rows of a set
-  pub set-length : (A : List Bool) (n : ℕ) (numbers : List ℕ) → length store ≡ evenSizes N K S .store → Below 256 store → length A ≡ K → Below (N ^ K) numbers
-      → length (rowAnswers xor N K S store (replicate n A) numbers) ≡ n * S
-  set-length A n numbers whole bytes e b =
-      answers-length N K S store whole bytes numbers (All-replicate n A e) b ∙ ap (λ (m : ℕ). m * S) (length-replicate n A)
+  pub set-length : AbelianGroup sum S → (A : List Bool) (n : ℕ) (numbers : List ℕ) → length store ≡ evenSizes N K S .store → Below 256 store
+      → length A ≡ K → Below (N ^ K) numbers → length (rowAnswers sum N K S store (replicate n A) numbers) ≡ n * S
+  set-length group A n numbers whole bytes e b =
+      answers-length sum N K S store whole group bytes numbers (All-replicate n A e) b ∙ ap (λ (m : ℕ). m * S) (length-replicate n A)

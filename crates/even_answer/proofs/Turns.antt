@@ -13,8 +13,9 @@ use Rattle.lists.specs.Parts.{put}
 use Rattle.lists.proofs.Below.{below-drop}
 use Rattle.lists.proofs.Cuts.{slot-end}
 use Rattle.lists.proofs.Writing.{Pending, pending-part, pending-as}
-use Rattle.symbol.specs.Xor.{xor}
-use Rattle.even_places.specs.Sets.{ones, byteOf, allSets}
+use Rattle.symbol.specs.Sum.{Sum}
+use Rattle.symbol.specs.Group.{AbelianGroup}
+use Rattle.even_places.specs.Sets.{onesIn, byteOf, allSets}
 use Rattle.even_scheme.specs.Even.{rowAnswer, rowAnswers, evenAnswer}
 use Rattle.even_layout.specs.Layout.{setIn, rowsOf}
 use Rattle.even_layout.proofs.Bytes.{membersFrom, members-kept}
@@ -66,60 +67,62 @@ row-given {N} {K} {S} {set} {rows} {size} {store} {numbers} {row} given turn = r
   enough = omega (arith, one-mul (count set), length-drop (row * count set) numbers, turn .read);
 }
 
-module _ {N K S set rows : ℕ} {store numbers : List ℕ} (given : SetAnswerable N K S store set rows numbers) (bytes : Below 256 store) where
-  pub row-long : (row : ℕ) → length (rowAnswer xor N K S store (setIn K set) (drop (row * count set) numbers)) ≡ S
+module _ {sum : Sum} {N K S set rows : ℕ} {store numbers : List ℕ} (group : AbelianGroup sum S) (given : SetAnswerable N K S store set rows numbers)
+    (bytes : Below 256 store) where
+  pub row-long : (row : ℕ) → length (rowAnswer sum N K S store (setIn K set) (drop (row * count set) numbers)) ≡ S
   row-long row =
-      row-is N K S store (given .whole) bytes (setIn K set) (drop (row * count set) numbers) (setIn-length K set)
+      row-is sum N K S store (given .whole) group bytes (setIn K set) (drop (row * count set) numbers) (setIn-length K set)
       (below-drop (N ^ K) (row * count set) numbers (given .named)) .long
 
   -- the row's answer written, those of the rows after it are left
   pub row-done : {all buffer out : List ℕ} (row : ℕ) → row < rows
-      → Pending 0 all buffer (row * S) (rowAnswers xor N K S store (replicate (rows - row) (setIn K set)) (drop (row * count set) numbers)) out
-      → Pending 0 all buffer ((row + 1) * S) (rowAnswers xor N K S store (replicate (rows - (row + 1)) (setIn K set)) (drop ((row + 1) * count set) numbers))
-      (put (row * S) (rowAnswer xor N K S store (setIn K set) (drop (row * count set) numbers)) out)
+      → Pending 0 all buffer (row * S) (rowAnswers sum N K S store (replicate (rows - row) (setIn K set)) (drop (row * count set) numbers)) out
+      → Pending 0 all buffer ((row + 1) * S) (rowAnswers sum N K S store (replicate (rows - (row + 1)) (setIn K set)) (drop ((row + 1) * count set) numbers))
+      (put (row * S) (rowAnswer sum N K S store (setIn K set) (drop (row * count set) numbers)) out)
   row-done row h p =
       let A = setIn K set in
-      let front = rowAnswer xor N K S store A (drop (row * count set) numbers) in
-      let left = rowAnswers xor N K S store (replicate (rows - (row + 1)) A) (drop ((row + 1) * count set) numbers) in
+      let front = rowAnswer sum N K S store A (drop (row * count set) numbers) in
+      let left = rowAnswers sum N K S store (replicate (rows - (row + 1)) A) (drop ((row + 1) * count set) numbers) in
       let end : (row + 1) * S ≡ row * S + length front = ap (λ (m : ℕ). m * S) (add-one row) ∙ suc-mul row S ∙ ap (λ (m : ℕ). row * S + m) (sym (row-long row)) in
-      pending-as end refl refl (pending-part front left (rw (set-more N K S store A numbers rows row (count set) h (given .inside)) at p))
+      pending-as end refl refl (pending-part front left (rw (set-more sum N K S store A numbers rows row (count set) h (given .inside)) at p))
 
 -- the rows of the set at index i: their numbers, their part of the buffer, and what is left after them
-pub record SetTurn (N K S : ℕ) (store query buffer : List ℕ) (i at end set rows : ℕ) (out : List ℕ) : Type 0 where
+pub record SetTurn (sum : Sum) (N K S : ℕ) (store query buffer : List ℕ) (i at end set rows : ℕ) (out : List ℕ) : Type 0 where
   pub given : SetAnswerable N K S store set rows (drop at query)
   pub small : set < 256
   pub read : at + rows * count set + length (positionsFrom N K (i + 1)) ≡ length query
   pub written : end + rows * S ≤ length out
-  pub left : Pending 0 (evenAnswer xor N K S store query) buffer (end + rows * S)
-      (rowAnswers xor N K S store (rowsFrom N K (i + 1)) (drop (at + rows * count set) query))
-      (put end (rowAnswers xor N K S store (replicate rows (setIn K set)) (drop at query)) out)
+  pub left : Pending 0 (evenAnswer sum N K S store query) buffer (end + rows * S)
+      (rowAnswers sum N K S store (rowsFrom N K (i + 1)) (drop (at + rows * count set) query))
+      (put end (rowAnswers sum N K S store (replicate rows (setIn K set)) (drop at query)) out)
 
-pub set-turn : {N K S end rows : ℕ} {store query buffer out table : List ℕ} (i at : ℕ)
-    → Answerable N K S store query buffer → Below 256 store → table ≡ map byteOf (allSets K) ++ replicate (256 - length (allSets K)) 0 → i < length (allSets K)
+pub set-turn : {sum : Sum} {N K S end rows : ℕ} {store query buffer out table : List ℕ} (i at : ℕ) → AbelianGroup sum S
+    → Answerable N K S store query buffer → Below 256 store → table ≡ map byteOf (allSets K) ++ replicate (256 - length (allSets K)) 0
+    → i < length (allSets K)
     → rows ≡ (N - 1) ^ (count (getD table i 0) - 1) → at + length (positionsFrom N K i) ≡ length query
-    → Pending 0 (evenAnswer xor N K S store query) buffer end (rowAnswers xor N K S store (rowsFrom N K i) (drop at query)) out
-    → SetTurn N K S store query buffer i at end (getD table i 0) rows out
-set-turn {N} {K} {S} {end} {rows} {store} {query} {buffer} {out} {table} i at given bytes e h called read p =
+    → Pending 0 (evenAnswer sum N K S store query) buffer end (rowAnswers sum N K S store (rowsFrom N K i) (drop at query)) out
+    → SetTurn sum N K S store query buffer i at end (getD table i 0) rows out
+set-turn {sum} {N} {K} {S} {end} {rows} {store} {query} {buffer} {out} {table} i at group given bytes e h called read p =
     let A = getD (allSets K) i [] in
     let set = getD table i 0 in
     let b = byte-at N K i table (replicate (256 - length (allSets K)) 0) (layout-fits N K S (given .fits)) e h in
     let many : rows ≡ rowsOf N A = called ∙ b .rows in
-    let taken : rows * count set ≡ rowsOf N A * ones A = ap₂ (λ (x y : ℕ). x * y) many (b .counted) in
+    let taken : rows * count set ≡ rowsOf N A * onesIn A = ap₂ (λ (x y : ℕ). x * y) many (b .counted) in
     let numbers = numbers-more N K i h in
     let below = below-drop (N ^ K) at query (given .named) in
-    let front = rowAnswers xor N K S store (replicate rows (setIn K set)) (drop at query) in
-    let left = rowAnswers xor N K S store (rowsFrom N K (i + 1)) (drop (at + rows * count set) query) in
-    let long : length front ≡ rows * S = set-length N K S store (setIn K set) rows (drop at query) (given .whole) bytes (setIn-length K set) below in
-    let same : rowAnswers xor N K S store (replicate (rowsOf N A) A) (drop at query) ≡ front =
-    sym (ap₂ (λ (m : ℕ) (B : List Bool). rowAnswers xor N K S store (replicate m B) (drop at query)) many (b .decoded)) in
-    let q = pending-as refl (sym (answers-more N K S store i at (rows * count set) query h taken ∙ ap (λ (l : List ℕ). l ++ left) same)) refl p in
+    let front = rowAnswers sum N K S store (replicate rows (setIn K set)) (drop at query) in
+    let left = rowAnswers sum N K S store (rowsFrom N K (i + 1)) (drop (at + rows * count set) query) in
+    let long : length front ≡ rows * S = set-length sum N K S store group (setIn K set) rows (drop at query) (given .whole) bytes (setIn-length K set) below in
+    let same : rowAnswers sum N K S store (replicate (rowsOf N A) A) (drop at query) ≡ front =
+    sym (ap₂ (λ (m : ℕ) (B : List Bool). rowAnswers sum N K S store (replicate m B) (drop at query)) many (b .decoded)) in
+    let q = pending-as refl (sym (answers-more sum N K S store i at (rows * count set) query h taken ∙ ap (λ (l : List ℕ). l ++ left) same)) refl p in
     record {
       given = record {
         fits = given .fits;
         whole = given .whole;
         named = below;
         some = b .some;
-        inside = ap ones (b .decoded) ∙ sym (b .counted);
+        inside = ap onesIn (b .decoded) ∙ sym (b .counted);
         enough = omega (arith, length-drop at query);
       };
       small = b .small;

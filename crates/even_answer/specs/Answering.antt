@@ -8,8 +8,8 @@ use lib.Count.{ones as count}
 use Rattle.lists.specs.Below.{Below}
 use Rattle.parameters.specs.Bounds.{evenFits}
 use Rattle.parameters.specs.Measures.{evenSizes}
-use Rattle.symbol.specs.Xor.{xor}
-use Rattle.even_places.specs.Sets.{ones}
+use Rattle.symbol.specs.Sum.{Sum}
+use Rattle.even_places.specs.Sets.{onesIn}
 use Rattle.even_layout.specs.Layout.{setIn}
 
 -- where message p's number is marked
@@ -17,8 +17,8 @@ abbrev pub cellOf : ℕ → ℕ → ℕ → ℕ
 cellOf size p number = p * size + number
 
 -- a symbol combined into what stands there, or put there if it is the first
-abbrev pub added : Bool → List ℕ → List ℕ → List ℕ
-added first old symbol = cond first symbol (xor .plus old symbol)
+abbrev pub added : Sum → Bool → List ℕ → List ℕ → List ℕ
+added sum first old symbol = cond first symbol (sum .plus old symbol)
 
 -- What answering is given: numbers within the bounds, a store of the right length, a query of the right length that names symbols
 -- (an admitted one does: `admitted-answerable`), and room for the answer
@@ -35,5 +35,5 @@ pub record SetAnswerable (N K S : ℕ) (store : List ℕ) (set rows : ℕ) (numb
   pub whole : length store ≡ evenSizes N K S .store
   pub named : Below (N ^ K) numbers
   pub some : 1 ≤ count set
-  pub inside : ones (setIn K set) ≡ count set
+  pub inside : onesIn (setIn K set) ≡ count set
   pub enough : rows * count set ≤ length numbers

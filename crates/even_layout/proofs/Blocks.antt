@@ -1,4 +1,5 @@
--- How many sets there are, and the table of the sets of each number of messages: its part from 2^K on is the sets of K messages.
+-- How many sets there are (`all-length`), and the table of the sets of each number of messages: its part from 2^K on is the sets of K
+-- messages (`listed-entry`).
 use mathlib.Core.Path.{_≡_, refl, sym, ap, _∙_}
 use mathlib.Core.List.{List, map, flatMap}
 use Prim.Native.Nat.{ℕ, zero, suc, _+_, _-_, _*_, _/_, _%_, _^_, _≤_, _<_}
@@ -11,8 +12,7 @@ use Rattle.lists.specs.Ranges.{range}
 use Rattle.lists.specs.Sums.{bit, sum}
 use Rattle.lists.proofs.Mapped.{mapped-at}
 use Rattle.lists.proofs.Sums.{sum-one, sum-ext, sum-flatMap}
-use Rattle.even_places.specs.Sets.{sets, byteOf, allSets}
-use Rattle.even_places.specs.Rule.{rowCount}
+use Rattle.even_places.specs.Rule.{byteOf, sets, allSets, rowCount}
 use Rattle.even_places.proofs.Counts.{row-count-product}
 use Rattle.even_layout.specs.Layout.{listedSets, listedRows}
 
@@ -28,7 +28,14 @@ all-length K =
     let each : sum (λ b. length (sets K (suc b)) * (2 - 1) ^ b) blocks ≡ sum (λ b. sum (λ A. 1) (sets K (suc b))) blocks =
     sum-ext (λ b. length (sets K (suc b)) * (2 - 1) ^ b) (λ b. sum (λ A. 1) (sets K (suc b)))
     (λ b. ap (λ n. length (sets K (suc b)) * n) (one-pow b) ∙ mul-one (length (sets K (suc b))) ∙ sym (sum-one (sets K (suc b)))) blocks in
-    omega (arith, each, sum-flatMap (λ A. 1) (λ b. sets K (suc b)) blocks, sum-one (flatMap (λ b. sets K (suc b)) blocks), row-count-product 2 K (omega arith), mul-one (rowCount 2 K))
+    omega (
+      arith,
+      each,
+      sum-flatMap (λ A. 1) (λ b. sets K (suc b)) blocks,
+      sum-one (flatMap (λ b. sets K (suc b)) blocks),
+      row-count-product 2 K (omega arith),
+      mul-one (rowCount 2 K),
+    )
 
 pub all-bytes : (K power : ℕ) → power ≡ 2 ^ K → length (map byteOf (allSets K)) ≡ power - 1
 all-bytes K power e = length-map (allSets K) byteOf ∙ omega (arith, all-length K)

@@ -1,4 +1,5 @@
--- Single steps of the loops that write bytes: one of a set's members more, and one row more.
+-- Single steps of the loops that write bytes: one of a set's members more (`members-kept`, `members-skipped`), and one row more
+-- (`rows-more`).
 use mathlib.Core.Path.{_≡_}
 use mathlib.Core.List.{List, _∷_, _++_, flatMap}
 use mathlib.Core.Bool.{Bool}
@@ -7,7 +8,7 @@ use native.Mathlib.Numerals.{add-one}
 use native.Mathlib.Omega.{arith}
 use borrow.Author.Tests.{eq-eqb, ne-eqb}
 use lib.ListN.{replicate}
-use Rattle.even_places.specs.Sets.{members}
+use Rattle.even_places.specs.Rule.{members}
 use Rattle.even_layout.specs.Layout.{setIn}
 
 -- the members from message p on, where `rest` is what is left of the set's byte

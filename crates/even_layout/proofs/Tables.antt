@@ -1,4 +1,5 @@
--- The sets of a query one by one: their bytes, how many rows each has, and the layout and the positions as made from them.
+-- The sets of a query one by one: their bytes (`byte-at`), how many rows each has, and the layout and the positions as made from them
+-- (`set-positions`, `positions-more`).
 use mathlib.Core.Path.{_≡_, refl, sym, ap, ap₂, _∙_}
 use mathlib.Core.List.{List, [], _∷_, _++_, map, flatMap}
 use mathlib.Core.Bool.{Bool, true, false}
@@ -13,12 +14,11 @@ use lib.Seq.{drop-cons}
 use Rattle.lists.specs.Sums.{bit}
 use Rattle.lists.proofs.Each.{All-get}
 use Rattle.lists.proofs.Joined.{flatMap-flatMap}
-use Rattle.even_places.specs.Sets.{ones, members, byteOf, allSets}
-use Rattle.even_places.specs.Rule.{positions}
+use Rattle.even_places.specs.Rule.{byteOf, onesIn, members, allSets, positions}
 use Rattle.even_places.proofs.AllSets.{IsSet, all-sets, ones-most, layout-by-set}
 use Rattle.even_places.proofs.Positions.{positions-length}
 use Rattle.even_places.proofs.Bytes.{byte-ones, byte-below}
-use Rattle.even_layout.specs.Layout.{Bounds, setIn, rowsOf}
+use Rattle.even_layout.specs.Layout.{LayoutBounds, setIn, rowsOf}
 
 -- a set's byte stands for it
 setIn-byte : (A : List Bool) → setIn (length A) (byteOf A) ≡ A
@@ -31,19 +31,20 @@ pub set-in : (K : ℕ) (A : List Bool) → length A ≡ K → setIn K (byteOf A)
 set-in K A e = rw (← e) (setIn-byte A)
 
 -- a set has no more rows than a message has symbols, and one at least
-module _ (N K : ℕ) (bounds : Bounds N K) (A : List Bool) (s : IsSet K A) where
+module _ (N K : ℕ) (bounds : LayoutBounds N K) (A : List Bool) (s : IsSet K A) where
   pub rows-high : rowsOf N A ≤ 256
   unfolding rowsOf
   rows-high =
-      let few : ones A ≤ K = omega (arith, ones-most A, s .long) in
-      let fewer : (N - 1) ^ (ones A - 1) ≤ N ^ (ones A - 1) = pow-le-pow-left (omega (arith, bounds .servers-low)) (ones A - 1) in
-      let all : N ^ (ones A - 1) ≤ N ^ K = pow-le-pow-right {n = N} (omega (arith, bounds .servers-low)) (let w : ones A - 1 ≤ K = omega arith in w) in
+      let few : onesIn A ≤ K = omega (arith, ones-most A, s .long) in
+      let fewer : (N - 1) ^ (onesIn A - 1) ≤ N ^ (onesIn A - 1) = pow-le-pow-left (omega (arith, bounds .servers-low)) (onesIn A - 1) in
+      let all : N ^ (onesIn A - 1) ≤ N ^ K = pow-le-pow-right {n = N} (omega (arith, bounds .servers-low)) (let w : onesIn A - 1 ≤ K = omega arith in w) in
       omega (arith, bounds .symbols-high)
 
   pub rows-low : 1 ≤ rowsOf N A
   unfolding rowsOf
   rows-low =
-      let least : (N - 1) ^ 0 ≤ (N - 1) ^ (ones A - 1) = pow-le-pow-right {n = N - 1} (omega (arith, bounds .servers-low)) (let w : 0 ≤ ones A - 1 = omega arith in w) in
+      let least : (N - 1) ^ 0 ≤ (N - 1) ^ (onesIn A - 1) =
+      pow-le-pow-right {n = N - 1} (omega (arith, bounds .servers-low)) (let w : 0 ≤ onesIn A - 1 = omega arith in w) in
       omega (arith, pow-zero (N - 1))
 
 -- what holds of a table's byte `set`, which stands for set A
@@ -52,15 +53,15 @@ pub record SetByte (N K set : ℕ) (A : List Bool) : Type 0 where
   pub byte : set ≡ byteOf A
   pub small : set < 256
   pub decoded : setIn K set ≡ A
-  pub counted : count set ≡ ones A
+  pub counted : count set ≡ onesIn A
   pub some : 1 ≤ count set
   pub rows : (N - 1) ^ (count set - 1) ≡ rowsOf N A
   pub high : rowsOf N A ≤ 256
 
-set-byte : (N K set : ℕ) (A : List Bool) → Bounds N K → IsSet K A → set ≡ byteOf A → SetByte N K set A
+set-byte : (N K set : ℕ) (A : List Bool) → LayoutBounds N K → IsSet K A → set ≡ byteOf A → SetByte N K set A
 unfolding rowsOf
 set-byte N K set A bounds s e =
-    let ones-set : count set ≡ ones A = ap count e ∙ byte-ones A in
+    let ones-set : count set ≡ onesIn A = ap count e ∙ byte-ones A in
     record {
       is = s;
       byte = e;
@@ -73,7 +74,7 @@ set-byte N K set A bounds s e =
     }
 
 -- the byte at index i of the sets in order, whatever follows them
-pub byte-at : (N K i : ℕ) (table more : List ℕ) → Bounds N K → table ≡ map byteOf (allSets K) ++ more → i < length (allSets K)
+pub byte-at : (N K i : ℕ) (table more : List ℕ) → LayoutBounds N K → table ≡ map byteOf (allSets K) ++ more → i < length (allSets K)
     → SetByte N K (getD table i 0) (getD (allSets K) i [])
 unfolding byteOf
 byte-at N K i table more bounds e h =
@@ -108,7 +109,7 @@ unfolding positionsFrom flatMap
 positions-more N K i h = rw (add-one i, drop-cons (allSets K) i [] h)
 
 -- the positions of a query fit the table of them
-pub positions-room : (N K : ℕ) → Bounds N K → length (positions N K) ≤ 1024
+pub positions-room : (N K : ℕ) → LayoutBounds N K → length (positions N K) ≤ 1024
 positions-room N K bounds =
     let last : K ≡ suc (K - 1) = omega (arith, bounds .messages-low) in
     let whole : N ^ K ≡ N ^ (K - 1) * N = ap (λ (n : ℕ). N ^ n) last ∙ pow-suc N (K - 1) in

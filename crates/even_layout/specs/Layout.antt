@@ -1,15 +1,15 @@
--- The layout of an even query as tables (document 01, 'Even code'; source 003, section IV-B): what the steps of this crate write, and the table of first rows.
+-- The layout of an even query as tables (document 01, 'Even code'; source 003, section IV-B): what the steps of this crate write, and
+-- the table of first rows.
 use Prim.Native.Nat.{ℕ, zero, suc, _+_, _-_, _*_, _/_, _%_, _^_, _≤_}
 use mathlib.Core.Bool.{Bool, cond, _&&_}
 use mathlib.Core.List.{List, [], _∷_, _++_, map, flatMap}
 use lib.Dec.{eqb, ltb}
 use Rattle.lists.specs.Parts.{cut}
 use Rattle.lists.specs.Ranges.{range}
-use Rattle.even_places.specs.Sets.{ones, byteOf, allSets}
-use Rattle.even_places.specs.Rule.{layout, firstRow}
+use Rattle.even_places.specs.Rule.{byteOf, onesIn, allSets, layout, firstRow}
 
 -- what the layout needs of the bounds on N and K
-pub record Bounds (N K : ℕ) : Type 0 where
+pub record LayoutBounds (N K : ℕ) : Type 0 where
   pub servers-low : 2 ≤ N
   pub messages-low : 1 ≤ K
   pub messages-high : K ≤ 8
@@ -30,7 +30,7 @@ listedRows = map (λ row. cut (row * 8) 8 listedSets) (range 0 64)
 
 -- how many rows of a query have set A
 unfoldable pub rowsOf : ℕ → List Bool → ℕ
-rowsOf N A = (N - 1) ^ (ones A - 1)
+rowsOf N A = (N - 1) ^ (onesIn A - 1)
 
 -- the number of the first row of a byte's set in a query, and 0 if the byte is no set of K messages or the empty one
 unfoldable pub firstRowOf : ℕ → ℕ → ℕ → ℕ

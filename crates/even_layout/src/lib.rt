@@ -8,9 +8,8 @@ ghost use lib.ListN.{length, getD, replicate};
 ghost use lib.Count.{ones};
 ghost use Rattle.lists.specs.Parts.{put};
 ghost use Rattle.lists.specs.Padded.{padded};
-ghost use Rattle.even_places.specs.Sets.{byteOf, members, allSets};
-ghost use Rattle.even_places.specs.Rule.{others, «positions»};
-ghost use Rattle.even_layout.specs.Layout.{Bounds, setIn, listedRows, firstRows};
+ghost use Rattle.even_places.specs.Rule.{byteOf, members, others, allSets, «positions»};
+ghost use Rattle.even_layout.specs.Layout.{LayoutBounds, setIn, listedRows, firstRows};
 
 // The sets of an even query in order, for each number of messages up to 8: those of k messages stand from 2^k on, and the empty one after them.
 const SETS: [[u8; 8]; 64] = [
@@ -135,7 +134,8 @@ fn write_members(k: usize, set: u8, out: &mut [u8], at: usize) -> usize
 // Writes the messages of `count` rows of a set from `at` on, and gives where they end.
 fn write_rows(k: usize, set: u8, count: usize, out: &mut [u8], at: usize) -> usize
     requires { ⌜ (k ≤ 8) × (at + length (flatMap (members 0) (replicate count (setIn k set))) ≤ length (now out)) ⌝ }
-    ensures { λ r. ⌜ (r ≡ at + length (flatMap (members 0) (replicate count (setIn k set)))) × (now (out .exit) ≡ put at (flatMap (members 0) (replicate count (setIn k set))) (now (out .entry))) ⌝ }
+    ensures { λ r. ⌜ (r ≡ at + length (flatMap (members 0) (replicate count (setIn k set))))
+        × (now (out .exit) ≡ put at (flatMap (members 0) (replicate count (setIn k set))) (now (out .entry))) ⌝ }
 {
     let mut end = at;
     let mut i = 0;
@@ -148,7 +148,7 @@ fn write_rows(k: usize, set: u8, count: usize, out: &mut [u8], at: usize) -> usi
 
 // The message at each position of a query.
 pub fn positions(n: usize, k: usize) -> [u8; 1024]
-    requires { ⌜ Bounds n k ⌝ }
+    requires { ⌜ LayoutBounds n k ⌝ }
     ensures { λ r. ⌜ r ≡ padded 1024 («positions» n k) ⌝ }
 {
     let sets = ordered_sets(k);
@@ -166,7 +166,7 @@ pub fn positions(n: usize, k: usize) -> [u8; 1024]
 
 // The number of each set's first row in a query, at the set's byte.
 pub fn first_rows(n: usize, k: usize) -> [usize; 256]
-    requires { ⌜ Bounds n k ⌝ }
+    requires { ⌜ LayoutBounds n k ⌝ }
     ensures { λ r. ⌜ r ≡ firstRows n k ⌝ }
 {
     let sets = ordered_sets(k);

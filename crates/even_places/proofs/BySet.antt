@@ -1,4 +1,5 @@
--- Rows sorted by set: each row's set is one of the sets of its size, once, so that no row is lost (`bySet-sum`).
+-- Rows sorted by set: each row's set is one of the sets of its size, once, so that no row is lost and a sum over the rows by set goes
+-- over the rows (`bySet-sum`). Rests on the laws of sets of one size (Choose).
 use Prim.Native.Nat.{ℕ, zero, suc, _*_}
 use native.Mathlib.Nat.{zero-add, mul-one, mul-comm, add-comm}
 use native.Mathlib.Numerals.{add-one}
@@ -10,8 +11,7 @@ use lib.ListN.{length}
 use Rattle.lists.specs.Sums.{bit, keep, sum, All}
 use Rattle.lists.proofs.Sums.{sum-mul, sum-ext, sum-all, sum-zero, sum-flatMap, sum-keep, sum-swap}
 use Rattle.lists.proofs.Each.{All-imp}
-use Rattle.even_places.specs.Sets.{sets}
-use Rattle.even_places.specs.Rule.{Row, isSome, same, bySet, ofSet}
+use Rattle.even_places.specs.Rule.{sets, Row, isSome, same, ofSet, bySet}
 use Rattle.even_places.proofs.Choose.{sets-none, sets-some}
 use Rattle.even_places.proofs.Rows.{somes, Fits}
 

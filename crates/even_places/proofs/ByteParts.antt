@@ -1,4 +1,5 @@
--- A set's byte by bits: the messages before p are the byte's remainder by 2^p, and without p the byte is 2^p less.
+-- A set's byte by bits: the messages before p are the ones of the byte's remainder by 2^p (`byte-before`), and without p the byte is
+-- 2^p less (`byte-without`). Rests on the byte's bits (Bytes).
 use Prim.Native.Nat.{ℕ, zero, suc, _+_, _-_, _*_, _^_, _%_, _≤_, _<_}
 use native.Mathlib.Nat.{mul-zero, one-mul, mul-assoc, pow-suc, pow-succ', pow-zero, pow-le-pow-right, mod-eq-of-lt, add-mul-mod-self-left}
 use native.Mathlib.Omega.{arith}
@@ -8,7 +9,7 @@ use mathlib.Core.Bool.{Bool, true, false, false≢true}
 use lib.ListN.{length, take, drop, set}
 use lib.Count.{ones as count}
 use Rattle.lists.specs.Sums.{bit}
-use Rattle.even_places.specs.Sets.{has, ones, byteOf}
+use Rattle.even_places.specs.Rule.{has, byteOf, onesIn}
 use Rattle.even_places.proofs.Bytes.{byte-ones, byte-below}
 
 byte-split : (A : List Bool) (p : ℕ) → byteOf A ≡ byteOf (take p A) + 2 ^ p * byteOf (drop p A)
@@ -27,7 +28,7 @@ take-most [] (suc p) = omega arith
 take-most (a ∷ A) zero = omega arith
 take-most (a ∷ A) (suc p) = omega (arith, take-most A p)
 
-pub byte-before : (A : List Bool) (p : ℕ) → count (byteOf A % 2 ^ p) ≡ ones (take p A)
+pub byte-before : (A : List Bool) (p : ℕ) → count (byteOf A % 2 ^ p) ≡ onesIn (take p A)
 byte-before A p =
     let low : byteOf (take p A) < 2 ^ p = omega (arith, byte-below (take p A), pow-le-pow-right {n = 2} (omega arith) (take-most A p)) in
     ap count

@@ -8,19 +8,20 @@ use mathlib.Core.List.{List, [], _∷_}
 use mathlib.Core.Bool.{Bool}
 use lib.ListN.{length}
 use lib.Arith.{digits-lt, digits-div, digits-mod}
-use lib.Count.{ones-step, ones as count, onesIn}
+use lib.Count.{ones-step, ones}
 use Rattle.lists.specs.Sums.{bit, sum, All}
 use Rattle.lists.proofs.Each.{All-imp}
 use Rattle.lists.proofs.Bits.{bit-small}
-use Rattle.even_places.specs.Sets.{has, ones, byteOf, sets}
-use Rattle.even_places.proofs.Counts.{sets-fit}
+use Rattle.even_places.specs.Rule.{has, byteOf, onesIn, sets}
+use Rattle.even_places.proofs.BlockRows.{sets-fit}
 
-pub byte-ones : (A : List Bool) → count (byteOf A) ≡ ones A
-unfolding byteOf ones sum count onesIn
+pub byte-ones : (A : List Bool) → ones (byteOf A) ≡ onesIn A
+unfolding byteOf onesIn sum ones
 byte-ones [] = refl
-byte-ones (a ∷ A) = ones-step (byteOf A * 2 + bit a) ∙ rw (digits-mod (byteOf A) {m = 2} (bit-small a), digits-div (byteOf A) {m = 2} (bit-small a), byte-ones A)
+byte-ones (a ∷ A) =
+    ones-step (byteOf A * 2 + bit a) ∙ rw (digits-mod (byteOf A) {m = 2} (bit-small a), digits-div (byteOf A) {m = 2} (bit-small a), byte-ones A)
 
-pub block-ones : (K b : ℕ) → All (λ A. count (byteOf A) ≡ b) (sets K b)
+pub block-ones : (K b : ℕ) → All (λ A. ones (byteOf A) ≡ b) (sets K b)
 block-ones K b = All-imp (λ A h. byte-ones A ∙ h .1) (sets-fit K b)
 
 pub byte-has : (A : List Bool) (p : ℕ) → byteOf A / 2 ^ p % 2 ≡ bit (has p A)

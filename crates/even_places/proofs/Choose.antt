@@ -10,7 +10,7 @@ use mathlib.Core.Bool.{Bool, true, false, not}
 use Rattle.lists.specs.Sums.{bit, sum}
 use Rattle.lists.specs.Ranges.{range}
 use Rattle.lists.proofs.Sums.{sum-append, sum-map, sum-add, sum-mul, sum-ext, sum-zero, sum-first, sum-next}
-use Rattle.even_places.specs.Sets.{has, sets}
+use Rattle.even_places.specs.Rule.{has, sets}
 
 -- no set has more messages than there are
 sets-over : (K b : ℕ) → K < b → sets K b ≡ []
@@ -62,7 +62,8 @@ module _ (x : ℕ) where
       sum-ext (λ b. x ^ b * sum w (sets (suc K) (suc b))) (λ b. x ^ b * T b + x ^ b * F (suc b))
       (λ b. ap (λ s. x ^ b * s) (sets-some w K b) ∙ mul-add (x ^ b) (T b) (F (suc b))) (range 0 (suc K)) in
       let over : x ^ K * F (suc K) ≡ 0 = rw (sets-over K (suc K) (omega arith)) (rw no-sets (mul-zero (x ^ K))) in
-      let c : sum (λ b. x ^ b * T b + x ^ b * F (suc b)) (range 0 (suc K)) ≡ sum (λ b. x ^ b * T b) (range 0 (suc K)) + sum (λ b. x ^ b * F (suc b)) (range 0 K) =
+      let c : sum (λ b. x ^ b * T b + x ^ b * F (suc b)) (range 0 (suc K))
+      ≡ sum (λ b. x ^ b * T b) (range 0 (suc K)) + sum (λ b. x ^ b * F (suc b)) (range 0 K) =
       omega (arith, sum-add (λ b. x ^ b * T b) (λ b. x ^ b * F (suc b)) (range 0 (suc K)), sum-next (λ b. x ^ b * F (suc b)) K, over) in
       omega (
         arith,
@@ -124,7 +125,9 @@ module _ (x : ℕ) where
       gen-step (suc K) (λ A. bit (not (has (suc k) A)) * bit (has 0 A))
       ∙ omega (
         arith,
-        ap (λ s. x * s) (gen-ext (suc K) {w = λ A. bit (not (has k A)) * 1} {v = λ A. bit (not (has k A))} (λ A. mul-one (bit (not (has k A)))) ∙ gen-not K k (omega arith)),
+        ap (λ s. x * s)
+            (gen-ext (suc K) {w = λ A. bit (not (has k A)) * 1} {v = λ A. bit (not (has k A))} (λ A. mul-one (bit (not (has k A))))
+            ∙ gen-not K k (omega arith)),
         gen-ext (suc K) {w = λ A. bit (not (has k A)) * 0} {v = λ A. 0} (λ A. mul-zero (bit (not (has k A)))) ∙ gen-zero (suc K),
       )
   gen-both zero (suc k) (suc p) hk hp e = absurd (e (omega arith))
@@ -169,4 +172,10 @@ swap-has (suc K) zero (suc b) h =
 swap-has (suc K) (suc k) zero h =
     omega (arith, sets-none (λ A. bit (not (has (suc k) A))) K, sets-some (λ A. bit (has (suc k) A)) K 0, swap-has K k 0 (omega arith), none-has K k)
 swap-has (suc K) (suc k) (suc b) h =
-    omega (arith, sets-some (λ A. bit (not (has (suc k) A))) K b, sets-some (λ A. bit (has (suc k) A)) K (suc b), swap-has K k b (omega arith), swap-has K k (suc b) (omega arith))
+    omega (
+      arith,
+      sets-some (λ A. bit (not (has (suc k) A))) K b,
+      sets-some (λ A. bit (has (suc k) A)) K (suc b),
+      swap-has K k b (omega arith),
+      swap-has K k (suc b) (omega arith),
+    )

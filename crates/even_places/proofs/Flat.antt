@@ -6,8 +6,8 @@ use native.Mathlib.Nat.{zero-add, add-zero, pow-le-pow-right}
 use native.Mathlib.Omega.{arith}
 use native.Mathlib.Decide.{ℕ-discrete, decLt}
 use mathlib.Core.Path.{_≡_, refl, sym, ap, _∙_, fun-ext}
-use mathlib.Core.Bool.{true}
-use mathlib.Core.List.{List, [], _∷_, map, flatMap}
+use mathlib.Core.Bool.{Bool, true}
+use mathlib.Core.List.{List, [], _∷_, _++_, map, flatMap}
 use mathlib.Core.Option.{Option, none, some}
 use borrow.Author.Tests.{eq-eqb, ne-eqb}
 use lib.Dec.{eqb, ltb}
@@ -25,10 +25,11 @@ use Rattle.lists.proofs.Distinct.{times, times-distinct, times-below}
 use Rattle.lists.proofs.Each.{All-at, All-get, All-both, All-imp, All-flatMap, All-every, All-keep}
 use Rattle.lists.proofs.Pairs.{under-cons, under-all}
 use Rattle.lists.proofs.Sums.{sum-append, sum-all, sum-one, sum-flatMap, sum-swap, sum-range, sum-same, sum-map, sum-at}
-use Rattle.even_places.specs.Rule.{Row, isSome, same, ofSet, bySet, block, rows, cells, queryCells}
-use Rattle.even_places.specs.Sets.{sets, ones}
+use Rattle.even_places.specs.Rule.{onesIn, sets, Row, isSome, same, ofSet, bySet, cells, rows, queryCells}
+use Rattle.even_places.specs.Counting.{sideRows, wantedRows, block, countedRows}
+use Rattle.even_places.proofs.Process.{rows-by-counting}
 use Rattle.even_places.proofs.Rows.{below, below-lt, below-ge, is, hit, gives}
-use Rattle.even_places.proofs.Counts.{block-fits}
+use Rattle.even_places.proofs.BlockRows.{block-fits}
 use Rattle.even_places.proofs.Totals.{other-once, other-many, wanted-apart, wanted-many}
 use Rattle.even_places.proofs.Order.{held, placesOf}
 use Rattle.even_places.proofs.SetLaws.{setOf, cells-length}
@@ -66,7 +67,7 @@ cells-messages (none ∷ r) q = All-imp (λ cell h. omega (arith, h)) (cells-mes
 cells-messages (some x ∷ r) q = allCons {x = (q, x)} (omega arith) (All-imp (λ cell h. omega (arith, h)) (cells-messages r (suc q)))
 
 cells-given : (r : Row) (q : ℕ) → length (cells q r) ≡ sum (λ p. gives p r) (range 0 (length r))
-unfolding ones setOf gives
+unfolding onesIn setOf gives
 cells-given r q = cells-length q r ∙ sum-map bit isSome r ∙ sum-at (λ x. bit (isSome x)) none r
 
 places-times : (p v : ℕ) (rs : List Row) → times v (placesOf p rs) ≡ sum (hit p v) rs
@@ -92,11 +93,15 @@ below-one v n = omega (arith, bit-small (ltb v n))
 -- ---- a server's query
 
 module _ (N K k : ℕ) (wide : 1 < N) (known : k < K) where
-  pub rows-long : (n : ℕ) → All (λ r. length r ≡ K) (rows N K k n)
-  unfolding rows bySet ofSet block
-  rows-long n =
-      All-flatMap (λ b. bySet (sets K (suc b)) (block N K k b n))
-      (All-every (λ b. All-flatMap (λ A. ofSet A (block N K k b n)) (All-every (λ A. All-imp (λ r h. h .0 .long) (All-keep (same A) (block-fits N K k wide known b n))) (sets K (suc b)))) (range 0 K))
+  pub rows-long : (n : ℕ) → n < N → All (λ r. length r ≡ K) (rows N K k n)
+  unfolding countedRows bySet ofSet block
+  rows-long n there =
+      rw (rows-by-counting N K k wide known n there)
+      (All-flatMap (λ b. bySet (sets K (suc b)) (block N K k b n))
+      (All-every (λ b. All-flatMap (λ A. ofSet A (block N K k b n)) (All-every (of-set b) (sets K (suc b)))) (range 0 K)))
+    where
+      of-set : (b : ℕ) (A : List Bool) → All (λ r. length r ≡ K) (keep (same A) (sideRows N K k b n ++ wantedRows N K k b n))
+      of-set b A = All-imp (λ r h. h .0 .long) (All-keep (same A) (block-fits N K k wide known b n))
 
   -- a message's places in the cells are those in the rows
   query-places : (p n : ℕ) → under p (queryCells N K k n) ≡ placesOf p (rows N K k n)
@@ -121,7 +126,12 @@ module _ (N K k : ℕ) (wide : 1 < N) (known : k < K) where
         go : Dec (p ≡ k) → times v (placesOf p (rows N K k n)) ≤ below v (N ^ K)
         go (yes e) = rw e (omega (arith, places-times k v (rows N K k n), wanted-apart N K k wide known v n there))
         go (no d) =
-            omega (arith, places-times p v (rows N K k n), other-once N K k wide known p v n hp d there, below-mono v (N ^ (K - 1)) (N ^ K) (pow-le-pow-right {n = N} (omega arith) {i = K - 1} {j = K} (omega arith)))
+            omega (
+              arith,
+              places-times p v (rows N K k n),
+              other-once N K k wide known p v n hp d there,
+              below-mono v (N ^ (K - 1)) (N ^ K) (pow-le-pow-right {n = N} (omega arith) {i = K - 1} {j = K} (omega arith)),
+            )
 
     pub places-below : (p : ℕ) → p < K → Below (N ^ K) (under p (queryCells N K k n))
     unfolding below
@@ -132,7 +142,7 @@ module _ (N K k : ℕ) (wide : 1 < N) (known : k < K) where
 
     cells-known : All (λ cell. cell .0 < K) (queryCells N K k n)
     unfolding queryCells
-    cells-known = All-flatMap (cells 0) (All-imp (λ r e. All-imp (λ cell h. omega (arith, h, e)) (cells-messages r 0)) (rows-long n))
+    cells-known = All-flatMap (cells 0) (All-imp (λ r e. All-imp (λ cell h. omega (arith, h, e)) (cells-messages r 0)) (rows-long n there))
 
     pub cells-inside : All (λ cell. (cell .0 < K) × (cell .1 < N ^ K)) (queryCells N K k n)
     cells-inside = All-both cells-known (under-all K cells-known (λ p hp. All-at 0 (under p (queryCells N K k n)) (places-below p hp)))
@@ -143,11 +153,12 @@ module _ (N K k : ℕ) (wide : 1 < N) (known : k < K) where
         sym (sum-one (queryCells N K k n))
         ∙ sum-flatMap (λ e. 1) (cells 0) (rows N K k n)
         ∙ sum-all (λ r. sum (λ e. 1) (cells 0 r)) (λ r. sum (λ p. gives p r) (range 0 K))
-        (All-imp (λ r e. sum-one (cells 0 r) ∙ cells-given r 0 ∙ ap (λ j. sum (λ p. gives p r) (range 0 j)) e) (rows-long n))
+        (All-imp (λ r e. sum-one (cells 0 r) ∙ cells-given r 0 ∙ ap (λ j. sum (λ p. gives p r) (range 0 j)) e) (rows-long n there))
         ∙ sum-swap (λ r p. gives p r) (rows N K k n) (range 0 K)
         ∙ sum-range (λ p. sum (gives p) (rows N K k n)) (λ p. N ^ (K - 1)) K (λ p hp. gives-many p n hp there)
         ∙ sum-same (N ^ (K - 1)) K
 
   -- by position
-  pub inside : (n i : ℕ) → n < N → i < length (queryCells N K k n) → (getD (queryCells N K k n) i (0, 0) .0 < K) × (getD (queryCells N K k n) i (0, 0) .1 < N ^ K)
+  pub inside : (n i : ℕ) → n < N → i < length (queryCells N K k n)
+      → (getD (queryCells N K k n) i (0, 0) .0 < K) × (getD (queryCells N K k n) i (0, 0) .1 < N ^ K)
   inside n i l h = All-get {P = λ cell. (cell .0 < K) × (cell .1 < N ^ K)} (0, 0) (cells-inside n l) i h

@@ -15,11 +15,14 @@ use Rattle.lists.proofs.Joined.{flatMap-all, map-flatMap}
 use Rattle.lists.proofs.Sums.{sum-append, sum-mul, sum-ext, sum-all, sum-flatMap, sum-same}
 use Rattle.lists.proofs.Each.{All-imp}
 use Rattle.lists.proofs.Bits.{bit-either}
-use Rattle.even_places.specs.Sets.{has, sets, ones, alike}
-use Rattle.even_places.specs.Rule.{isSome, same, bySet, ofSet, others, block, used, sideRows, sources, joins, wantedRows, rows, layout}
+use Rattle.even_places.specs.Rule.{has, onesIn, sets, others, isSome, same, ofSet, bySet, rows, layout, alike}
+use Rattle.even_places.specs.Counting.{used, sideRows, sources, joins, wantedRows, block, countedRows}
+use Rattle.even_places.proofs.Process.{rows-by-counting}
 use Rattle.even_places.proofs.Rows.{join-sum, others-sum}
-use Rattle.even_places.proofs.SetLaws.{setOf, same-alike, alike-one, alike-carry, alike-join, ones-drop, setOf-set, number-sets, keep-sets, same-not, join-keep, join-have, has-drop}
-use Rattle.even_places.proofs.Counts.{sets-fit, sets-zero, has-none, starts, starts-length, sideSets-sum, side-is, sideSets-lack, side-lacks, sources-lack}
+use Rattle.even_places.proofs.SetLaws.{setOf, same-alike, alike-one, alike-carry, alike-join, ones-drop, setOf-set}
+use Rattle.even_places.proofs.SetLaws.{number-sets, keep-sets, same-not, join-keep, join-have, has-drop}
+use Rattle.even_places.proofs.BlockRows.{sets-fit, sets-zero, has-none, starts, starts-length, sideSets-sum}
+use Rattle.even_places.proofs.BlockRows.{side-is, sideSets-lack, side-lacks, sources-lack}
 
 setOf-none : (K : ℕ) → setOf (replicate K none) ≡ replicate K false
 unfolding setOf isSome
@@ -33,7 +36,8 @@ module _ (N K k : ℕ) (wide : 1 < N) (known : k < K) where
       (number-sets f K (starts N K k wide known b n) (starts-length N K k wide known b n) (All-imp (λ A l. l .long) (sideSets-lack N K k wide known b)))
       ∙ sideSets-sum N K k wide known f b
 
-  sources-sets : (f : List Bool → ℕ) (b n : ℕ) → n < N → sum (λ r. f (setOf r)) (sources N K k b n) ≡ (N - 1) ^ b * sum (λ A. bit (not (has k A)) * f A) (sets K b)
+  sources-sets : (f : List Bool → ℕ) (b n : ℕ) → n < N
+      → sum (λ r. f (setOf r)) (sources N K k b n) ≡ (N - 1) ^ b * sum (λ A. bit (not (has k A)) * f A) (sets K b)
   unfolding sources sum bit
   sources-sets f zero n l =
       omega (
@@ -62,7 +66,7 @@ module _ (N K k : ℕ) (wide : 1 < N) (known : k < K) where
       up = omega arith
 
   -- every server has (N - 1)^b rows of each set of block b
-  pub group-size : (b n : ℕ) (A : List Bool) → n < N → length A ≡ K → ones A ≡ suc b → sum (λ r. bit (same A r)) (block N K k b n) ≡ (N - 1) ^ b
+  pub group-size : (b n : ℕ) (A : List Bool) → n < N → length A ≡ K → onesIn A ≡ suc b → sum (λ r. bit (same A r)) (block N K k b n) ≡ (N - 1) ^ b
   unfolding block wantedRows bit
   group-size b n A l long many =
       sum-append (λ r. bit (same A r)) (sideRows N K k b n) (wantedRows N K k b n)
@@ -76,7 +80,8 @@ module _ (N K k : ℕ) (wide : 1 < N) (known : k < K) where
           sum-ext (λ r. bit (same A r)) (λ r. bit (alike A (setOf r))) (λ r. ap bit (same-alike A r)) (sideRows N K k b n)
           ∙ side-sets (λ B. bit (alike A B)) b n
           ∙ ap (λ s. x * s)
-          (sum-ext (λ B. bit (not (has k B)) * bit (alike A B)) (λ B. bit (not (has k A)) * bit (alike A B)) (λ B. alike-carry (λ C. bit (not (has k C))) A B) (sets K (suc b))
+          (sum-ext (λ B. bit (not (has k B)) * bit (alike A B)) (λ B. bit (not (has k A)) * bit (alike A B))
+          (λ B. alike-carry (λ C. bit (not (has k C))) A B) (sets K (suc b))
           ∙ sum-mul (bit (not (has k A))) (λ B. bit (alike A B)) (sets K (suc b))
           ∙ ap (λ s. bit (not (has k A)) * s) (alike-one A K (suc b) long many)
           ∙ mul-one (bit (not (has k A))))
@@ -87,7 +92,8 @@ module _ (N K k : ℕ) (wide : 1 < N) (known : k < K) where
 
       in-wanted : sum (λ r. bit (same A r)) (wantedRows N K k b n) ≡ x * bit (has k A)
       in-wanted =
-          join-sum (λ r. bit (same A r)) (λ r. bit (alike A (set (setOf r) k true))) k (λ r y. ap bit (same-alike A (set r k (some y)) ∙ ap (alike A) (setOf-set r k y))) (used N (joins N K k) b n) (sources N K k b n)
+          join-sum (λ r. bit (same A r)) (λ r. bit (alike A (set (setOf r) k true))) k
+          (λ r y. ap bit (same-alike A (set r k (some y)) ∙ ap (alike A) (setOf-set r k y))) (used N (joins N K k) b n) (sources N K k b n)
           ∙ sources-sets (λ B. bit (alike A (set B k true))) b n l
           ∙ ap (λ s. x * s)
           (sum-all (λ B. bit (not (has k B)) * bit (alike A (set B k true))) (λ B. bit (has k A) * bit (alike (set A k false) B))
@@ -97,9 +103,10 @@ module _ (N K k : ℕ) (wide : 1 < N) (known : k < K) where
 
   -- the sets of a query's rows depend on N and K alone
   pub same-layout : (n : ℕ) → n < N → map setOf (rows N K k n) ≡ layout N K
-  unfolding rows layout bySet
+  unfolding countedRows layout bySet
   same-layout n l =
-      map-flatMap setOf (λ b. bySet (sets K (suc b)) (block N K k b n)) (range 0 K)
+      ap (map setOf) (rows-by-counting N K k wide known n l)
+      ∙ map-flatMap setOf (λ b. bySet (sets K (suc b)) (block N K k b n)) (range 0 K)
       ∙ ap (λ g. flatMap g (range 0 K)) (fun-ext (λ b.
       map-flatMap setOf (λ A. ofSet A (block N K k b n)) (sets K (suc b))
       ∙ flatMap-all (λ A. map setOf (ofSet A (block N K k b n))) (replicate ((N - 1) ^ b))
@@ -118,7 +125,9 @@ module _ (N K k : ℕ) (wide : 1 < N) (known : k < K) where
   without-k b n A e =
       keep-append (same A) (sideRows N K k b n) (wantedRows N K k b n)
       ∙ ap (λ s. keep (same A) (sideRows N K k b n) ++ s)
-      (keep-nothing (same A) (All-imp (λ r h. same-not A r k (λ q. false≢true (sym e ∙ q ∙ h))) (join-have K k b (used N (joins N K k) b n) known (sources-lack N K k wide known b n))))
+      (keep-nothing (same A)
+      (All-imp (λ r h. same-not A r k (λ q. false≢true (sym e ∙ q ∙ h)))
+      (join-have K k b (used N (joins N K k) b n) known (sources-lack N K k wide known b n))))
       ∙ append-nil (keep (same A) (sideRows N K k b n))
 
   -- server n's rows of a set with k are, without k, the rows of the set without k at the other servers, in order

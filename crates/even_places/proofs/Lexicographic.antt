@@ -1,4 +1,5 @@
--- The sets of a block are in lexicographic order of their ascending lists of messages (`sets-ordered`).
+-- The sets of a block are in lexicographic order of their ascending lists of messages, as document 01 asks (`sets-ordered`). Sets with
+-- the first message come before those without it, and both parts are ordered.
 use Prim.Native.Nat.{ℕ, zero, suc, _<_}
 use native.Mathlib.Omega.{arith}
 use mathlib.Core.Path.{_≡_, refl}
@@ -9,8 +10,8 @@ use Rattle.lists.specs.Lexicographic.{precedes, Ordered, orderedNil, orderedCon
 use Rattle.lists.specs.Sums.{allNil, bit, sum}
 use Rattle.lists.proofs.Ordered.{Ordered-imp, Ordered-append, Ordered-map}
 use Rattle.lists.proofs.Each.{All-imp, All-map, All-every}
-use Rattle.even_places.specs.Sets.{ones, members, sets}
-use Rattle.even_places.proofs.Counts.{sets-fit}
+use Rattle.even_places.specs.Rule.{onesIn, members, sets}
+use Rattle.even_places.proofs.BlockRows.{sets-fit}
 
 -- the list of A comes before that of B, where the first message is q
 abbrev Before : ℕ → List Bool → List Bool → Type 0
@@ -26,13 +27,13 @@ unfolding members
 both-lack q A B e = e
 
 -- a list that begins with q comes before that of a set of later messages
-lower-first : (q r : ℕ) (l : List ℕ) (B : List Bool) → q < r → 0 < ones B → precedes (q ∷ l) (members r B) ≡ true
-unfolding precedes members ones sum bit
+lower-first : (q r : ℕ) (l : List ℕ) (B : List Bool) → q < r → 0 < onesIn B → precedes (q ∷ l) (members r B) ≡ true
+unfolding precedes members onesIn sum bit
 lower-first q r l [] h some = absurd (let w : ⊥ = omega arith in w)
 lower-first q r l (true ∷ B) h some = rw (lt-ltb q r h)
 lower-first q r l (false ∷ B) h some = lower-first q (suc r) l B (omega arith) (omega arith)
 
-one-has : (q : ℕ) (A B : List Bool) → 0 < ones B → Before q (true ∷ A) (false ∷ B)
+one-has : (q : ℕ) (A B : List Bool) → 0 < onesIn B → Before q (true ∷ A) (false ∷ B)
 unfolding members
 one-has q A B some = lower-first q (suc q) (members (suc q) A) B (omega arith) some
 

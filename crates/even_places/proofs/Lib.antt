@@ -2,6 +2,9 @@ pub mod Choose
 pub mod Rows
 pub mod BySet
 pub mod SetLaws
+pub mod Others
+pub mod BlockRows
+pub mod Process
 pub mod Counts
 pub mod AllSets
 pub mod Totals
@@ -9,13 +12,13 @@ pub mod Joined
 pub mod Order
 pub mod Positions
 pub mod Bytes
+pub mod RepeatedSets
 pub mod Closed
 pub mod SetRuns
 pub mod RowNumbers
 pub mod SourceRows
 pub mod Lexicographic
 pub mod Flat
-pub mod Process
 pub mod WantedCells
 pub mod ByteParts
 pub mod Ranked

@@ -18,10 +18,10 @@ use Rattle.lists.proofs.Joined.{flatMap-next}
 use Rattle.lists.proofs.Ranges.{range-append}
 use Rattle.lists.proofs.Sums.{sum-next}
 use Rattle.lists.proofs.Each.{All-imp}
-use Rattle.even_places.specs.Sets.{has, with}
-use Rattle.even_places.specs.Rule.{Row, give, after, number, join, used, sideSets, sideRows, joins, wantedRows}
+use Rattle.even_places.specs.Rule.{has, Row, give, after, number, join, sideSets}
+use Rattle.even_places.specs.Counting.{with, used, sideRows, joins, wantedRows}
 use Rattle.even_places.proofs.Rows.{next-at, after-at, after-length}
-use Rattle.even_places.proofs.Counts.{fresh, starts, starts-length, starts-at, side-is, sideSets-lack, sources-long, sources-length, used-all}
+use Rattle.even_places.proofs.BlockRows.{fresh, starts, starts-length, starts-at, side-is, sideSets-lack, sources-long, sources-length, used-all}
 use Rattle.even_places.proofs.Totals.{other-total, wanted-total}
 
 unfoldable pub held : Option ℕ → List ℕ
@@ -33,7 +33,8 @@ unfoldable pub placesOf : ℕ → List Row → List ℕ
 unfolding held flatMap
 placesOf p rs = flatMap (λ r. held (getD r p none)) rs
 
-number-order : (K p : ℕ) (c : List ℕ) {L : List (List Bool)} → length c ≡ K → All (λ A. length A ≡ K) L → placesOf p (number c L) ≡ range (getD c p 0) (with p L)
+number-order : (K p : ℕ) (c : List ℕ) {L : List (List Bool)} → length c ≡ K → All (λ A. length A ≡ K) L
+    → placesOf p (number c L) ≡ range (getD c p 0) (with p L)
 unfolding number with sum placesOf range
 number-order K p c e allNil = refl
 number-order K p c e (allCons {x = A} {xs = L} h a) =
@@ -69,7 +70,8 @@ module _ (N : ℕ) (f : ℕ → ℕ) (g : ℕ → ℕ → List ℕ) (turn : (b n
   in-order (suc B) =
       flatMap-next (λ b. flatMap (g b) (range 0 N)) B
       ∙ ap (λ s. s ++ flatMap (g B) (range 0 N)) (in-order B)
-      ∙ ap (λ s. range 0 (N * sum f (range 0 B)) ++ s) (in-block B N (omega arith) ∙ ap (λ s. range s (N * f B)) (used-all N f B ∙ sym (zero-add (N * sum f (range 0 B)))))
+      ∙ ap (λ s. range 0 (N * sum f (range 0 B)) ++ s)
+      (in-block B N (omega arith) ∙ ap (λ s. range s (N * f B)) (used-all N f B ∙ sym (zero-add (N * sum f (range 0 B)))))
       ∙ range-append 0 (N * sum f (range 0 B)) (N * f B)
       ∙ ap (range 0) (sym (mul-add N (sum f (range 0 B)) (f B)) ∙ ap (λ s. N * s) (sym (sum-next f B)))
 
@@ -82,7 +84,8 @@ module _ (N K k : ℕ) where
 module _ (N K k : ℕ) (wide : 1 < N) (known : k < K) where
   other-order : (p : ℕ) → p < K → p ≢ k → flatMap (λ b. flatMap (λ n. placesOf p (sideRows N K k b n)) (range 0 N)) (range 0 K) ≡ range 0 (N ^ (K - 1))
   unfolding fresh
-  other-order p hp d = in-order N (fresh N K k wide known p) (λ b n. placesOf p (sideRows N K k b n)) turn K ∙ ap (range 0) (other-total N K k wide known p hp d)
+  other-order p hp d =
+      in-order N (fresh N K k wide known p) (λ b n. placesOf p (sideRows N K k b n)) turn K ∙ ap (range 0) (other-total N K k wide known p hp d)
     where
       turn : (b n : ℕ) → n < N → placesOf p (sideRows N K k b n) ≡ range (used N (fresh N K k wide known p) b n) (fresh N K k wide known p b)
       turn b n l =
@@ -93,7 +96,9 @@ module _ (N K k : ℕ) (wide : 1 < N) (known : k < K) where
   wanted-order : flatMap (λ b. flatMap (λ n. placesOf k (wantedRows N K k b n)) (range 0 N)) (range 0 K) ≡ range 0 (N ^ K)
   unfolding wantedRows
   wanted-order =
-      in-order N (joins N K k) (λ b n. placesOf k (wantedRows N K k b n)) (λ b n l. join-order k (used N (joins N K k) b n) (sources-long N K k wide known b n) ∙ ap (range (used N (joins N K k) b n)) (sources-length N K k wide known b n l)) K
+      in-order N (joins N K k) (λ b n. placesOf k (wantedRows N K k b n))
+      (λ b n l. join-order k (used N (joins N K k) b n) (sources-long N K k wide known b n)
+      ∙ ap (range (used N (joins N K k) b n)) (sources-length N K k wide known b n l)) K
       ∙ ap (range 0) (ap (λ s. N * s) (wanted-total N K k wide known) ∙ sym (pow-succ' N (K - 1)) ∙ ap (λ j. N ^ j) one-less)
     where
       one-less : suc (K - 1) ≡ K
@@ -105,6 +110,7 @@ module _ (N K k : ℕ) (wide : 1 < N) (known : k < K) where
   places-in-order p hp = go (eqb p k) refl
     where
       go : (t : Bool) → eqb p k ≡ t
-          → flatMap (λ b. flatMap (λ n. placesOf p (cond t (wantedRows N K k b n) (sideRows N K k b n))) (range 0 N)) (range 0 K) ≡ range 0 (cond t (N ^ K) (N ^ (K - 1)))
+          → flatMap (λ b. flatMap (λ n. placesOf p (cond t (wantedRows N K k b n) (sideRows N K k b n))) (range 0 N)) (range 0 K)
+          ≡ range 0 (cond t (N ^ K) (N ^ (K - 1)))
       go true e = ap (λ q. flatMap (λ b. flatMap (λ n. placesOf q (wantedRows N K k b n)) (range 0 N)) (range 0 K)) (eqb-true p k e) ∙ wanted-order
       go false e = other-order p hp (eqb-false p k e)

@@ -1,5 +1,5 @@
--- The rows of the rule are those that the process of document 01 makes (`process-is`): at each turn the next place of a message is as many
--- as all servers took of it in the blocks before, and the servers before in this one. So a query's rows are what it made (`rows-made`).
+-- What the process of document 01 makes, by counting (`process-is`): at each turn the next place of a message is as many as all servers
+-- took of it in the blocks before, and the servers before in this one. So a query's rows are the counted ones (`rows-by-counting`).
 use Prim.Native.Nat.{ℕ, zero, suc, _+_, _<_}
 use native.Mathlib.Nat.{zero-add, add-zero, zero-mul, mul-zero, suc-add, add-suc}
 use native.Mathlib.Omega.{arith}
@@ -18,12 +18,13 @@ use Rattle.lists.proofs.Mapped.{mapped-at}
 use Rattle.lists.proofs.Each.{All-imp}
 use Rattle.lists.proofs.Ranges.{All-range}
 use Rattle.lists.proofs.Sums.{sum-all, sum-zero}
-use Rattle.even_places.specs.Process.{Made, idle, madeBy, rowsMade, afters, joinedFrom, turn, turned, turns, turnsDone, blocks, process}
-use Rattle.even_places.specs.Rule.{Row, give, next, after, number, join, used, sideSets, sideRows, sources, joins, wantedRows, bySet, block, rows}
-use Rattle.even_places.specs.Sets.{has, with, sets}
+use Rattle.even_places.specs.Rule.{has, sets, Row, give, next, after, number, afters, join, TurnRows, idle, sideSets, wantedOf}
+use Rattle.even_places.specs.Rule.{turn, turned, turns, turnsDone, blocks, process, bySet, madeBy, rows}
+use Rattle.even_places.specs.Counting.{with, used, sideRows, sources, joins, wantedRows, block, countedRows}
+use Rattle.even_places.proofs.SetLaws.{join-length}
 use Rattle.even_places.proofs.Rows.{SetLacks, next-at, after-at, after-length, next-length, afters-length, afters-at}
-use Rattle.even_places.proofs.Counts.{fresh, starts, starts-length, starts-at, side-is, sideSets-lack, sources-length, used-next, used-over}
-use Rattle.even_places.proofs.Positions.{others-below}
+use Rattle.even_places.proofs.BlockRows.{fresh, starts, starts-length, starts-at, side-is, sideSets-lack, sources-length, used-next, used-over}
+use Rattle.even_places.proofs.Others.{others-below}
 
 -- rows that lack k do not look at its next place
 module _ (K k b : ℕ) where
@@ -35,7 +36,8 @@ module _ (K k b : ℕ) where
   unfolding Alike give
   next-alike A c d l (lc, ld, same) =
       ext-getD none (next A c) (next A d) (next-length A c (l .long ∙ sym lc) ∙ sym (next-length A d (l .long ∙ sym ld))) (λ p h.
-      next-at A c p (l .long ∙ sym lc) ∙ at p (omega (arith, h, next-length A c (l .long ∙ sym lc), l .long)) (ℕ-discrete p k) ∙ sym (next-at A d p (l .long ∙ sym ld)))
+      next-at A c p (l .long ∙ sym lc) ∙ at p (omega (arith, h, next-length A c (l .long ∙ sym lc), l .long)) (ℕ-discrete p k)
+      ∙ sym (next-at A d p (l .long ∙ sym ld)))
     where
       at : (p : ℕ) → p < K → Dec (p ≡ k) → give (has p A) (getD c p 0) ≡ give (has p A) (getD d p 0)
       at p h (yes e) = rw (ap (λ q. has q A) e ∙ l .lack)
@@ -56,9 +58,9 @@ module _ (K k b : ℕ) where
       ap (λ r. r ∷ number (after A c) L) (next-alike A c d l s) ∙ ap (λ rs. next A d ∷ rs) (number-alike (after A c) (after A d) a (after-alike A c d l s))
 
 module _ (N K k : ℕ) (wide : 1 < N) (known : k < K) where
-  -- what the rule gives server n in block b
-  ruled : ℕ → ℕ → Made
-  ruled b n = record { side = sideRows N K k b n; wanted = wantedRows N K k b n }
+  -- what counting gives server n in block b
+  counted : ℕ → ℕ → TurnRows
+  counted b n = record { side = sideRows N K k b n; wanted = wantedRows N K k b n }
 
   -- c has the next places at server n's turn in block b
   record Ready (b n : ℕ) (c : List ℕ) : Type 0 where
@@ -66,19 +68,24 @@ module _ (N K k : ℕ) (wide : 1 < N) (known : k < K) where
     other : (p : ℕ) → p < K → p ≢ k → getD c p 0 ≡ used N (fresh N K k wide known p) b n
     own : getD c k 0 ≡ used N (joins N K k) b n
 
-  -- `before` is what the rule gives in the block before
-  Earlier : ℕ → List Made → Type 0
+  -- `before` is what counting gives in the block before
+  Earlier : ℕ → List TurnRows → Type 0
   Earlier zero before = Unit {0}
-  Earlier (suc b) before = before ≡ map (ruled b) (range 0 N)
+  Earlier (suc b) before = before ≡ map (counted b) (range 0 N)
 
-  joined-from : (b n : ℕ) (before : List Made) → Earlier b before → n < N → joinedFrom N K k b before n ≡ sources N K k b n
-  unfolding joinedFrom sources Earlier ruled
-  joined-from zero n before e l = refl
-  joined-from (suc b) n before e l =
-      flatMap-all (λ m. getD before m idle .side) (sideRows N K k b)
-      (All-imp (λ m h. ap (λ made. getD made m idle .side) e ∙ ap (λ made. made .side) (mapped-at (ruled b) idle N m h)) (others-below N n))
+  wanted-of : (b n x : ℕ) (before : List TurnRows) → Earlier b before → n < N
+      → wantedOf N K k b before n x ≡ join k x (sources N K k b n)
+  unfolding wantedOf join sources Earlier counted
+  wanted-of zero n x before e l = refl
+  wanted-of (suc b) n x before e l =
+      ap (join k x) (flatMap-all (λ m. getD before m idle .side) (sideRows N K k b) (All-imp (λ m h. side-of m h) (others-below N n)))
+    where
+      side-of : (m : ℕ) → m < N → getD before m idle .side ≡ sideRows N K k b m
+      side-of m h =
+          ap (λ (made : List TurnRows). getD made m idle .side) e
+          ∙ ap (λ (made : TurnRows). made .side) (mapped-at (counted b) idle N m h)
 
-  module _ (b n : ℕ) (before : List Made) (c : List ℕ) (earlier : Earlier b before) (there : n < N) (r : Ready b n c) where
+  module _ (b n : ℕ) (before : List TurnRows) (c : List ℕ) (earlier : Earlier b before) (there : n < N) (r : Ready b n c) where
     lacks : All (λ A. length A ≡ K) (sideSets N K k b)
     lacks = All-imp (λ A l. l .long) (sideSets-lack N K k wide known b)
 
@@ -90,15 +97,20 @@ module _ (N K k : ℕ) (wide : 1 < N) (known : k < K) where
         sum-all (λ A. bit (has k A)) (λ A. 0) (All-imp (λ A l. ap bit (l .lack)) (sideSets-lack N K k wide known b)) ∙ sum-zero (sideSets N K k b) in
         afters-at K k c (r .long) lacks ∙ omega (arith, none-taken, r .own)
 
-    turn-is : turn N K k b before n c ≡ ruled b n
-    unfolding turn ruled wantedRows Alike
-    turn-is =
-        ap (λ rs. made rs (join k (getD (afters (sideSets N K k b) c) k 0) (joinedFrom N K k b before n))) side-same
-        ∙ ap (λ x. made (sideRows N K k b n) (join k x (joinedFrom N K k b before n))) own-after
-        ∙ ap (λ rs. made (sideRows N K k b n) (join k (used N (joins N K k) b n) rs)) (joined-from b n before earlier there)
+    turn-is : turn N K k b before n c ≡ counted b n
+    unfolding turn counted wantedRows Alike
+    turn-is = ap (λ rs. made rs wanted) side-same ∙ ap (made (sideRows N K k b n)) wanted-same
       where
-        made : List Row → List Row → Made
+        made : List Row → List Row → TurnRows
         made s w = record { side = s; wanted = w }
+
+        wanted : List Row
+        wanted = wantedOf N K k b before n (getD (afters (sideSets N K k b) c) k 0)
+
+        wanted-same : wanted ≡ join k (used N (joins N K k) b n) (sources N K k b n)
+        wanted-same =
+            wanted-of b n (getD (afters (sideSets N K k b) c) k 0) before earlier there
+            ∙ ap (λ x. join k x (sources N K k b n)) own-after
 
         side-same : number c (sideSets N K k b) ≡ sideRows N K k b n
         side-same =
@@ -106,38 +118,50 @@ module _ (N K k : ℕ) (wide : 1 < N) (known : k < K) where
             (r .long, starts-length N K k wide known b n, λ p h d. r .other p h d ∙ sym (starts-at N K k wide known p b n h))
             ∙ sym (side-is N K k wide known b n)
 
+    -- each turn has as many wanted rows as the next
+    wanted-many : length (turn N K k b before n c .wanted) ≡ joins N K k b
+    unfolding counted wantedRows
+    wanted-many =
+        ap (λ (made : TurnRows). length (made .wanted)) turn-is
+        ∙ join-length k (used N (joins N K k) b n) (sources N K k b n)
+        ∙ sources-length N K k wide known b n there
+
     turned-ready : Ready b (suc n) (turned N K k b before n c)
     unfolding turned fresh
     turned-ready =
         record {
-          long = length-set done k (getD done k 0 + length from) ∙ done-long;
+          long = length-set done k own ∙ done-long;
           other = λ p h d.
-              getD-set-other done k p (getD done k 0 + length from) 0 d
-              ∙ afters-at K p c (r .long) lacks
+              getD-set-other done k p own 0 d ∙ afters-at K p c (r .long) lacks
               ∙ omega (arith, r .other p h d, used-next N (fresh N K k wide known p) b n);
           own =
-              getD-set-same done k (getD done k 0 + length from) 0 (omega (arith, done-long))
-              ∙ omega (arith, own-after, ap length (joined-from b n before earlier there), sources-length N K k wide known b n there, used-next N (joins N K k) b n);
+              getD-set-same done k own 0 (omega (arith, done-long))
+              ∙ omega (arith, own-after, wanted-many, used-next N (joins N K k) b n);
         }
       where
         done : List ℕ
         done = afters (sideSets N K k b) c
 
-        from : List Row
-        from = joinedFrom N K k b before n
+        own : ℕ
+        own = getD done k 0 + length (turn N K k b before n c .wanted)
 
         done-long : length done ≡ K
         done-long = afters-length K c (r .long) lacks
 
   -- the turns of the servers from n on
-  turns-are : (b n count : ℕ) (before : List Made) (c : List ℕ) → Earlier b before → n + count ≡ N → Ready b n c
-      → (turns N K k b before n count c ≡ map (ruled b) (range n count)) × Ready b N (turnsDone N K k b before n count c)
+  turns-are : (b n count : ℕ) (before : List TurnRows) (c : List ℕ) → Earlier b before → n + count ≡ N → Ready b n c
+      → (turns N K k b before n count c ≡ map (counted b) (range n count)) × Ready b N (turnsDone N K k b before n count c)
   unfolding turns turnsDone range
   turns-are b n zero before c earlier e r = (refl, subst (λ (m : ℕ). Ready b m c) (sym (add-zero n) ∙ e) r)
   turns-are b n (suc count) before c earlier e r =
       let there : n < N = omega (arith, e) in
-      let rest = turns-are b (suc n) count before (turned N K k b before n c) earlier (suc-add n count ∙ sym (add-suc n count) ∙ e) (turned-ready b n before c earlier there r) in
-      (ap (λ t. t ∷ turns N K k b before (suc n) count (turned N K k b before n c)) (turn-is b n before c earlier there r) ∙ ap (λ ts. ruled b n ∷ ts) (rest .0), rest .1)
+      let rest =
+      turns-are b (suc n) count before (turned N K k b before n c) earlier (suc-add n count ∙ sym (add-suc n count) ∙ e)
+      (turned-ready b n before c earlier there r) in (
+        ap (λ t. t ∷ turns N K k b before (suc n) count (turned N K k b before n c)) (turn-is b n before c earlier there r)
+            ∙ ap (λ ts. counted b n ∷ ts) (rest .0),
+        rest .1,
+      )
 
   -- after the last server's turn in a block comes the first one's in the next
   over : (b : ℕ) (c : List ℕ) → Ready b N c → Ready (suc b) 0 c
@@ -148,14 +172,15 @@ module _ (N K k : ℕ) (wide : 1 < N) (known : k < K) where
         own = r .own ∙ sym (used-over N (joins N K k) b);
       }
 
-  blocks-are : (b count : ℕ) (before : List Made) (c : List ℕ) → Earlier b before → Ready b 0 c
-      → blocks N K k b count before c ≡ map (λ j. map (ruled j) (range 0 N)) (range b count)
+  blocks-are : (b count : ℕ) (before : List TurnRows) (c : List ℕ) → Earlier b before → Ready b 0 c
+      → blocks N K k b count before c ≡ map (λ j. map (counted j) (range 0 N)) (range b count)
   unfolding blocks range Earlier
   blocks-are b zero before c earlier r = refl
   blocks-are b (suc count) before c earlier r =
       let t = turns-are b 0 N before c earlier (zero-add N) r in
       ap (λ ts. ts ∷ blocks N K k (suc b) count (turns N K k b before 0 N c) (turnsDone N K k b before 0 N c)) (t .0)
-      ∙ ap (λ bs. map (ruled b) (range 0 N) ∷ bs) (blocks-are (suc b) count (turns N K k b before 0 N c) (turnsDone N K k b before 0 N c) (t .0) (over b (turnsDone N K k b before 0 N c) (t .1)))
+      ∙ ap (λ bs. map (counted b) (range 0 N) ∷ bs)
+      (blocks-are (suc b) count (turns N K k b before 0 N c) (turnsDone N K k b before 0 N c) (t .0) (over b (turnsDone N K k b before 0 N c) (t .1)))
 
   start : Ready 0 0 (replicate K 0)
   unfolding used sum range
@@ -166,18 +191,21 @@ module _ (N K k : ℕ) (wide : 1 < N) (known : k < K) where
         own = getD-replicate K k 0 0 known ∙ omega (arith, mul-zero N, zero-mul (joins N K k 0));
       }
 
-  pub process-is : process N K k ≡ map (λ b. map (λ n. record { side = sideRows N K k b n; wanted = wantedRows N K k b n }) (range 0 N)) (range 0 K)
-  unfolding process ruled Earlier
+  pub process-is : process N K k
+      ≡ map (λ b. map (λ n. record { side = sideRows N K k b n; wanted = wantedRows N K k b n }) (range 0 N)) (range 0 K)
+  unfolding process counted Earlier
   process-is = blocks-are 0 K [] (replicate K 0) tt start
 
   -- a query lists what the process made for its server
-  pub rows-made : (n : ℕ) → n < N → rows N K k n ≡ rowsMade N K k n
-  unfolding rows block rowsMade
-  rows-made n there = flatMap-all _ _ (All-range K (λ b h. ap (λ (made : Made). bySet (sets K (suc b)) (made .side ++ made .wanted)) (sym (made-at b h))))
+  pub rows-by-counting : (n : ℕ) → n < N → rows N K k n ≡ countedRows N K k n
+  unfolding rows countedRows block madeBy counted
+  rows-by-counting n there = flatMap-all _ _ (All-range K (λ b h. ap (listed b) (made-at b h)))
     where
-      made-at : (b : ℕ) → b < K → madeBy N K k b n ≡ record { side = sideRows N K k b n; wanted = wantedRows N K k b n }
+      listed : ℕ → TurnRows → List Row
+      listed b made = bySet (sets K (suc b)) (made .side ++ made .wanted)
+
+      made-at : (b : ℕ) → b < K → madeBy N K k b n ≡ counted b n
       made-at b h =
-          ap (λ (all : List (List Made)). getD (getD all b []) n idle) process-is
-          ∙ ap (λ (all : List Made). getD all n idle)
-          (mapped-at (λ b. map (λ n. record { side = sideRows N K k b n; wanted = wantedRows N K k b n }) (range 0 N)) [] K b h)
-          ∙ mapped-at (λ n. record { side = sideRows N K k b n; wanted = wantedRows N K k b n }) idle N n there
+          ap (λ (all : List (List TurnRows)). getD (getD all b []) n idle) process-is
+          ∙ ap (λ (all : List TurnRows). getD all n idle) (mapped-at (λ b. map (counted b) (range 0 N)) [] K b h)
+          ∙ mapped-at (counted b) idle N n there

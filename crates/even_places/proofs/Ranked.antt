@@ -1,5 +1,6 @@
--- How sets stand among the others of their block: the sets without k of one block are those with k of the next, in order, without k;
--- all sets of one size among all sets; and what stands before a set in a list that has it once.
+-- How sets stand among the others of their block: the sets without k of one block are those with k of the next, in order, without k
+-- (`taken-out`); all sets of one size among all sets (`of-block`); and what stands before a set in a list that has it once
+-- (`before-seam`).
 use Prim.Native.Nat.{ℕ, zero, suc, _+_, _-_, _≤_, _<_}
 use native.Mathlib.Nat.{not-suc-le-zero}
 use native.Mathlib.Omega.{arith}
@@ -18,10 +19,10 @@ use Rattle.lists.proofs.Keep.{keep-all, keep-map, keep-append, keep-nothing, ke
 use Rattle.lists.proofs.Joined.{flatMap-nothing, flatMap-append}
 use Rattle.lists.proofs.Mapped.{map-append}
 use Rattle.lists.proofs.Ranges.{range-around, All-from}
-use Rattle.even_places.specs.Sets.{has, ones, sets, allSets, alike}
+use Rattle.even_places.specs.Rule.{has, onesIn, sets, allSets, alike}
 use Rattle.even_places.proofs.SetLaws.{alike-self}
-use Rattle.even_places.proofs.Counts.{sets-fit, sets-zero, has-none}
-use Rattle.even_places.proofs.Closed.{before, beforeIf}
+use Rattle.even_places.proofs.BlockRows.{sets-fit, sets-zero, has-none}
+use Rattle.even_places.proofs.RepeatedSets.{before, beforeIf}
 
 -- ---- The sets with k, without it
 
@@ -63,7 +64,14 @@ taken-out (suc K) zero b h = front (sets K b) (sets K (suc b)) ∙ sym (without 
   where
     front : (X Y : List (List Bool)) → map (λ A. set A 0 false) (keep (has 0) (map (λ A. true ∷ A) X ++ map (λ A. false ∷ A) Y)) ≡ map (λ A. false ∷ A) X
     front X Y =
-        rw (keep-append (has 0) (map (λ A. true ∷ A) X) (map (λ A. false ∷ A) Y), first-has true X, first-has false Y, keep-each X, keep-no Y, append-nil (map (λ A. true ∷ A) X))
+        rw (
+          keep-append (has 0) (map (λ A. true ∷ A) X) (map (λ A. false ∷ A) Y),
+          first-has true X,
+          first-has false Y,
+          keep-each X,
+          keep-no Y,
+          append-nil (map (λ A. true ∷ A) X),
+        )
         (map-map (λ A. set A 0 false) (λ A. true ∷ A) X)
 
     without : (b : ℕ) → keep (λ A. not (has 0 A)) (sets (suc K) b) ≡ map (λ A. false ∷ A) (sets K b)
@@ -82,7 +90,8 @@ taken-out (suc K) (suc k) b h = out (sets K b) (sets K (suc b)) ∙ go b (λ c. 
         ∙ ap₂ (λ l m. l ++ m) (later-out true X k) (later-out false Y k)
 
     go : (b : ℕ) → ((c : ℕ) → map (λ A. set A k false) (keep (has k) (sets K (suc c))) ≡ keep (λ A. not (has k A)) (sets K c))
-        → map (λ A. true ∷ A) (map (λ A. set A k false) (keep (has k) (sets K b))) ++ map (λ A. false ∷ A) (map (λ A. set A k false) (keep (has k) (sets K (suc b))))
+        → map (λ A. true ∷ A) (map (λ A. set A k false) (keep (has k) (sets K b)))
+        ++ map (λ A. false ∷ A) (map (λ A. set A k false) (keep (has k) (sets K (suc b))))
         ≡ keep (λ A. not (has (suc k) A)) (sets (suc K) b)
     go zero ih = rw (none-with K k, ih 0, later-not false (sets K 0) k)
     go (suc b) ih =
@@ -92,17 +101,21 @@ taken-out (suc K) (suc k) b h = out (sets K b) (sets K (suc b)) ∙ go b (λ c. 
 
 -- ---- The sets of one block among all sets
 
-pub of-block : (K b : ℕ) → b < K → keep (λ A. eqb (suc b) (ones A)) (allSets K) ≡ sets K (suc b)
+pub of-block : (K b : ℕ) → b < K → keep (λ A. eqb (suc b) (onesIn A)) (allSets K) ≡ sets K (suc b)
 unfolding allSets flatMap range
 of-block K b h =
     keep-flatMap t (λ j. sets K (suc j)) (range 0 K)
     ∙ ap (flatMap g) (range-around K b h)
     ∙ flatMap-append g (range 0 b) (b ∷ range (suc b) (K - suc b))
-    ∙ rw (flatMap-nothing g (All-from 0 b (λ j l u. other j (λ e. omega arith))), flatMap-nothing g (All-from (suc b) (K - suc b) (λ j l u. other j (λ e. omega arith))), append-nil (g b))
+    ∙ rw (
+      flatMap-nothing g (All-from 0 b (λ j l u. other j (λ e. omega arith))),
+      flatMap-nothing g (All-from (suc b) (K - suc b) (λ j l u. other j (λ e. omega arith))),
+      append-nil (g b),
+    )
     (keep-all t (All-imp (λ A f. ap (eqb (suc b)) (f .1) ∙ eq-eqb (suc b) (suc b) refl) (sets-fit K (suc b))))
   where
     t : List Bool → Bool
-    t A = eqb (suc b) (ones A)
+    t A = eqb (suc b) (onesIn A)
 
     g : ℕ → List (List Bool)
     g j = keep t (sets K (suc j))

@@ -1,4 +1,5 @@
--- Laws of rows: what numbering and joining do to the number of times that place v of message p stands in a list of rows.
+-- Laws of rows: numbering gives each message's places one after another (`number-hit`), and so does joining for the wanted message
+-- (`join-hit`); how many rows have a message (`number-gives`, `join-gives`).
 use Prim.Native.Nat.{ℕ, zero, suc, _+_, _*_, _≤_, _<_}
 use native.Mathlib.Nat.{zero-add, add-zero, zero-mul, one-mul, add-mul, not-suc-le-zero}
 use native.Mathlib.Omega.{arith}
@@ -14,9 +15,8 @@ use Rattle.lists.specs.Sums.{bit, sum, All, allNil, allCons}
 use Rattle.lists.specs.Ranges.{range}
 use Rattle.lists.proofs.Sums.{sum-keep, sum-next}
 use Rattle.lists.proofs.Bits.{bit-step}
-use Rattle.even_places.specs.Sets.{has, with, ones}
-use Rattle.even_places.specs.Process.{afters}
-use Rattle.even_places.specs.Rule.{Row, isSome, give, next, after, number, join, others}
+use Rattle.even_places.specs.Rule.{has, onesIn, Row, give, next, after, number, afters, join, others, isSome}
+use Rattle.even_places.specs.Counting.{with}
 
 -- 1 if v < n, else 0
 unfoldable pub below : ℕ → ℕ → ℕ
@@ -84,8 +84,8 @@ unfolding give isSome
 give-some true x = refl
 give-some false x = refl
 
-next-somes : (A : List Bool) (c : List ℕ) → length A ≡ length c → somes (next A c) ≡ ones A
-unfolding next somes ones sum
+next-somes : (A : List Bool) (c : List ℕ) → length A ≡ length c → somes (next A c) ≡ onesIn A
+unfolding next somes onesIn sum
 next-somes [] c e = refl
 next-somes (a ∷ A) [] e = absurd (omega arith)
 next-somes (a ∷ A) (x ∷ c) e = omega (arith, ap bit (give-some a x), next-somes A c (omega arith))
@@ -98,7 +98,7 @@ pub record Lacks (K k b : ℕ) (r : Row) : Type 0 where
 
 pub record SetLacks (K k b : ℕ) (A : List Bool) : Type 0 where
   pub long : length A ≡ K
-  pub many : ones A ≡ b
+  pub many : onesIn A ≡ b
   pub lack : has k A ≡ false
 
 pub number-lacks : (K k b : ℕ) (c : List ℕ) {L : List (List Bool)} → length c ≡ K → All (SetLacks K k b) L → All (Lacks K k b) (number c L)
@@ -107,7 +107,12 @@ number-lacks K k b c e allNil = allNil
 number-lacks K k b c e (allCons {x = A} h a) =
     let l : length A ≡ length c = h .long ∙ sym e in
     allCons
-    (record { long = next-length A c l ∙ h .long; many = next-somes A c l ∙ h .many; lack = next-at A c k l ∙ ap (λ t. give t (getD c k 0)) (h .lack) ∙ give-none })
+    (record {
+      long = next-length A c l ∙ h .long;
+      many = next-somes A c l ∙ h .many;
+      lack = next-at A c k l ∙ ap (λ t. give t (getD c k 0)) (h .lack)
+          ∙ give-none;
+    })
     (number-lacks K k b (after A c) (after-length A c l ∙ e) a)
   where
     give-none : give false (getD c k 0) ≡ none
@@ -125,7 +130,8 @@ step false v x o w ih =
     omega arith
 
 -- numbering gives each message's places one after another, from the first on
-pub number-hit : (K p v : ℕ) (c : List ℕ) {L : List (List Bool)} → length c ≡ K → All (λ A. length A ≡ K) L → sum (hit p v) (number c L) + below v (getD c p 0) ≡ below v (getD c p 0 + with p L)
+pub number-hit : (K p v : ℕ) (c : List ℕ) {L : List (List Bool)} → length c ≡ K → All (λ A. length A ≡ K) L
+    → sum (hit p v) (number c L) + below v (getD c p 0) ≡ below v (getD c p 0 + with p L)
 unfolding number with sum hit
 number-hit K p v c e allNil = rw (add-zero (getD c p 0)) (omega arith)
 number-hit K p v c e (allCons {x = A} {xs = L} h a) =
@@ -212,4 +218,12 @@ others-sum h N n l = omega (arith, sum-keep h (λ m. not (eqb m n)) (range 0 N),
     go : (M : ℕ) → sum (λ m. bit (not (eqb m n)) * h m) (range 0 M) + below n M * h n ≡ sum h (range 0 M)
     go zero = omega (arith, ap (λ s. s * h n) (below-zero n), zero-mul (h n))
     go (suc M) =
-        omega (arith, go M, sum-next (λ m. bit (not (eqb m n)) * h m) M, sum-next h M, one M (eqb M n) refl, ap (λ s. s * h n) (below-step n M), add-mul (bit (eqb M n)) (below n M) (h n))
+        omega (
+          arith,
+          go M,
+          sum-next (λ m. bit (not (eqb m n)) * h m) M,
+          sum-next h M,
+          one M (eqb M n) refl,
+          ap (λ s. s * h n) (below-step n M),
+          add-mul (bit (eqb M n)) (below n M) (h n),
+        )

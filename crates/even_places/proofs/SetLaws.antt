@@ -13,8 +13,7 @@ use lib.ListN.{length, getD, set, replicate}
 use lib.Seq.{getD-set-same, getD-set-other, set-set, set-getD}
 use Rattle.lists.specs.Sums.{bit, keep, keepIf, sum, All, allNil, allCons}
 use Rattle.lists.proofs.Sums.{sum-zero}
-use Rattle.even_places.specs.Sets.{has, sets, ones, alike}
-use Rattle.even_places.specs.Rule.{Row, isSome, same, give, next, after, number, join, ofSet, cells}
+use Rattle.even_places.specs.Rule.{has, onesIn, sets, Row, give, next, after, number, join, isSome, same, ofSet, cells, alike}
 use Rattle.even_places.proofs.Choose.{sets-none, sets-some}
 use Rattle.even_places.proofs.Rows.{after-length, Lacks}
 
@@ -46,21 +45,22 @@ alike-self (true ∷ A) = alike-self A
 alike-self (false ∷ A) = alike-self A
 
 -- a set stands once among the sets of its size
-alike-once : (A : List Bool) → sum (λ B. bit (alike A B)) (sets (length A) (ones A)) ≡ 1
-unfolding ones sum bit sets alike
+alike-once : (A : List Bool) → sum (λ B. bit (alike A B)) (sets (length A) (onesIn A)) ≡ 1
+unfolding onesIn sum bit sets alike
 alike-once [] = refl
-alike-once (false ∷ A) = rw (zero-add (ones A)) (go (ones A) (alike-once A))
+alike-once (false ∷ A) = rw (zero-add (onesIn A)) (go (onesIn A) (alike-once A))
   where
     go : (b : ℕ) → sum (λ B. bit (alike A B)) (sets (length A) b) ≡ 1 → sum (λ B. bit (alike (false ∷ A) B)) (sets (suc (length A)) b) ≡ 1
     go zero e = sets-none (λ B. bit (alike (false ∷ A) B)) (length A) ∙ e
     go (suc b) e = sets-some (λ B. bit (alike (false ∷ A) B)) (length A) b ∙ omega (arith, e, sum-zero (sets (length A) b))
 alike-once (true ∷ A) =
-    ap (λ b. sum (λ B. bit (alike (true ∷ A) B)) (sets (suc (length A)) b)) (add-comm 1 (ones A) ∙ add-one (ones A))
-    ∙ sets-some (λ B. bit (alike (true ∷ A) B)) (length A) (ones A)
-    ∙ omega (arith, alike-once A, sum-zero (sets (length A) (suc (ones A))))
+    ap (λ b. sum (λ B. bit (alike (true ∷ A) B)) (sets (suc (length A)) b)) (add-comm 1 (onesIn A) ∙ add-one (onesIn A))
+    ∙ sets-some (λ B. bit (alike (true ∷ A) B)) (length A) (onesIn A)
+    ∙ omega (arith, alike-once A, sum-zero (sets (length A) (suc (onesIn A))))
 
-pub alike-one : (A : List Bool) (K b : ℕ) → length A ≡ K → ones A ≡ b → sum (λ B. bit (alike A B)) (sets K b) ≡ 1
-alike-one A K b p q = subst (λ (j : ℕ). sum (λ B. bit (alike A B)) (sets j b) ≡ 1) p (subst (λ (j : ℕ). sum (λ B. bit (alike A B)) (sets (length A) j) ≡ 1) q (alike-once A))
+pub alike-one : (A : List Bool) (K b : ℕ) → length A ≡ K → onesIn A ≡ b → sum (λ B. bit (alike A B)) (sets K b) ≡ 1
+alike-one A K b p q =
+    subst (λ (j : ℕ). sum (λ B. bit (alike A B)) (sets j b) ≡ 1) p (subst (λ (j : ℕ). sum (λ B. bit (alike A B)) (sets (length A) j) ≡ 1) q (alike-once A))
 
 pub alike-carry : (f : List Bool → ℕ) (A B : List Bool) → f B * bit (alike A B) ≡ f A * bit (alike A B)
 unfolding bit
@@ -71,7 +71,8 @@ alike-carry f A B = go (alike A B) refl
     go false e = mul-zero (f B) ∙ sym (mul-zero (f A))
 
 -- A is B joined with k, which B lacks, exactly if A has k and is B without it
-pub alike-join : (A B : List Bool) (k : ℕ) → length A ≡ length B → k < length A → bit (not (has k B)) * bit (alike A (set B k true)) ≡ bit (has k A) * bit (alike (set A k false) B)
+pub alike-join : (A B : List Bool) (k : ℕ) → length A ≡ length B → k < length A
+    → bit (not (has k B)) * bit (alike A (set B k true)) ≡ bit (has k A) * bit (alike (set A k false) B)
 unfolding bit has alike
 alike-join [] B k e h = absurd (not-suc-le-zero h)
 alike-join (a ∷ A) [] k e h = absurd (omega arith)
@@ -86,22 +87,22 @@ alike-join (a ∷ A) (b ∷ B) (suc k) e h = go (Bool·beq a b) (alike-join A B 
     go true ih = ih
     go false ih = mul-zero (bit (not (has k B))) ∙ sym (mul-zero (bit (has k A)))
 
-pub ones-drop : (A : List Bool) (k : ℕ) → has k A ≡ true → suc (ones (set A k false)) ≡ ones A
-unfolding has ones sum bit
+pub ones-drop : (A : List Bool) (k : ℕ) → has k A ≡ true → suc (onesIn (set A k false)) ≡ onesIn A
+unfolding has onesIn sum bit
 ones-drop [] k e = absurd (false≢true e)
 ones-drop (true ∷ A) zero e = omega arith
 ones-drop (false ∷ A) zero e = absurd (false≢true e)
 ones-drop (a ∷ A) (suc k) e = omega (arith, ones-drop A k e)
 
 -- a set of one message has no other
-has-empty : (A : List Bool) (p : ℕ) → ones A ≡ 0 → has p A ≡ false
-unfolding ones has sum bit
+has-empty : (A : List Bool) (p : ℕ) → onesIn A ≡ 0 → has p A ≡ false
+unfolding onesIn has sum bit
 has-empty [] p e = refl
 has-empty (true ∷ A) p e = absurd (omega arith)
 has-empty (false ∷ A) zero e = refl
 has-empty (false ∷ A) (suc p) e = has-empty A p (omega arith)
 
-pub has-lone : (A : List Bool) (k p : ℕ) → ones A ≡ 1 → has k A ≡ true → p ≢ k → has p A ≡ false
+pub has-lone : (A : List Bool) (k p : ℕ) → onesIn A ≡ 1 → has k A ≡ true → p ≢ k → has p A ≡ false
 unfolding has
 has-lone A k p many e d = sym (getD-set-other A k p false false d) ∙ has-empty (set A k false) p (omega (arith, ones-drop A k e))
 
@@ -126,13 +127,14 @@ setOf-has (y ∷ r) zero = refl
 setOf-has (y ∷ r) (suc k) = setOf-has r k
 
 -- a row has a cell for each message of its set
-pub cells-length : (q : ℕ) (r : Row) → length (cells q r) ≡ ones (setOf r)
-unfolding cells setOf isSome ones sum bit
+pub cells-length : (q : ℕ) (r : Row) → length (cells q r) ≡ onesIn (setOf r)
+unfolding cells setOf isSome onesIn sum bit
 cells-length q [] = refl
 cells-length q (none ∷ r) = omega (arith, cells-length (suc q) r)
 cells-length q (some x ∷ r) = omega (arith, cells-length (suc q) r)
 
-pub number-sets : (f : List Bool → ℕ) (K : ℕ) (c : List ℕ) {L : List (List Bool)} → length c ≡ K → All (λ A. length A ≡ K) L → sum (λ r. f (setOf r)) (number c L) ≡ sum f L
+pub number-sets : (f : List Bool → ℕ) (K : ℕ) (c : List ℕ) {L : List (List Bool)} → length c ≡ K → All (λ A. length A ≡ K) L
+    → sum (λ r. f (setOf r)) (number c L) ≡ sum f L
 unfolding number sum
 number-sets f K c e allNil = refl
 number-sets f K c e (allCons {x = A} {xs = L} h a) =
@@ -172,7 +174,8 @@ same-join (false ∷ A) (y ∷ r) zero x e l h = absurd (false≢true e)
 same-join (a ∷ A) (y ∷ r) (suc k) x e l h = ap (λ t. Bool·beq a (isSome y) && t) (same-join A r k x e l (omega arith))
 
 -- the joined rows of a set, without k again, are the rows of the set without k
-pub join-keep : (A : List Bool) (K k b x : ℕ) {rs : List Row} → has k A ≡ true → k < K → All (Lacks K k b) rs → map (λ r. set r k none) (ofSet A (join k x rs)) ≡ ofSet (set A k false) rs
+pub join-keep : (A : List Bool) (K k b x : ℕ) {rs : List Row} → has k A ≡ true → k < K → All (Lacks K k b) rs
+    → map (λ r. set r k none) (ofSet A (join k x rs)) ≡ ofSet (set A k false) rs
 unfolding ofSet keep keepIf join
 join-keep A K k b x e h allNil = refl
 join-keep A K k b x e h (allCons {x = r} {xs = rs} l a) =
@@ -202,7 +205,8 @@ has-drop (a ∷ A) (suc k) = has-drop A k
 pub join-append : (k x : ℕ) (R S : List Row) → join k x (R ++ S) ≡ join k x R ++ join k (x + length R) S
 unfolding join
 join-append k x [] S = ap (λ s. join k s S) (sym (add-zero x))
-join-append k x (r ∷ R) S = ap (λ l. set r k (some x) ∷ l) (join-append k (suc x) R S ∙ ap (λ s. join k (suc x) R ++ join k s S) (suc-add x (length R) ∙ sym (add-suc x (length R))))
+join-append k x (r ∷ R) S =
+    ap (λ l. set r k (some x) ∷ l) (join-append k (suc x) R S ∙ ap (λ s. join k (suc x) R ++ join k s S) (suc-add x (length R) ∙ sym (add-suc x (length R))))
 
 pub join-length : (k x : ℕ) (R : List Row) → length (join k x R) ≡ length R
 unfolding join
@@ -216,7 +220,8 @@ module _ (K k b : ℕ) (known : k < K) where
   join-at x zero (allCons {x = r} l a) h = getD-set-same r k (some x) none (omega (arith, l .long)) ∙ ap some (sym (add-zero x))
   join-at x (suc i) (allCons l a) h = join-at (suc x) i a (omega arith) ∙ ap some (omega arith)
 
-  pub join-same : (A : List Bool) (t : Bool) (x : ℕ) {R : List Row} → has k A ≡ true → All (Lacks K k b) R → All (λ r. same (set A k false) r ≡ t) R → All (λ r. same A r ≡ t) (join k x R)
+  pub join-same : (A : List Bool) (t : Bool) (x : ℕ) {R : List Row} → has k A ≡ true → All (Lacks K k b) R → All (λ r. same (set A k false) r ≡ t) R
+      → All (λ r. same A r ≡ t) (join k x R)
   unfolding join
   join-same A t x e allNil c = allNil
   join-same A t x e (allCons {x = r} l a) (allCons d c) = allCons (same-join A r k x e (l .lack) (omega (arith, l .long)) ∙ d) (join-same A t (suc x) e a c)

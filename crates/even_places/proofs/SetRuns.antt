@@ -1,4 +1,5 @@
--- Rows that go by set, q B of them for each set B in turn: row i of set A is row `firstRow A + i` of all.
+-- Rows that go by set, q B of them for each set B in turn: row i of set A is row `firstRow A + i` of all (`numbered`). For any list of
+-- sets that has A.
 use Prim.Native.Nat.{ℕ, zero, suc, _+_, _<_}
 use native.Mathlib.Nat.{zero-add, not-suc-le-zero}
 use native.Mathlib.Omega.{arith}
@@ -9,8 +10,7 @@ use lib.ListN.{length, getD, replicate, length-append, List·getD-append}
 use lib.Seq.{getD-append-add}
 use Rattle.lists.specs.Any.{Any, anyHere, anyLater}
 use Rattle.lists.specs.Sums.{All, allCons}
-use Rattle.even_places.specs.Sets.{alike}
-use Rattle.even_places.specs.Rule.{firstRow}
+use Rattle.even_places.specs.Rule.{alike, firstRow}
 use Rattle.even_places.proofs.SetLaws.{alike-eq, alike-self}
 
 pub first-here : (A B : List Bool) (n : ℕ) (L : List (List Bool)) → 0 < n → alike A B ≡ true → firstRow A (replicate n B ++ L) ≡ 0

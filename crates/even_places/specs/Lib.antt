@@ -1,3 +1,3 @@
-pub mod Sets
 pub mod Rule
-pub mod Process
+pub mod Counting
+pub mod Sets

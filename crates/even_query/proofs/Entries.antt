@@ -1,4 +1,5 @@
--- The key's entries one by one, and that they are the query: the message at each position and its place.
+-- The key's entries one by one (`entries-more`): for the message at each position and its place, the number that the key has there;
+-- all of them are a list as long as the query (`entries-length`).
 use Prim.Native.Nat.{ℕ, suc, _+_, _*_, _≤_, _<_}
 use native.Mathlib.Numerals.{add-one}
 use native.Mathlib.Omega.{arith}

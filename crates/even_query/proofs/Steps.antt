@@ -1,4 +1,5 @@
--- What the steps of a query rest on: a place read off the tables, a row's origin by its set's byte, and one row or set more.
+-- What the steps of a query rest on: a place read off the tables (`place-read`), a row's origin by its set's byte (`origin-byte`), and
+-- one row or set more.
 use Prim.Native.Nat.{ℕ, suc, _+_, _-_, _*_, _/_, _%_, _^_, _≤_, _<_}
 use native.Mathlib.Nat.{one-mul, mul-le-mul, one-le-pow, pow-succ', div-lt-iff-lt-mul}
 use native.Mathlib.Omega.{arith}
@@ -14,7 +15,7 @@ use Rattle.lists.specs.Sums.{bit}
 use Rattle.lists.proofs.Bits.{bit-test}
 use Rattle.lists.proofs.Both.{both-true}
 use Rattle.lists.proofs.Mapped.{mapped-length, mapped-at}
-use Rattle.even_places.specs.Sets.{has, ones}
+use Rattle.even_places.specs.Rule.{has, onesIn}
 use Rattle.even_places.proofs.Bytes.{byte-has}
 use Rattle.even_places.proofs.AllSets.{ones-most}
 use Rattle.even_layout.specs.Layout.{setIn}
@@ -22,7 +23,7 @@ use Rattle.even_ranks.specs.Counts.{Stands, takers, taken, takenTable}
 use Rattle.even_ranks.specs.Walk.{placeIn, plain, joined, isJoined, originOf}
 use Rattle.even_layout.proofs.Firsts.{setIn-length}
 use Rattle.even_ranks.proofs.Steps.{stands-count}
-use Rattle.even_query.specs.Query.{Tables, Within}
+use Rattle.even_query.specs.Query.{Tables, OriginWithin}
 
 table-at : (N k b p : ℕ) (totals : List ℕ) → b < 8 → p < 8 → getD (takenTable N k totals) (b * 8 + p) 0 ≡ taken N k totals b p
 unfolding takenTable
@@ -69,7 +70,11 @@ rows-before N m i wide many h =
     let next : m - 1 ≡ suc (m - 2) = omega arith in
     let times : (N - 1) ^ (m - 1) ≡ (N - 1) * (N - 1) ^ (m - 2) = ap (λ (j : ℕ). (N - 1) ^ j) next ∙ pow-succ' (N - 1) (m - 2) in
     let some = one-le-pow (m - 2) (N - 1) (omega arith) in
-    record { some = some; most = omega (arith, times, factor-small (N - 1) ((N - 1) ^ (m - 2)) (omega arith)); other = div-lt-iff-lt-mul some .1 (omega (arith, times)) }
+    record {
+      some = some;
+      most = omega (arith, times, factor-small (N - 1) ((N - 1) ^ (m - 2)) (omega arith));
+      other = div-lt-iff-lt-mul some .1 (omega (arith, times));
+    }
 
 -- ---- Origins by a set's byte
 
@@ -86,20 +91,27 @@ module _ (K k byte : ℕ) (stands : Stands K byte) where
       (stands-count K byte stands)
 
   pub origin-byte : (N server i : ℕ)
-      → cond (eqb (byte / 2 ^ k % 2) 1 && ltb 1 (count byte)) (joined N server (count byte) i) (plain N server (count byte) i) ≡ originOf N k server (setIn K byte) i
+      → cond (eqb (byte / 2 ^ k % 2) 1 && ltb 1 (count byte)) (joined N server (count byte) i) (plain N server (count byte) i)
+      ≡ originOf N k server (setIn K byte) i
   unfolding originOf
   origin-byte N server i = rw (joined-byte, stands-count K byte stands)
 
-  pub origin-within : (N server i : ℕ) → 2 ≤ N → K ≤ 8 → Within (originOf N k server (setIn K byte) i)
+  pub origin-within : (N server i : ℕ) → 2 ≤ N → K ≤ 8 → OriginWithin (originOf N k server (setIn K byte) i)
   unfolding originOf plain joined
   origin-within N server i wide few = go (isJoined k (setIn K byte))
     where
       A : List Bool
       A = setIn K byte
 
-      most : ones A ≤ 8
+      most : onesIn A ≤ 8
       most = omega (arith, ones-most A, setIn-length K byte)
 
-      go : (t : Bool) → Within (cond t (joined N server (ones A) i) (plain N server (ones A) i))
-      go true = record { block-low = omega (arith, most, stands .some); source-low = omega (arith, most); some = one-le-pow (ones A - 2) (N - 1) (omega arith) }
-      go false = record { block-low = omega (arith, most, stands .some); source-low = omega (arith, most, stands .some); some = one-le-pow (ones A - 1) (N - 1) (omega arith) }
+      go : (t : Bool) → OriginWithin (cond t (joined N server (onesIn A) i) (plain N server (onesIn A) i))
+      go true =
+          record { block-low = omega (arith, most, stands .some); source-low = omega (arith, most); some = one-le-pow (onesIn A - 2) (N - 1) (omega arith) }
+      go false =
+          record {
+            block-low = omega (arith, most, stands .some);
+            source-low = omega (arith, most, stands .some);
+            some = one-le-pow (onesIn A - 1) (N - 1) (omega arith);
+          }

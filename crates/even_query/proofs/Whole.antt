@@ -1,4 +1,5 @@
--- The whole query: the places that are written are the rule's, and the key's entries for them are the query of the scheme.
+-- The whole query: the places that are written are the rule's (`places-are`), and the key's entries for them are the query of the
+-- scheme (`entries-are`).
 use Prim.Native.Nat.{ℕ, suc, _-_, _*_, _^_, _≤_, _<_}
 use native.Mathlib.Omega.{arith}
 use mathlib.Core.Path.{_≡_, refl, sym, ap₂, _∙_}
@@ -7,8 +8,7 @@ use lib.Arith.{digits-lt}
 use lib.ListN.{length, getD, length-map, List·getD-map}
 use Rattle.lists.specs.Below.{Below}
 use Rattle.lists.proofs.Cuts.{cut-at}
-use Rattle.even_places.specs.Sets.{allSets}
-use Rattle.even_places.specs.Rule.{queryCells, positions}
+use Rattle.even_places.specs.Rule.{queryCells, allSets, positions}
 use Rattle.even_places.proofs.Flat.{inside, query-length}
 use Rattle.even_places.proofs.Positions.{same-members, positions-length}
 use Rattle.even_scheme.specs.Even.{permutation, entryAt, evenQuery}
@@ -24,13 +24,15 @@ entries-cells : (N K : ℕ) (key : List ℕ) (cells : List (ℕ × ℕ)) → ((i
 unfolding entries zipWith entryAt permutation
 entries-cells N K key [] h = refl
 entries-cells N K key (cell ∷ cells) h =
-    ap₂ (λ (x : ℕ) (l : List ℕ). x ∷ l) (sym (cut-at (cell .0 * N ^ K) (N ^ K) (cell .1) key (h 0 (omega arith)))) (entries-cells N K key cells (λ i l. h (suc i) (omega arith)))
+    ap₂ (λ (x : ℕ) (l : List ℕ). x ∷ l) (sym (cut-at (cell .0 * N ^ K) (N ^ K) (cell .1) key (h 0 (omega arith))))
+    (entries-cells N K key cells (λ i l. h (suc i) (omega arith)))
 
 module _ (N K k server : ℕ) (asks : Asks N K k server) where
   wide : 1 < N
   wide = asks .bounds .servers-low
 
-  pub places-are : (totals : List ℕ) → totals ≡ totalsOf K k → setsPlaces N k server totals noCounts (allSets K) ≡ map (λ cell. cell .1) (queryCells N K k server)
+  pub places-are : (totals : List ℕ) → totals ≡ totalsOf K k
+      → setsPlaces N k server totals noCounts (allSets K) ≡ map (λ cell. cell .1) (queryCells N K k server)
   unfolding walked
   places-are totals e = rw e (walked-is N K k server wide (asks .message) (asks .bounds .messages-high) (asks .server-low))
 
@@ -61,9 +63,11 @@ module _ (N K k server : ℕ) (asks : Asks N K k server) where
         let cells = queryCells N K k server in
         let at : i < length cells = omega (arith, length-map cells (λ cell. cell .1)) in
         let in-bounds = inside N K k wide (asks .message) server i (asks .server-low) at in
-        rw (messages-are, List·getD-map (λ cell. cell .0) cells i (0, 0), List·getD-map (λ cell. cell .1) cells i (0, 0), e) (digits-lt (in-bounds .0) (in-bounds .1));
+        rw (messages-are, List·getD-map (λ cell. cell .0) cells i (0, 0), List·getD-map (λ cell. cell .1) cells i (0, 0), e)
+        (digits-lt (in-bounds .0) (in-bounds .1));
   }
 
   pub entries-are : (key : List ℕ) → entries (N ^ K) key (positions N K) (map (λ cell. cell .1) (queryCells N K k server)) ≡ evenQuery N K k server key
   unfolding evenQuery
-  entries-are key = rw messages-are (entries-cells N K key (queryCells N K k server) (λ i h. inside N K k wide (asks .message) server i (asks .server-low) h .1))
+  entries-are key =
+      rw messages-are (entries-cells N K key (queryCells N K k server) (λ i h. inside N K k wide (asks .message) server i (asks .server-low) h .1))

@@ -1,15 +1,16 @@
--- What the steps of an even query ask for and write (document 01, 'Even code'): N servers, K messages, wanted message k.
+-- What the steps of an even query ask for and write (document 01, 'Even code'): N servers, K messages, wanted message k. Which places
+-- they write is told in even_ranks/specs/Walk.antt.
 use mathlib.Core.Path.{_≡_}
 use mathlib.Core.List.{List, zipWith}
 use Prim.Native.Nat.{ℕ, _+_, _-_, _*_, _≤_, _<_}
 use lib.ListN.{length, getD}
-use Rattle.even_layout.specs.Layout.{Bounds}
+use Rattle.even_layout.specs.Layout.{LayoutBounds}
 use Rattle.even_ranks.specs.Counts.{takenTable}
 use Rattle.even_ranks.specs.declared.Origin.{Origin}
 
 -- a query for a message that is there, to a server that is there
 pub record Asks (N K k server : ℕ) : Type 0 where
-  pub bounds : Bounds N K
+  pub bounds : LayoutBounds N K
   pub servers-high : N ≤ 16
   pub message : k < K
   pub server-low : server < N
@@ -20,7 +21,7 @@ pub record Tables (N k : ℕ) (totals taken : List ℕ) : Type 0 where
   pub filled : taken ≡ takenTable N k totals
 
 -- an origin whose blocks the tables have
-pub record Within (o : Origin) : Type 0 where
+pub record OriginWithin (o : Origin) : Type 0 where
   pub block-low : o .block < 8
   pub source-low : o .source < 8
   pub some : 1 ≤ o .rows

@@ -1,4 +1,5 @@
-// A server's query of the even code (source 003, section IV-B): its places, row by row in one pass over the sets, and the key's entries for them.
+// A server's query of the even code (source 003, section IV-B): its places, row by row in one pass over the sets, and the key's entries
+// for them.
 use even_ranks::Origin;
 
 mod origins;
@@ -10,13 +11,12 @@ ghost use lib.ListN.{length};
 ghost use Rattle.lists.specs.Below.{Below};
 ghost use Rattle.lists.specs.Padded.{padded};
 ghost use Rattle.lists.specs.Parts.{put};
-ghost use Rattle.even_places.specs.Sets.{byteOf, members, allSets};
-ghost use Rattle.even_places.specs.Rule.{queryCells};
+ghost use Rattle.even_places.specs.Rule.{byteOf, members, queryCells, allSets};
 ghost use Rattle.even_scheme.specs.Even.{evenQuery};
 ghost use Rattle.even_layout.specs.Layout.{setIn};
 ghost use Rattle.even_ranks.specs.Counts.{Stands, noCounts};
 ghost use Rattle.even_ranks.specs.Walk.{placeIn, placeOf, setPlaces, setsPlaces};
-ghost use Rattle.even_query.specs.Query.{Asks, Tables, Within, Keyed, entries};
+ghost use Rattle.even_query.specs.Query.{Asks, Tables, OriginWithin, Keyed, entries};
 
 // The place of message p in a row of one block, by whose turn it is, its set's rank and its number in the set.
 fn place_in(
@@ -31,7 +31,8 @@ fn place_in(
     rank: usize,
     number: usize,
 ) -> usize
-    requires { ⌜ Tables n wanted (now totals) (now taken) × (block < 8) × (p < 8) × (1 ≤ rows) × (placeIn n wanted (now totals) block p rows turn rank number < 256) ⌝ }
+    requires { ⌜ Tables n wanted (now totals) (now taken) × (block < 8) × (p < 8) × (1 ≤ rows)
+        × (placeIn n wanted (now totals) block p rows turn rank number < 256) ⌝ }
     ensures { λ r. ⌜ r ≡ placeIn n wanted (now (totals .entry)) block p rows turn rank number ⌝ }
 {
     n * taken[block * 8 + p]
@@ -49,7 +50,8 @@ fn place(
     o: Origin,
     p: usize,
 ) -> usize
-    requires { ⌜ Tables n wanted (now totals) (now taken) × Within o × (p < 8) × (p < length (now ranks)) × (placeOf n wanted (now totals) (now ranks) o p < 256) ⌝ }
+    requires { ⌜ Tables n wanted (now totals) (now taken) × OriginWithin o × (p < 8) × (p < length (now ranks))
+        × (placeOf n wanted (now totals) (now ranks) o p < 256) ⌝ }
     ensures { λ r. ⌜ r ≡ placeOf n wanted (now (totals .entry)) (now (ranks .entry)) o p ⌝ }
 {
     if p == wanted {
@@ -93,8 +95,11 @@ fn write_row(
     out: &mut [u8],
     at: usize,
 ) -> usize
-    requires { ⌜ Tables n wanted (now totals) (now taken) × Within o × (k ≤ 8) × (length (now ranks) ≡ k) × Below 256 (map (placeOf n wanted (now totals) (now ranks) o) (members 0 (setIn k set))) × (at + length (members 0 (setIn k set)) ≤ length (now out)) ⌝ }
-    ensures { λ r. ⌜ (r ≡ at + length (members 0 (setIn k set))) × (now (out .exit) ≡ put at (map (placeOf n wanted (now (totals .entry)) (now (ranks .entry)) o) (members 0 (setIn k set))) (now (out .entry))) ⌝ }
+    requires { ⌜ Tables n wanted (now totals) (now taken) × OriginWithin o × (k ≤ 8) × (length (now ranks) ≡ k)
+        × Below 256 (map (placeOf n wanted (now totals) (now ranks) o) (members 0 (setIn k set)))
+        × (at + length (members 0 (setIn k set)) ≤ length (now out)) ⌝ }
+    ensures { λ r. ⌜ (r ≡ at + length (members 0 (setIn k set)))
+        × (now (out .exit) ≡ put at (map (placeOf n wanted (now (totals .entry)) (now (ranks .entry)) o) (members 0 (setIn k set))) (now (out .entry))) ⌝ }
 {
     let mut rest = set;
     let mut end = at;
@@ -123,8 +128,11 @@ fn write_set(
     out: &mut [u8],
     at: usize,
 ) -> usize
-    requires { ⌜ Asks n k wanted server × Tables n wanted (now totals) (now taken) × Stands k set × (length (now ranks) ≡ k) × Below 256 (setPlaces n wanted server (now totals) (now ranks) (setIn k set)) × (at + length (setPlaces n wanted server (now totals) (now ranks) (setIn k set)) ≤ length (now out)) ⌝ }
-    ensures { λ r. ⌜ (r ≡ at + length (setPlaces n wanted server (now (totals .entry)) (now (ranks .entry)) (setIn k set))) × (now (out .exit) ≡ put at (setPlaces n wanted server (now (totals .entry)) (now (ranks .entry)) (setIn k set)) (now (out .entry))) ⌝ }
+    requires { ⌜ Asks n k wanted server × Tables n wanted (now totals) (now taken) × Stands k set × (length (now ranks) ≡ k)
+        × Below 256 (setPlaces n wanted server (now totals) (now ranks) (setIn k set))
+        × (at + length (setPlaces n wanted server (now totals) (now ranks) (setIn k set)) ≤ length (now out)) ⌝ }
+    ensures { λ r. ⌜ (r ≡ at + length (setPlaces n wanted server (now (totals .entry)) (now (ranks .entry)) (setIn k set)))
+        × (now (out .exit) ≡ put at (setPlaces n wanted server (now (totals .entry)) (now (ranks .entry)) (setIn k set)) (now (out .entry))) ⌝ }
 {
     let ones = u8::count_ones(set) as usize;
     let joins = origins::is_joined(wanted, set);
@@ -150,7 +158,9 @@ fn write_sets(
     sets: &[u8],
     out: &mut [u8],
 )
-    requires { ⌜ Asks n k wanted server × Tables n wanted (now totals) (now taken) × (now sets ≡ map byteOf (allSets k)) × Below 256 (setsPlaces n wanted server (now totals) noCounts (allSets k)) × (length (setsPlaces n wanted server (now totals) noCounts (allSets k)) ≤ length (now out)) ⌝ }
+    requires { ⌜ Asks n k wanted server × Tables n wanted (now totals) (now taken) × (now sets ≡ map byteOf (allSets k))
+        × Below 256 (setsPlaces n wanted server (now totals) noCounts (allSets k))
+        × (length (setsPlaces n wanted server (now totals) noCounts (allSets k)) ≤ length (now out)) ⌝ }
     ensures { λ _. ⌜ now (out .exit) ≡ put 0 (setsPlaces n wanted server (now (totals .entry)) noCounts (allSets k)) (now (out .entry)) ⌝ }
 {
     let mut counts = [0usize; 128];

@@ -11,8 +11,8 @@ use borrow.Author.Tests.{eq-eqb, ne-eqb}
 use Rattle.lists.specs.Ranges.{range}
 use Rattle.lists.specs.Sums.{keep, sum}
 use Rattle.lists.proofs.Sums.{sum-range}
-use Rattle.even_places.specs.Sets.{with, allSets}
-use Rattle.even_places.specs.Rule.{used, sideSets, joins}
+use Rattle.even_places.specs.Rule.{sideSets, allSets}
+use Rattle.even_places.specs.Counting.{with, used, joins}
 use Rattle.even_places.proofs.AllSets.{all-sets}
 use Rattle.even_ranks.specs.Counts.{counter, noCounts, countedAll, totalsOf, takers, taken}
 use Rattle.even_ranks.specs.Walk.{placeIn}
@@ -75,10 +75,18 @@ module _ (N K k : ℕ) (wide : 1 < N) (wanted : k < K) (few : K ≤ 8) where
       one = takers-wanted 0 (omega arith) ∙ wanted-one
 
   pub place-wanted : (b n j rank r : ℕ) → suc b < K
-      → placeIn N k (totalsOf K k) (suc b) k ((N - 1) ^ b) (n * (N - 1) + j) rank r ≡ used N (joins N K k) (suc b) n + j * length (sideSets N K k b) + (N - 1) ^ b * rank + r
+      → placeIn N k (totalsOf K k) (suc b) k ((N - 1) ^ b) (n * (N - 1) + j) rank r
+      ≡ used N (joins N K k) (suc b) n + j * length (sideSets N K k b) + (N - 1) ^ b * rank + r
   unfolding placeIn used joins
   place-wanted b n j rank r h =
-      omega (arith, ap (λ s. N * s) (taken-wanted (suc b) h), ap (λ s. n * ((N - 1) * s)) size, ap (λ s. j * s) size, mul-add q ((n * (N - 1) + j) * T) rank, spread)
+      omega (
+        arith,
+        ap (λ s. N * s) (taken-wanted (suc b) h),
+        ap (λ s. n * ((N - 1) * s)) size,
+        ap (λ s. j * s) size,
+        mul-add q ((n * (N - 1) + j) * T) rank,
+        spread,
+      )
     where
       q : ℕ
       q = (N - 1) ^ b

@@ -1,4 +1,5 @@
--- The counters before a set are its ranks, and the counters of all sets the numbers of places, in the closed forms of the rule.
+-- The counters before a set are its ranks (`rank-side`, `rank-wanted`), and the counters of all sets the numbers of places
+-- (`side-total`, `wanted-total`), in the closed forms of the rule.
 use Prim.Native.Nat.{ℕ, zero, suc, _-_, _*_, _^_, _≤_, _<_}
 use native.Mathlib.Nat.{mul-assoc, pow-zero, pow-succ'}
 use native.Mathlib.Omega.{arith}
@@ -15,11 +16,11 @@ use Rattle.lists.proofs.Sums.{sum-append, sum-map, sum-ext, sum-all, sum-one, s
 use Rattle.lists.proofs.Each.{All-imp, All-keep, All-every}
 use Rattle.lists.proofs.Keep.{keep-and, keep-append}
 use Rattle.lists.proofs.Mapped.{map-append}
-use Rattle.even_places.specs.Sets.{has, ones, with, sets, allSets, alike}
-use Rattle.even_places.specs.Rule.{sideSets, joins}
+use Rattle.even_places.specs.Rule.{has, onesIn, sets, sideSets, allSets, alike}
+use Rattle.even_places.specs.Counting.{with, joins}
 use Rattle.even_places.proofs.SetLaws.{alike-one, ones-drop}
-use Rattle.even_places.proofs.Counts.{sets-zero, has-none, sideSets-sum}
-use Rattle.even_places.proofs.Closed.{before}
+use Rattle.even_places.proofs.BlockRows.{sets-zero, has-none, sideSets-sum}
+use Rattle.even_places.proofs.RepeatedSets.{before}
 use Rattle.even_places.proofs.Ranked.{taken-out, of-block, before-seam}
 use Rattle.even_ranks.proofs.Counters.{ofKind}
 
@@ -39,7 +40,7 @@ module _ (K k : ℕ) (wanted : k < K) where
   of-kind : (t : Bool) (b : ℕ) → b < K → keep (ofKind k t b) (allSets K) ≡ keep (λ A. Bool·beq t (has k A)) (sets K (suc b))
   unfolding ofKind
   of-kind t b h =
-      keep-and (λ A. Bool·beq t (has k A)) (λ A. eqb (suc b) (ones A)) (allSets K) ∙ ap (keep (λ A. Bool·beq t (has k A))) (of-block K b h)
+      keep-and (λ A. Bool·beq t (has k A)) (λ A. eqb (suc b) (onesIn A)) (allSets K) ∙ ap (keep (λ A. Bool·beq t (has k A))) (of-block K b h)
 
   -- the sets of block b without k, and with it
   without : (b : ℕ) → b < K → keep (ofKind k false b) (allSets K) ≡ keep (λ A. not (has k A)) (sets K (suc b))
@@ -56,7 +57,8 @@ module _ (K k : ℕ) (wanted : k < K) where
   pub with-wanted : (b : ℕ) (D : List (List Bool)) → with k (keep (ofKind k true b) D) ≡ length (keep (ofKind k true b) D)
   unfolding with ofKind bit
   with-wanted b D =
-      sum-all (λ A. bit (has k A)) (λ A. 1) (All-imp (λ A h. ap bit (first (has k A) (eqb (suc b) (ones A)) (h .1))) (All-keep (ofKind k true b) (All-every {P = λ A. Unit} (λ A. tt) D)))
+      sum-all (λ A. bit (has k A)) (λ A. 1)
+      (All-imp (λ A h. ap bit (first (has k A) (eqb (suc b) (onesIn A)) (h .1))) (All-keep (ofKind k true b) (All-every {P = λ A. Unit} (λ A. tt) D)))
       ∙ sum-one (keep (ofKind k true b) D)
     where
       first : (t u : Bool) → Bool·beq true t && u ≡ true → t ≡ true
@@ -75,7 +77,7 @@ module _ (K k : ℕ) (wanted : k < K) where
       ap length (sym (reduced b h)) ∙ length-map (keep (ofKind k true b) (allSets K)) (λ A. set A k false) ∙ sym (with-wanted b (allSets K))
 
   -- A stands among all sets, after those of D
-  module _ (D L : List (List Bool)) (A : List Bool) (split : D ++ A ∷ L ≡ allSets K) (b : ℕ) (low : b < K) (long : length A ≡ K) (many : ones A ≡ suc b) where
+  module _ (D L : List (List Bool)) (A : List Bool) (split : D ++ A ∷ L ≡ allSets K) (b : ℕ) (low : b < K) (long : length A ≡ K) (many : onesIn A ≡ suc b) where
     parted : (t : Bool) → has k A ≡ t → keep (ofKind k t b) (allSets K) ≡ keep (ofKind k t b) D ++ A ∷ keep (ofKind k t b) L
     unfolding keep keepIf ofKind
     parted t e =
@@ -84,7 +86,7 @@ module _ (K k : ℕ) (wanted : k < K) where
         ∙ ap (λ u. keep (ofKind k t b) D ++ keepIf u A (keep (ofKind k t b) L)) is-kind
       where
         is-kind : ofKind k t b A ≡ true
-        is-kind = rw (e, beq-self t) (eq-eqb (suc b) (ones A) (sym many))
+        is-kind = rw (e, beq-self t) (eq-eqb (suc b) (onesIn A) (sym many))
 
     pub rank-side : has k A ≡ false → before A (keep (λ B. not (has k B)) (sets K (suc b))) ≡ keep (ofKind k false b) D
     rank-side e = ap (before A) here ∙ before-seam A (keep (ofKind k false b) D) (keep (ofKind k false b) L) once
@@ -110,7 +112,11 @@ module _ (K k : ℕ) (wanted : k < K) where
         once : sum (λ B. bit (alike A′ B)) (map out (keep (ofKind k true b) D) ++ A′ ∷ map out (keep (ofKind k true b) L)) ≤ 1
         once =
             rw (← here)
-            (omega (arith, alike-one A′ K b (length-set A k false ∙ long) (omega (arith, ones-drop A k e, many)), sum-keep-most (λ B. bit (alike A′ B)) (λ B. not (has k B)) (sets K b)))
+            (omega (
+              arith,
+              alike-one A′ K b (length-set A k false ∙ long) (omega (arith, ones-drop A k e, many)),
+              sum-keep-most (λ B. bit (alike A′ B)) (λ B. not (has k B)) (sets K b),
+            ))
 
     -- A itself is not before A
     pub rank-below : has k A ≡ true → with k (keep (ofKind k true b) D) < with k (keep (ofKind k true b) (allSets K))
@@ -124,7 +130,8 @@ module _ (K k : ℕ) (wanted : k < K) where
     unfolding with
     side-total p b h =
         sideSets-sum N K k wide wanted (λ A. bit (has p A)) b
-        ∙ ap (λ s. (N - 1) ^ b * s) (sym (sum-keep (λ A. bit (has p A)) (λ A. not (has k A)) (sets K (suc b))) ∙ ap (sum (λ A. bit (has p A))) (sym (without b h)))
+        ∙ ap (λ s. (N - 1) ^ b * s)
+        (sym (sum-keep (λ A. bit (has p A)) (λ A. not (has k A)) (sets K (suc b))) ∙ ap (sum (λ A. bit (has p A))) (sym (without b h)))
 
     pub sources-total : (b : ℕ) → suc b < K → length (sideSets N K k b) ≡ (N - 1) ^ b * with k (keep (ofKind k true (suc b)) (allSets K))
     sources-total b h =

@@ -1,6 +1,8 @@
--- One turn more of each loop: of counting a set's messages, and of adding up what was taken; and bounds on both.
+-- One turn more of each loop: of counting a set's messages (`counts-more`, `counted-more`), and of adding up what was taken
+-- (`taken-more`, `table-more`); and bounds on both (`taken-small`).
 use Prim.Native.Nat.{ℕ, zero, suc, _+_, _-_, _*_, _/_, _%_, _^_, _≤_, _<_}
-use native.Mathlib.Nat.{add-zero, add-suc, suc-add, add-sub-cancel-left, sub-self, sub-zero, add-comm, not-suc-le-zero, mul-le-mul, pow-le-pow-left, pow-le-pow-right, mod-lt}
+use native.Mathlib.Nat.{add-zero, add-suc, suc-add, add-sub-cancel-left, sub-self, sub-zero, add-comm}
+use native.Mathlib.Nat.{not-suc-le-zero, mul-le-mul, pow-le-pow-left, pow-le-pow-right, mod-lt}
 use native.Mathlib.Numerals.{add-one}
 use native.Mathlib.Omega.{arith}
 use mathlib.Core.Path.{_≡_, refl, sym, ap, _∙_}
@@ -18,8 +20,7 @@ use Rattle.lists.proofs.Cuts.{cut-length}
 use Rattle.lists.proofs.Puts.{put-part, write-more}
 use Rattle.lists.proofs.Sums.{sum-next}
 use Rattle.lists.proofs.Bits.{bit-of, bit-test}
-use Rattle.even_places.specs.Sets.{has, ones, byteOf, allSets}
-use Rattle.even_places.specs.Rule.{after}
+use Rattle.even_places.specs.Rule.{has, byteOf, onesIn, after, allSets}
 use Rattle.even_places.proofs.Rows.{after-length}
 use Rattle.even_places.proofs.Bytes.{byte-has, byte-ones}
 use Rattle.even_places.proofs.AllSets.{IsSet, all-sets}
@@ -28,7 +29,7 @@ use Rattle.even_layout.proofs.Blocks.{all-length, subsets-few}
 use Rattle.even_layout.proofs.Tables.{byte-at}
 use Rattle.even_layout.proofs.Firsts.{setIn-length}
 use Rattle.even_ranks.proofs.Counters.{room, countedAll-length}
-use Rattle.even_ranks.specs.Counts.{counter, noCounts, Stands, countersOf, counted, countedAll, totalsOf, takers, taken, takenTable}
+use Rattle.even_ranks.specs.Counts.{counter, noCounts, Stands, countersOf, setCounted, countedAll, totalsOf, takers, taken, takenTable}
 
 -- the counters from p on are still to be counted, by what is left of the set's byte
 unfoldable pub countsFrom : ℕ → ℕ → ℕ → List ℕ → List ℕ
@@ -41,7 +42,15 @@ counts-more k p rest counts h e =
     let left : k - p ≡ suc (k - (p + 1)) = omega arith in
     let inside : p < length counts = omega arith in
     let next = getD counts p 0 + rest % 2 in
-    rw (left, drop-cons counts p 0 inside, bit-of (rest % 2) (mod-lt rest (omega arith)), add-comm (rest % 2) (getD counts p 0), write-more p next counts _ inside, add-one p, drop-set-lt (suc p) counts p next (omega arith))
+    rw (
+      left,
+      drop-cons counts p 0 inside,
+      bit-of (rest % 2) (mod-lt rest (omega arith)),
+      add-comm (rest % 2) (getD counts p 0),
+      write-more p next counts _ inside,
+      add-one p,
+      drop-set-lt (suc p) counts p next (omega arith),
+    )
 
 pub counts-done : (k rest : ℕ) (counts : List ℕ) → length counts ≡ k → countsFrom k k rest counts ≡ counts
 unfolding countsFrom after setIn
@@ -56,11 +65,13 @@ after-below : (c : ℕ) (A : List Bool) (counts : List ℕ) → Below c counts �
 unfolding after bit
 after-below c [] counts b = λ i h. absurd (not-suc-le-zero h)
 after-below c (a ∷ A) [] b = λ i h. absurd (not-suc-le-zero h)
-after-below c (true ∷ A) (x ∷ counts) b = below-cons (suc c) (1 + x) (after A counts) (omega (arith, b 0 (omega arith))) (after-below c A counts (λ i h. b (suc i) (omega arith)))
-after-below c (false ∷ A) (x ∷ counts) b = below-cons (suc c) (0 + x) (after A counts) (omega (arith, b 0 (omega arith))) (after-below c A counts (λ i h. b (suc i) (omega arith)))
+after-below c (true ∷ A) (x ∷ counts) b =
+    below-cons (suc c) (1 + x) (after A counts) (omega (arith, b 0 (omega arith))) (after-below c A counts (λ i h. b (suc i) (omega arith)))
+after-below c (false ∷ A) (x ∷ counts) b =
+    below-cons (suc c) (0 + x) (after A counts) (omega (arith, b 0 (omega arith))) (after-below c A counts (λ i h. b (suc i) (omega arith)))
 
-pub counted-below : (c k : ℕ) (A : List Bool) (counts : List ℕ) → Below c counts → Below (suc c) (counted k A counts)
-unfolding counted
+pub counted-below : (c k : ℕ) (A : List Bool) (counts : List ℕ) → Below c counts → Below (suc c) (setCounted k A counts)
+unfolding setCounted
 counted-below c k A counts b =
     let at = countersOf k A in
     let made = after A (take (length A) (drop at counts)) in
@@ -91,7 +102,11 @@ module _ (N k : ℕ) (totals : List ℕ) where
 
     pub rows-small : (b : ℕ) → b ≤ 8 → (N - 1) ^ b ≤ 4294967296
     rows-small b h =
-        omega (arith, (let w : (N - 1) ^ b ≤ 16 ^ b = pow-le-pow-left (omega arith) b in w), (let w : 16 ^ b ≤ 16 ^ 8 = pow-le-pow-right {n = 16} (omega arith) h in w))
+        omega (
+          arith,
+          (let w : (N - 1) ^ b ≤ 16 ^ b = pow-le-pow-left (omega arith) b in w),
+          (let w : 16 ^ b ≤ 16 ^ 8 = pow-le-pow-right {n = 16} (omega arith) h in w),
+        )
 
     -- each block takes at most 2^48
     pub share-small : (b : ℕ) → b < 8 → (N - 1) ^ b * takers k totals b p ≤ 281474976710656
@@ -130,9 +145,9 @@ stands-at K i sets low high e h =
 -- a set's counters by its byte
 counters-byte : (k set : ℕ) (A : List Bool) → set ≡ byteOf A → counter (eqb (set / 2 ^ k % 2) 1) (count set - 1) 0 ≡ countersOf k A
 unfolding countersOf bit
-counters-byte k set A e = rw (e, byte-has A k, byte-ones A) (ap (λ t. counter t (ones A - 1) 0) (bit-test (has k A)))
+counters-byte k set A e = rw (e, byte-has A k, byte-ones A) (ap (λ t. counter t (onesIn A - 1) 0) (bit-test (has k A)))
 
-pub stands-count : (K byte : ℕ) → Stands K byte → count byte ≡ ones (setIn K byte)
+pub stands-count : (K byte : ℕ) → Stands K byte → count byte ≡ onesIn (setIn K byte)
 stands-count K byte s = ap count (sym (s .encoded)) ∙ byte-ones (setIn K byte)
 
 pub stands-set : (K byte : ℕ) → Stands K byte → IsSet K (setIn K byte)
@@ -149,30 +164,36 @@ lent K k byte at few s e =
     let A = setIn K byte in
     let known = stands-set K byte s in
     let here : at ≡ countersOf k A = e ∙ counters-byte k byte A (sym (s .encoded)) in
-    record { set = known; begins = here; fits = omega (arith, room K k few A (replicate 128 0) known (length-replicate {A = ℕ} 128 0), length-replicate {A = ℕ} 128 0, known .long) }
+    record {
+      set = known;
+      begins = here;
+      fits = omega (arith, room K k few A (replicate 128 0) known (length-replicate {A = ℕ} 128 0), length-replicate {A = ℕ} 128 0, known .long);
+    }
 
 -- the counters given back: the part that was lent is counted
 pub counted-part : (K k byte at : ℕ) (counts : List ℕ) → length counts ≡ 128 → Lent K k byte at
-    → take at counts ++ (after (setIn K byte) (take (at + K - at) (drop at counts)) ++ drop (at + K - at) (drop at counts)) ≡ counted k (setIn K byte) counts
-unfolding counted
+    → take at counts ++ (after (setIn K byte) (take (at + K - at) (drop at counts)) ++ drop (at + K - at) (drop at counts)) ≡ setCounted k (setIn K byte) counts
+unfolding setCounted
 counted-part K k byte at counts long l =
     let A = setIn K byte in
     let part = take K (drop at counts) in
-    let made : length (after A part) ≡ K = after-length A part (l .set .long ∙ sym (cut-length at K counts (omega (arith, l .fits)))) ∙ cut-length at K counts (omega (arith, l .fits)) in
+    let made : length (after A part) ≡ K =
+    after-length A part (l .set .long ∙ sym (cut-length at K counts (omega (arith, l .fits)))) ∙ cut-length at K counts (omega (arith, l .fits)) in
     ap (λ (n : ℕ). take at counts ++ (after A (take n (drop at counts)) ++ drop (at + K - at) (drop at counts))) (add-sub-cancel-left at K)
     ∙ put-part at K (after A part) counts made
     ∙ rw (l .set .long, l .begins) refl
 
 -- one set more is counted
 pub counted-more : (k i : ℕ) (L : List (List Bool)) (counts : List ℕ) → i < length L
-    → countedAll k (drop i L) counts ≡ countedAll k (drop (i + 1) L) (counted k (getD L i []) counts)
+    → countedAll k (drop i L) counts ≡ countedAll k (drop (i + 1) L) (setCounted k (getD L i []) counts)
 unfolding countedAll
 counted-more k i L counts h = rw (add-one i, drop-cons L i [] h)
 
 countedAll-below : (c k : ℕ) (L : List (List Bool)) (counts : List ℕ) → Below c counts → Below (c + length L) (countedAll k L counts)
 unfolding countedAll
 countedAll-below c k [] counts b = rw (add-zero c) b
-countedAll-below c k (A ∷ L) counts b = rw (add-suc c (length L), ← suc-add c (length L)) (countedAll-below (suc c) k L (counted k A counts) (counted-below c k A counts b))
+countedAll-below c k (A ∷ L) counts b =
+    rw (add-suc c (length L), ← suc-add c (length L)) (countedAll-below (suc c) k L (setCounted k A counts) (counted-below c k A counts b))
 
 -- the counts of all sets: as many as there is room for, and small
 pub totals-length : (K k : ℕ) → K ≤ 8 → length (totalsOf K k) ≡ 128

@@ -1,29 +1,27 @@
--- The walk over the sets with counters writes the places of the rule: `walked-is`, for all N, K, k and servers.
+-- The walk over the sets with counters writes the places of the rule (`walked-is`), for all N, K, k and servers. Rests on the place of
+-- each cell (Cells) and on a query's rows by set (`rows-by-set` of even_places).
 use Prim.Native.Nat.{ℕ, suc, _+_, _-_, _^_, _≤_, _<_}
 use native.Mathlib.Nat.{zero-add, add-zero}
 use native.Mathlib.Omega.{arith}
 use native.Mathlib.Decide.{decLt}
-use mathlib.Core.Path.{_≡_, refl, sym, ap, ap₂, _∙_, subst, fun-ext}
+use mathlib.Core.Path.{_≡_, refl, sym, ap, ap₂, _∙_, subst}
 use mathlib.Core.List.{List, [], _∷_, _++_, map, append-assoc, flatMap}
 use mathlib.Core.Bool.{Bool, true, false, false≢true}
 use mathlib.Core.Option.{none, some}
-use lib.ListN.{length, getD, length-map, List·getD-map, List·getD-eq-default, getD-replicate}
+use lib.ListN.{length, getD, length-map, List·getD-map, List·getD-eq-default}
 use Rattle.lists.specs.Below.{Below}
 use Rattle.lists.specs.Parts.{cut}
 use Rattle.lists.specs.Ranges.{range}
-use Rattle.lists.specs.Sums.{bit, sum, All}
-use Rattle.lists.proofs.Each.{All-imp, All-back, All-head}
-use Rattle.lists.proofs.Joined.{flatMap-flatMap, map-flatMap, flatMap-all}
+use Rattle.lists.specs.Sums.{All}
+use Rattle.lists.proofs.Each.{All-back, All-head}
+use Rattle.lists.proofs.Joined.{flatMap-flatMap, map-flatMap}
 use Rattle.lists.proofs.Mapped.{map-append}
-use Rattle.even_places.specs.Sets.{has, ones, members, sets, allSets}
-use Rattle.even_places.specs.Rule.{Row, isSome, same, ofSet, bySet, block, rows, cells, queryCells}
-use Rattle.even_places.proofs.SetLaws.{setOf, keep-sets}
-use Rattle.even_places.proofs.Counts.{sets-fit}
+use Rattle.even_places.specs.Rule.{has, onesIn, members, Row, isSome, cells, queryCells, allSets}
+use Rattle.even_places.proofs.SetLaws.{setOf}
+use Rattle.even_places.proofs.RowNumbers.{setRows, rows-by-set, setRows-length, row-set}
 use Rattle.even_places.proofs.Flat.{inside}
-use Rattle.even_places.proofs.Joined.{group-size}
-use Rattle.even_places.proofs.Positions.{group-length}
 use Rattle.even_places.proofs.AllSets.{IsSet, all-sets}
-use Rattle.even_ranks.specs.Counts.{noCounts, countersOf, counted, countedAll, totalsOf}
+use Rattle.even_ranks.specs.Counts.{noCounts, countersOf, setCounted, countedAll, totalsOf}
 use Rattle.even_ranks.specs.Walk.{placeOf, originOf, rowPlaces, setPlaces, setsPlaces, walked}
 use Rattle.even_ranks.proofs.Cells.{cell-is}
 
@@ -32,7 +30,8 @@ abbrev placesIn : List Row → List ℕ
 placesIn rs = map (λ e. e .1) (flatMap (cells 0) rs)
 
 -- a row's places, where each is known
-cells-are : (f : ℕ → ℕ) (q : ℕ) (r : Row) → ((p : ℕ) → has p (setOf r) ≡ true → getD r p none ≡ some (f (q + p))) → map (λ e. e .1) (cells q r) ≡ map f (members q (setOf r))
+cells-are : (f : ℕ → ℕ) (q : ℕ) (r : Row) → ((p : ℕ) → has p (setOf r) ≡ true → getD r p none ≡ some (f (q + p)))
+    → map (λ e. e .1) (cells q r) ≡ map f (members q (setOf r))
 unfolding cells members setOf isSome has
 cells-are f q [] g = refl
 cells-are f q (none ∷ r) g = cells-are f (suc q) r (λ p h. g (suc p) h ∙ ap (λ i. some (f i)) (omega arith))
@@ -42,7 +41,8 @@ cells-are f q (some x ∷ r) g = ap₂ (λ y l. y ∷ l) here (cells-are f (suc 
     here = let e : some x ≡ some (f (q + 0)) = g 0 refl in let d : x ≡ f (q + 0) = cc in d ∙ ap f (add-zero q)
 
 -- rows one after another, by number
-rows-are : (h : ℕ → List ℕ) (a : ℕ) (rs : List Row) → ((i : ℕ) → i < length rs → map (λ e. e .1) (cells 0 (getD rs i [])) ≡ h (a + i)) → placesIn rs ≡ flatMap h (range a (length rs))
+rows-are : (h : ℕ → List ℕ) (a : ℕ) (rs : List Row) → ((i : ℕ) → i < length rs → map (λ e. e .1) (cells 0 (getD rs i [])) ≡ h (a + i))
+    → placesIn rs ≡ flatMap h (range a (length rs))
 unfolding flatMap range
 rows-are h a [] g = refl
 rows-are h a (r ∷ rs) g =
@@ -57,27 +57,24 @@ has-low A p g = go (decLt p (length A))
     go (yes h) = h
     go (no h) = absurd (false≢true (sym (List·getD-eq-default A false (omega arith)) ∙ g))
 
-countedAll-last : (k : ℕ) (D : List (List Bool)) (A : List Bool) (counts : List ℕ) → countedAll k (D ++ A ∷ []) counts ≡ counted k A (countedAll k D counts)
+countedAll-last : (k : ℕ) (D : List (List Bool)) (A : List Bool) (counts : List ℕ) → countedAll k (D ++ A ∷ []) counts ≡ setCounted k A (countedAll k D counts)
 unfolding countedAll
 countedAll-last k [] A counts = refl
-countedAll-last k (B ∷ D) A counts = countedAll-last k D A (counted k B counts)
+countedAll-last k (B ∷ D) A counts = countedAll-last k D A (setCounted k B counts)
 
 module _ (N K k n : ℕ) (wide : 1 < N) (wanted : k < K) (few : K ≤ 8) (server : n < N) where
-  -- the rows of a set
-  ofOne : List Bool → List Row
-  ofOne A = ofSet A (block N K k (ones A - 1) n)
-
-  set-is : (D L : List (List Bool)) (A : List Bool) → D ++ A ∷ L ≡ allSets K → setPlaces N k n (totalsOf K k) (cut (countersOf k A) (length A) (countedAll k D noCounts)) A ≡ placesIn (ofOne A)
-  unfolding setPlaces rowPlaces ofOne
-  set-is D L A split = sym (rows-are places 0 (ofOne A) row ∙ ap (λ s. flatMap places (range 0 s)) size)
+  set-is : (D L : List (List Bool)) (A : List Bool) → D ++ A ∷ L ≡ allSets K
+      → setPlaces N k n (totalsOf K k) (cut (countersOf k A) (length A) (countedAll k D noCounts)) A ≡ placesIn (setRows N K k n A)
+  unfolding setPlaces rowPlaces setRows
+  set-is D L A split = sym (rows-are places 0 (setRows N K k n A) row ∙ ap (λ s. flatMap places (range 0 s)) size)
     where
       b : ℕ
-      b = ones A - 1
+      b = onesIn A - 1
 
       known : IsSet K A
       known = All-head (All-back D (A ∷ L) (subst (All (IsSet K)) (sym split) (all-sets K)))
 
-      many : ones A ≡ suc b
+      many : onesIn A ≡ suc b
       many = omega (arith, known .some)
 
       ranks : List ℕ
@@ -86,23 +83,20 @@ module _ (N K k n : ℕ) (wide : 1 < N) (wanted : k < K) (few : K ≤ 8) (server
       places : ℕ → List ℕ
       places i = map (placeOf N k (totalsOf K k) ranks (originOf N k n A i)) (members 0 A)
 
-      size : length (ofOne A) ≡ (N - 1) ^ b
-      size = group-length N K k wide wanted b n A server (known .long) many
+      size : length (setRows N K k n A) ≡ (N - 1) ^ b
+      size = setRows-length N K k wide wanted n server A known
 
-      its-set : (i : ℕ) → i < length (ofOne A) → setOf (getD (ofOne A) i []) ≡ A
-      its-set i h =
-          sym (List·getD-map setOf (ofOne A) i [])
-          ∙ ap (λ l. getD l i (setOf [])) (keep-sets A (block N K k b n))
-          ∙ getD-replicate (sum (λ r. bit (same A r)) (block N K k b n)) i A (setOf []) (omega (arith, size, group-size N K k wide wanted b n A server (known .long) many))
-
-      row : (i : ℕ) → i < length (ofOne A) → map (λ e. e .1) (cells 0 (getD (ofOne A) i [])) ≡ places (0 + i)
+      row : (i : ℕ) → i < length (setRows N K k n A) → map (λ e. e .1) (cells 0 (getD (setRows N K k n A) i [])) ≡ places (0 + i)
       row i h =
-          cells-are f 0 r (λ p g. cell p (ap (has p) (sym (its-set i h)) ∙ g) ∙ ap (λ s. some (f s)) (sym (zero-add p)))
-          ∙ ap (λ B. map f (members 0 B)) (its-set i h)
+          cells-are f 0 r (λ p g. cell p (ap (has p) (sym its-set) ∙ g) ∙ ap (λ s. some (f s)) (sym (zero-add p)))
+          ∙ ap (λ B. map f (members 0 B)) its-set
           ∙ ap places (sym (zero-add i))
         where
           r : Row
-          r = getD (ofOne A) i []
+          r = getD (setRows N K k n A) i []
+
+          its-set : setOf r ≡ A
+          its-set = row-set N K k wide wanted n server A i known (omega (arith, size))
 
           f : ℕ → ℕ
           f = placeOf N k (totalsOf K k) ranks (originOf N k n A i)
@@ -110,28 +104,25 @@ module _ (N K k n : ℕ) (wide : 1 < N) (wanted : k < K) (few : K ≤ 8) (server
           cell : (p : ℕ) → has p A ≡ true → getD r p none ≡ some (f p)
           cell p g = cell-is N K k wide wanted few D L A split n server b i p many (omega (arith, size)) (omega (arith, has-low A p g, known .long)) g
 
-  walk-is : (D L : List (List Bool)) → D ++ L ≡ allSets K → setsPlaces N k n (totalsOf K k) (countedAll k D noCounts) L ≡ flatMap (λ A. placesIn (ofOne A)) L
+  walk-is : (D L : List (List Bool)) → D ++ L ≡ allSets K
+      → setsPlaces N k n (totalsOf K k) (countedAll k D noCounts) L ≡ flatMap (λ A. placesIn (setRows N K k n A)) L
   unfolding setsPlaces flatMap
   walk-is D [] split = refl
   walk-is D (A ∷ L) split =
       ap₂ (λ l m. l ++ m) (set-is D L A split)
       (ap (λ c. setsPlaces N k n (totalsOf K k) c L) (sym (countedAll-last k D A noCounts)) ∙ walk-is (D ++ A ∷ []) L (append-assoc D (A ∷ []) L ∙ split))
 
-  rows-by-set : rows N K k n ≡ flatMap ofOne (allSets K)
-  unfolding rows bySet allSets ofOne
-  rows-by-set =
-      ap (λ g. flatMap g (range 0 K))
-      (fun-ext (λ b. flatMap-all (λ A. ofSet A (block N K k b n)) ofOne (All-imp (λ A h. ap (λ j. ofSet A (block N K k j n)) (let e : b ≡ ones A - 1 = omega (arith, h .1) in e)) (sets-fit K (suc b)))))
-      ∙ sym (flatMap-flatMap ofOne (λ b. sets K (suc b)) (range 0 K))
-
   pub walked-is : walked N K k n ≡ map (λ e. e .1) (queryCells N K k n)
   unfolding walked queryCells countedAll
   walked-is =
       walk-is [] (allSets K) refl
       ∙ sym
-      (ap placesIn rows-by-set
-      ∙ ap (map (λ e. e .1)) (flatMap-flatMap (cells 0) ofOne (allSets K))
-      ∙ map-flatMap (λ e. e .1) (λ A. flatMap (cells 0) (ofOne A)) (allSets K))
+      (ap placesIn (rows-by-set N K k wide wanted n server)
+      ∙ ap (map (λ e. e .1)) (flatMap-flatMap (cells 0) (setRows N K k n) (allSets K))
+      ∙ map-flatMap (λ e. e .1) (λ A. flatMap (cells 0) (setRows N K k n A)) (allSets K))
 
   pub walked-below : Below (N ^ K) (walked N K k n)
-  walked-below = rw walked-is (λ i h. rw (List·getD-map (λ e. e .1) (queryCells N K k n) i (0, 0)) (inside N K k wide wanted n i server (omega (arith, length-map (queryCells N K k n) (λ e. e .1))) .1))
+  walked-below =
+      rw walked-is
+      (λ i h. rw (List·getD-map (λ e. e .1) (queryCells N K k n) i (0, 0))
+      (inside N K k wide wanted n i server (omega (arith, length-map (queryCells N K k n) (λ e. e .1))) .1))

@@ -10,8 +10,7 @@ use lib.ListN.{length, getD, replicate}
 use Rattle.lists.specs.Parts.{cut, put}
 use Rattle.lists.specs.Ranges.{range}
 use Rattle.lists.specs.Sums.{bit, sum}
-use Rattle.even_places.specs.Sets.{has, ones, byteOf, allSets}
-use Rattle.even_places.specs.Rule.{after}
+use Rattle.even_places.specs.Rule.{has, byteOf, onesIn, after, allSets}
 use Rattle.even_layout.specs.Layout.{setIn}
 
 -- where the counter of message p stands
@@ -24,20 +23,20 @@ noCounts = replicate 128 0
 -- a byte that stands for a set of K messages, one of them at least
 pub record Stands (K byte : ℕ) : Type 0 where
   pub encoded : byteOf (setIn K byte) ≡ byte
-  pub some : 1 ≤ ones (setIn K byte)
+  pub some : 1 ≤ onesIn (setIn K byte)
 
 module _ (k : ℕ) where
   -- where the counters of A's block and kind begin
   unfoldable pub countersOf : List Bool → ℕ
-  countersOf A = counter (has k A) (ones A - 1) 0
+  countersOf A = counter (has k A) (onesIn A - 1) 0
 
   -- one more for each message of A
-  unfoldable pub counted : List Bool → List ℕ → List ℕ
-  counted A counts = put (countersOf A) (after A (cut (countersOf A) (length A) counts)) counts
+  unfoldable pub setCounted : List Bool → List ℕ → List ℕ
+  setCounted A counts = put (countersOf A) (after A (cut (countersOf A) (length A) counts)) counts
 
   unfoldable pub countedAll : List (List Bool) → List ℕ → List ℕ
   countedAll [] counts = counts
-  countedAll (A ∷ sets) counts = countedAll sets (counted A counts)
+  countedAll (A ∷ sets) counts = countedAll sets (setCounted A counts)
 
 -- the counts of all sets of K messages
 unfoldable pub totalsOf : ℕ → ℕ → List ℕ

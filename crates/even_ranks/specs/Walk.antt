@@ -8,9 +8,8 @@ use lib.Dec.{eqb, ltb}
 use lib.ListN.{length, getD}
 use Rattle.lists.specs.Parts.{cut}
 use Rattle.lists.specs.Ranges.{range}
-use Rattle.even_places.specs.Sets.{has, ones, members, allSets}
-use Rattle.even_places.specs.Rule.{others}
-use Rattle.even_ranks.specs.Counts.{noCounts, countersOf, counted, totalsOf, takers, taken}
+use Rattle.even_places.specs.Rule.{has, onesIn, members, others, allSets}
+use Rattle.even_ranks.specs.Counts.{noCounts, countersOf, setCounted, totalsOf, takers, taken}
 use Rattle.even_ranks.specs.declared.Origin.{Origin}
 
 -- ---- Places, where `totals` has the counts of all sets
@@ -53,11 +52,11 @@ module _ (N server : ℕ) where
 
 -- a set's rows are joined if it has k and another message
 unfoldable pub isJoined : ℕ → List Bool → Bool
-isJoined k A = has k A && ltb 1 (ones A)
+isJoined k A = has k A && ltb 1 (onesIn A)
 
 module _ (N k server : ℕ) where
   unfoldable pub originOf : List Bool → ℕ → Origin
-  originOf A i = cond (isJoined k A) (joined N server (ones A) i) (plain N server (ones A) i)
+  originOf A i = cond (isJoined k A) (joined N server (onesIn A) i) (plain N server (onesIn A) i)
 
   module _ (totals : List ℕ) where
     -- the places of the row numbered i of set A, by its messages' ranks
@@ -66,12 +65,12 @@ module _ (N k server : ℕ) where
 
     -- those of all rows of set A
     unfoldable pub setPlaces : List ℕ → List Bool → List ℕ
-    setPlaces ranks A = flatMap (rowPlaces ranks A) (range 0 ((N - 1) ^ (ones A - 1)))
+    setPlaces ranks A = flatMap (rowPlaces ranks A) (range 0 ((N - 1) ^ (onesIn A - 1)))
 
     -- those of all rows of the sets, one set after another: a set's ranks are its counters before it is counted
     unfoldable pub setsPlaces : List ℕ → List (List Bool) → List ℕ
     setsPlaces counts [] = []
-    setsPlaces counts (A ∷ sets) = setPlaces (cut (countersOf k A) (length A) counts) A ++ setsPlaces (counted k A counts) sets
+    setsPlaces counts (A ∷ sets) = setPlaces (cut (countersOf k A) (length A) counts) A ++ setsPlaces (setCounted k A counts) sets
 
 -- the places of a query for one of K messages; `walked-is` shows that they are the rule's
 unfoldable pub walked : ℕ → ℕ → ℕ → ℕ → List ℕ

@@ -1,4 +1,5 @@
-// The sets of an even query counted, and the places that follow from the counts without search. A set of messages is one byte, bit p for message p.
+// The sets of an even query counted, and the places that follow from the counts without search.
+// A set of messages is one byte, bit p for message p.
 ghost use mathlib.Core.Path.{_≡_};
 ghost use mathlib.Core.List.{map};
 ghost use Prim.Native.Nat.{_-_, _%_, _/_, _^_, _≤_, _<_};
@@ -6,10 +7,9 @@ ghost use lib.Count.{ones};
 ghost use lib.Dec.{eqb};
 ghost use lib.ListN.{length};
 ghost use Rattle.lists.specs.Below.{Below};
-ghost use Rattle.even_places.specs.Sets.{byteOf, allSets};
-ghost use Rattle.even_places.specs.Rule.{after};
+ghost use Rattle.even_places.specs.Rule.{byteOf, after, allSets};
 ghost use Rattle.even_layout.specs.Layout.{setIn};
-ghost use Rattle.even_ranks.specs.Counts.{«counter» as counterAt, Stands, counted, totalsOf, «takers» as takersOf, taken, takenTable};
+ghost use Rattle.even_ranks.specs.Counts.{«counter» as counterAt, Stands, setCounted, totalsOf, «takers» as takersOf, taken, takenTable};
 
 // Where the places of a row come from.
 pub struct Origin {
@@ -56,7 +56,7 @@ fn count_members(k: usize, set: u8, counts: &mut [usize])
 // Counts a set.
 pub fn count_set(k: usize, wanted: usize, set: u8, counts: &mut [usize])
     requires { ⌜ (k ≤ 8) × (wanted < k) × Stands k set × (length (now counts) ≡ 128) × Below 65536 (now counts) ⌝ }
-    ensures { λ _. ⌜ now (counts .exit) ≡ counted wanted (setIn k set) (now (counts .entry)) ⌝ }
+    ensures { λ _. ⌜ now (counts .exit) ≡ setCounted wanted (setIn k set) (now (counts .entry)) ⌝ }
 {
     let at = counters_of(wanted, set);
     count_members(k, set, &mut counts[at..at + k]);

@@ -12,13 +12,13 @@ use lib.Dec.{eqb}
 use lib.ListN.{length, getD, take, length-map}
 use lib.Seq.{take-suc, take-all}
 use Rattle.lists.specs.Ranges.{range}
-use Rattle.lists.specs.Sums.{bit, keep, keepIf, sum}
+use Rattle.lists.specs.Sums.{bit, keep, keepIf, sum as summed}
 use Rattle.lists.proofs.Joined.{flatMap-append}
 use Rattle.lists.proofs.Sums.{sum-append}
 use Rattle.lists.proofs.Keep.{keep-append}
-use Rattle.symbol.specs.Xor.{xor}
+use Rattle.symbol.specs.Sum.{Sum}
 use Rattle.scheme.specs.Scheme.{answersIn}
-use Rattle.even_places.specs.Sets.{has, ones, allSets, byteOf}
+use Rattle.even_places.specs.Sets.{has, onesIn, allSets, byteOf}
 use Rattle.even_places.proofs.Bytes.{byte-ones, byte-has}
 use Rattle.even_places.proofs.ByteParts.{byte-covers}
 use Rattle.even_places.proofs.WantedCells.{cellsOf}
@@ -28,23 +28,23 @@ use Rattle.even_layout.specs.Layout.{rowsOf}
 use Rattle.even_layout.proofs.Blocks.{all-length, subsets-few}
 use Rattle.even_layout.proofs.Fits.{layout-bounds}
 use Rattle.even_layout.proofs.Tables.{SetByte, byte-at}
-use Rattle.even_recover.specs.declared.Reading.{Reading}
-use Rattle.even_recover.specs.Rows.{readingOf, groupParts, groupOf, setParts, Held, Ready}
+use Rattle.even_recover.specs.declared.ServerRows.{ServerRows}
+use Rattle.even_recover.specs.Rows.{serverRowsOf, groupParts, groupOf, setParts, Held, Ready}
 use Rattle.even_recover.proofs.Groups.{Reads, WantedSet, group-grouped}
 use Rattle.even_recover.proofs.GroupParts.{HasQuery, group-named, group-parts}
 use Rattle.even_recover.proofs.Sized.{Sized, sized}
 use Rattle.even_recover.proofs.Written.{assemble-append}
 
-module _ (N K S wanted server : ℕ) (key answers : List ℕ) where
+module _ (sum : Sum) (N K S wanted server : ℕ) (key answers : List ℕ) where
   -- the parts that one set gives, and those with the wanted message among some sets
   unfoldable pub partsOfSet : List Bool → List (ℕ × List ℕ)
   partsOfSet A =
-      map (recoveredPart xor N K S wanted key (answersIn (evenScheme xor N K S) N wanted key answers) server A) (range 0 ((N - 1) ^ (ones A - 1)))
+      map (recoveredPart sum N K S wanted key (answersIn (evenScheme sum N K S) N wanted key answers) server A) (range 0 ((N - 1) ^ (onesIn A - 1)))
 
   unfoldable pub partsOf : List (List Bool) → List (ℕ × List ℕ)
   partsOf sets = flatMap partsOfSet (keep (has wanted) sets)
 
-  parts-all : partsOf (allSets K) ≡ serverParts xor N K S wanted key (answersIn (evenScheme xor N K S) N wanted key answers) server
+  parts-all : partsOf (allSets K) ≡ serverParts sum N K S wanted key (answersIn (evenScheme sum N K S) N wanted key answers) server
   unfolding partsOf partsOfSet serverParts
   parts-all = refl
 
@@ -60,22 +60,22 @@ module _ (N K S wanted server : ℕ) (key answers : List ℕ) where
       go false = refl
 
 -- sets 0 to j - 1 are recovered
-pub record Fetched (N K S wanted server : ℕ) (key sets firsts answers start : List ℕ) (here : Reading) (query message : List ℕ) (cell j : ℕ) : Type 0 where
+pub record Fetched (sum : Sum) (N K S wanted server : ℕ) (key sets firsts answers start : List ℕ) (here : ServerRows) (query message : List ℕ) (cell j : ℕ) : Type 0 where
   pub reads : Reads N K S wanted server firsts
   pub asked : HasQuery N K wanted server key query
   pub sets-are : sets ≡ map byteOf (allSets K)
   pub table : length firsts ≡ 256
-  pub here-is : here ≡ readingOf N K S wanted server
+  pub here-is : here ≡ serverRowsOf N K S wanted server
   pub held : Held here answers
   pub room : N ^ K * S ≤ length start
   pub within : j ≤ length (allSets K)
   pub long : length message ≡ length start
-  pub cell-is : cell ≡ sum (cellsOf N) (take j (allSets K))
+  pub cell-is : cell ≡ summed (cellsOf N) (take j (allSets K))
   pub near : cell ≤ j * 2048
-  pub written : message ≡ assemble (partsOf N K S wanted server key answers (take j (allSets K))) start
+  pub written : message ≡ assemble (partsOf sum N K S wanted server key answers (take j (allSets K))) start
 
-module _ {N K S wanted server : ℕ} {key sets firsts answers start : List ℕ} {here : Reading} {query message : List ℕ} {cell j : ℕ}
-    (fetched : Fetched N K S wanted server key sets firsts answers start here query message cell j) (more : j < length sets) where
+module _ {sum : Sum} {N K S wanted server : ℕ} {key sets firsts answers start : List ℕ} {here : ServerRows} {query message : List ℕ} {cell j : ℕ}
+    (fetched : Fetched sum N K S wanted server key sets firsts answers start here query message cell j) (more : j < length sets) where
   abbrev A : List Bool
   A = getD (allSets K) j []
 
@@ -89,11 +89,11 @@ module _ {N K S wanted server : ℕ} {key sets firsts answers start : List ℕ} 
   set-is = byte-at N K j sets [] (layout-bounds (fetched .reads .bounds)) (fetched .sets-are ∙ sym (append-nil (map byteOf (allSets K)))) more-sets
 
   pub bit-some : 1 ≤ here .bit
-  bit-some = omega (arith, sized (fetched .reads .bounds) (fetched .reads .wanted-known) .bit-low, ap (λ (r : Reading). r .bit) (fetched .here-is))
+  bit-some = omega (arith, sized (fetched .reads .bounds) (fetched .reads .wanted-known) .bit-low, ap (λ (r : ServerRows). r .bit) (fetched .here-is))
 
   few-cells : cellsOf N A ≤ 2048
   unfolding cellsOf rowsOf
-  few-cells = mul-le-mul (set-is .high) (let few : ones A ≤ 8 = omega (arith, ones-most A, set-is .is .long, fetched .reads .bounds .messages-high) in few)
+  few-cells = mul-le-mul (set-is .high) (let few : onesIn A ≤ 8 = omega (arith, ones-most A, set-is .is .long, fetched .reads .bounds .messages-high) in few)
 
   cells-are : (N - 1) ^ (count (getD sets j 0) - 1) * count (getD sets j 0) ≡ cellsOf N A
   unfolding cellsOf
@@ -104,20 +104,20 @@ module _ {N K S wanted server : ℕ} {key sets firsts answers start : List ℕ} 
 
   -- the bit of the wanted message
   bit-is : getD sets j 0 / here .bit % 2 ≡ bit (has wanted A)
-  bit-is = ap₂ (λ (set b : ℕ). set / b % 2) (set-is .byte) (ap (λ (r : Reading). r .bit) (fetched .here-is)) ∙ byte-has A wanted
+  bit-is = ap₂ (λ (set b : ℕ). set / b % 2) (set-is .byte) (ap (λ (r : ServerRows). r .bit) (fetched .here-is)) ∙ byte-has A wanted
 
   wanted-set : has wanted A ≡ true → WantedSet K wanted A
   wanted-set e = record { good = record { long = set-is .is .long; some = set-is .is .some }; has-wanted = e }
 
-  set-parts : setParts here (getD sets j 0) cell firsts query answers ≡ cond (has wanted A) (partsOfSet N K S wanted server key answers A) []
+  set-parts : setParts sum here (getD sets j 0) cell firsts query answers ≡ cond (has wanted A) (partsOfSet sum N K S wanted server key answers A) []
   unfolding setParts partsOfSet bit
   set-parts = rw (bit-is, fetched .here-is, set-is .byte, fetched .cell-is) (go (has wanted A) refl)
     where
       parts : List (ℕ × List ℕ)
-      parts = groupParts (readingOf N K S wanted server) (groupOf (readingOf N K S wanted server) (byteOf A) (sum (cellsOf N) (take j (allSets K))) firsts) query answers
+      parts = groupParts sum (serverRowsOf N K S wanted server) (groupOf (serverRowsOf N K S wanted server) (byteOf A) (summed (cellsOf N) (take j (allSets K))) firsts) query answers
 
-      go : (t : Bool) → has wanted A ≡ t → cond (eqb (bit t) 1) parts [] ≡ cond t (partsOfSet N K S wanted server key answers A) []
-      go true e = group-parts (fetched .reads) (fetched .asked) j more-sets (wanted-set e) answers
+      go : (t : Bool) → has wanted A ≡ t → cond (eqb (bit t) 1) parts [] ≡ cond t (partsOfSet sum N K S wanted server key answers A) []
+      go true e = group-parts sum (fetched .reads) (fetched .asked) j more-sets (wanted-set e) answers
       go false e = refl
 
   pub set-ready : getD sets j 0 / here .bit % 2 ≡ 1 → Ready here (getD sets j 0) cell firsts query message
@@ -127,7 +127,7 @@ module _ {N K S wanted server : ℕ} {key sets firsts answers start : List ℕ} 
       small : Sized N K wanted
       small = sized (fetched .reads .bounds) (fetched .reads .wanted-known)
 
-      go : (t : Bool) → has wanted A ≡ t → bit t ≡ 1 → Ready (readingOf N K S wanted server) (byteOf A) (sum (cellsOf N) (take j (allSets K))) firsts query message
+      go : (t : Bool) → has wanted A ≡ t → bit t ≡ 1 → Ready (serverRowsOf N K S wanted server) (byteOf A) (summed (cellsOf N) (take j (allSets K))) firsts query message
       go false f g = absurd (let w : ⊥ = omega arith in w)
       go true f g = record {
         given = record {
@@ -139,17 +139,17 @@ module _ {N K S wanted server : ℕ} {key sets firsts answers start : List ℕ} 
           near = omega (arith, cells-near, fetched .cell-is);
           table = fetched .table;
         };
-        grouped = group-grouped (fetched .reads) (wanted-set f) (sum (cellsOf N) (take j (allSets K)));
-        named = group-named (fetched .reads) (fetched .asked) j more-sets (wanted-set f) message (omega (arith, fetched .room, fetched .long));
+        grouped = group-grouped (fetched .reads) (wanted-set f) (summed (cellsOf N) (take j (allSets K)));
+        named = group-named sum (fetched .reads) (fetched .asked) j more-sets (wanted-set f) message (omega (arith, fetched .room, fetched .long));
       }
 
   next-sets : take (j + 1) (allSets K) ≡ take j (allSets K) ++ (A ∷ [])
   next-sets = ap (λ (n : ℕ). take n (allSets K)) (add-one j) ∙ take-suc (allSets K) j [] more-sets
 
-  pub fetched-more : (done : List ℕ) (next : ℕ) → length done ≡ length message → done ≡ assemble (setParts here (getD sets j 0) cell firsts query answers) message
+  pub fetched-more : (done : List ℕ) (next : ℕ) → length done ≡ length message → done ≡ assemble (setParts sum here (getD sets j 0) cell firsts query answers) message
       → next ≡ cell + (N - 1) ^ (count (getD sets j 0) - 1) * count (getD sets j 0)
-      → Fetched N K S wanted server key sets firsts answers start here query done next (j + 1)
-  unfolding sum
+      → Fetched sum N K S wanted server key sets firsts answers start here query done next (j + 1)
+  unfolding summed
   fetched-more done next long e f = record {
     reads = fetched .reads;
     asked = fetched .asked;
@@ -165,16 +165,16 @@ module _ {N K S wanted server : ℕ} {key sets firsts answers start : List ℕ} 
     written =
         e
         ∙ ap₂ assemble set-parts (fetched .written)
-        ∙ sym (assemble-append (partsOf N K S wanted server key answers (take j (allSets K))) (cond (has wanted A) (partsOfSet N K S wanted server key answers A) []) start)
+        ∙ sym (assemble-append (partsOf sum N K S wanted server key answers (take j (allSets K))) (cond (has wanted A) (partsOfSet sum N K S wanted server key answers A) []) start)
         ∙ ap (λ (l : List (ℕ × List ℕ)). assemble l start)
-        (sym (ap (partsOf N K S wanted server key answers) next-sets ∙ parts-more N K S wanted server key answers (take j (allSets K)) A));
+        (sym (ap (partsOf sum N K S wanted server key answers) next-sets ∙ parts-more sum N K S wanted server key answers (take j (allSets K)) A));
   }
 
-pub fetched-done : {N K S wanted server : ℕ} {key sets firsts answers start : List ℕ} {here : Reading} {query message : List ℕ} {cell j : ℕ}
-    → Fetched N K S wanted server key sets firsts answers start here query message cell j → length sets ≤ j
-    → message ≡ assemble (serverParts xor N K S wanted key (answersIn (evenScheme xor N K S) N wanted key answers) server) start
-fetched-done {N} {K} {S} {wanted} {server} {key} {sets} {answers} {start} {j} fetched end =
+pub fetched-done : {sum : Sum} {N K S wanted server : ℕ} {key sets firsts answers start : List ℕ} {here : ServerRows} {query message : List ℕ} {cell j : ℕ}
+    → Fetched sum N K S wanted server key sets firsts answers start here query message cell j → length sets ≤ j
+    → message ≡ assemble (serverParts sum N K S wanted key (answersIn (evenScheme sum N K S) N wanted key answers) server) start
+fetched-done {sum} {N} {K} {S} {wanted} {server} {key} {sets} {answers} {start} {j} fetched end =
     let all : length (allSets K) ≤ j = omega (arith, ap length (fetched .sets-are), length-map (allSets K) byteOf) in
     fetched .written
-    ∙ ap (λ (l : List (List Bool)). assemble (partsOf N K S wanted server key answers l) start) (take-all j (allSets K) all)
-    ∙ ap (λ (l : List (ℕ × List ℕ)). assemble l start) (parts-all N K S wanted server key answers)
+    ∙ ap (λ (l : List (List Bool)). assemble (partsOf sum N K S wanted server key answers l) start) (take-all j (allSets K) all)
+    ∙ ap (λ (l : List (ℕ × List ℕ)). assemble l start) (parts-all sum N K S wanted server key answers)

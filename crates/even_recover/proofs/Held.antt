@@ -9,8 +9,8 @@ use mathlib.Core.List.{List}
 use lib.ListN.{length, getD}
 use Rattle.lists.proofs.Each.{All-get}
 use Rattle.even_places.specs.Rule.{others}
-use Rattle.even_places.proofs.Positions.{others-length, others-below}
-use Rattle.even_recover.specs.declared.Reading.{Reading}
+use Rattle.even_places.proofs.Others.{others-length, others-below}
+use Rattle.even_recover.specs.declared.ServerRows.{ServerRows}
 use Rattle.even_recover.specs.declared.Group.{Group}
 use Rattle.even_recover.specs.Rows.{Held, Grouped}
 
@@ -19,7 +19,7 @@ pub record RowAt (x symbol long : ℕ) : Type 0 where
   pub inside : x * symbol + symbol ≤ long
   pub small : x < 4096
 
-row-at : (here : Reading) (answers : List ℕ) (server row : ℕ) → Held here answers → server < here .servers → row < here .rows
+row-at : (here : ServerRows) (answers : List ℕ) (server row : ℕ) → Held here answers → server < here .servers → row < here .rows
     → RowAt (server * here .rows + row) (here .symbol) (length answers)
 row-at here answers server row held known within =
     let x = server * here .rows + row in
@@ -28,7 +28,7 @@ row-at here answers server row held known within =
     let most = mul-le-mul (held .few) (held .short) in
     record { inside = omega (arith, suc-mul x (here .symbol), held .held); small = omega arith }
 
-module _ (here : Reading) (group : Group) (answers : List ℕ) (i : ℕ) (held : Held here answers) (grouped : Grouped here group) (within : i < group .count) where
+module _ (here : ServerRows) (group : Group) (answers : List ℕ) (i : ℕ) (held : Held here answers) (grouped : Grouped here group) (within : i < group .count) where
   pub own-row : RowAt (here .server * here .rows + (group .first + i)) (here .symbol) (length answers)
   own-row =
       row-at here answers (here .server) (group .first + i) held (held .known) (omega (arith, grouped .own))

@@ -5,7 +5,7 @@ use mathlib.Core.List.{List, _++_, map, flatMap}
 use lib.ListN.{length, take}
 use Rattle.lists.specs.Ranges.{range}
 use Rattle.lists.proofs.Cuts.{front-is, front-fits}
-use Rattle.symbol.specs.Xor.{xor}
+use Rattle.symbol.specs.Sum.{Sum}
 use Rattle.scheme.specs.Scheme.{answersIn}
 use Rattle.even_places.specs.Sets.{byteOf, allSets}
 use Rattle.even_scheme.specs.Even.{assemble, serverParts, recoveredParts, evenScheme}
@@ -23,23 +23,23 @@ sets-front K whole table rest e f =
     let count = all-bytes K whole e in
     record { inside = front-fits (whole - 1) table bytes rest f count; is = front-is (whole - 1) table bytes rest f count }
 
-module _ (N K S wanted : ℕ) (key answers : List ℕ) where
+module _ (sum : Sum) (N K S wanted : ℕ) (key answers : List ℕ) where
   -- the parts of the first servers
   unfoldable pub partsBefore : ℕ → List (ℕ × List ℕ)
-  partsBefore servers = flatMap (serverParts xor N K S wanted key (answersIn (evenScheme xor N K S) N wanted key answers)) (range 0 servers)
+  partsBefore servers = flatMap (serverParts sum N K S wanted key (answersIn (evenScheme sum N K S) N wanted key answers)) (range 0 servers)
 
   pub before-none : (buffer : List ℕ) → buffer ≡ assemble (partsBefore 0) buffer
   unfolding partsBefore range flatMap assemble
   before-none buffer = refl
 
   pub before-more : (server : ℕ) (start message done : List ℕ) → message ≡ assemble (partsBefore server) start
-      → done ≡ assemble (serverParts xor N K S wanted key (answersIn (evenScheme xor N K S) N wanted key answers) server) message
+      → done ≡ assemble (serverParts sum N K S wanted key (answersIn (evenScheme sum N K S) N wanted key answers) server) message
       → done ≡ assemble (partsBefore (server + 1)) start
   unfolding partsBefore
   before-more server start message done e f =
-      let parts = serverParts xor N K S wanted key (answersIn (evenScheme xor N K S) N wanted key answers) in
+      let parts = serverParts sum N K S wanted key (answersIn (evenScheme sum N K S) N wanted key answers) in
       f ∙ ap (assemble (parts server)) e ∙ sym (assemble-list parts server start)
 
-  pub before-all : (servers : ℕ) → servers ≡ N → partsBefore servers ≡ recoveredParts xor N K S wanted key (answersIn (evenScheme xor N K S) N wanted key answers)
+  pub before-all : (servers : ℕ) → servers ≡ N → partsBefore servers ≡ recoveredParts sum N K S wanted key (answersIn (evenScheme sum N K S) N wanted key answers)
   unfolding partsBefore recoveredParts
-  before-all servers e = ap (λ (n : ℕ). flatMap (serverParts xor N K S wanted key (answersIn (evenScheme xor N K S) N wanted key answers)) (range 0 n)) e
+  before-all servers e = ap (λ (n : ℕ). flatMap (serverParts sum N K S wanted key (answersIn (evenScheme sum N K S) N wanted key answers)) (range 0 n)) e

@@ -7,17 +7,18 @@ use mathlib.Core.Bool.{true}
 use mathlib.Core.List.{List, map, flatMap}
 use lib.ListN.{length, getD, drop, length-append, List·getD-append}
 use Rattle.lists.specs.Parts.{put}
-use Rattle.lists.specs.Sums.{keep, sum}
+use Rattle.lists.specs.Sums.{keep, sum as summed}
 use Rattle.lists.proofs.Mapped.{mapped-length}
 use Rattle.parameters.specs.Bounds.{evenFits}
 use Rattle.parameters.specs.Measures.{evenRows}
 use Rattle.parameters.proofs.Bounds.{EvenBounds, even-bounds}
+use Rattle.symbol.specs.Sum.{Sum}
 use Rattle.even_places.specs.Sets.{byteOf, allSets}
 use Rattle.even_scheme.specs.Even.{evenKeyGood, evenQuery, assemble}
 use Rattle.even_layout.specs.Layout.{firstRows, firstRowOf}
 use Rattle.even_layout.proofs.Firsts.{first-rows-at}
-use Rattle.even_recover.specs.declared.Reading.{Reading}
-use Rattle.even_recover.specs.Rows.{readingOf, Held}
+use Rattle.even_recover.specs.declared.ServerRows.{ServerRows}
+use Rattle.even_recover.specs.Rows.{serverRowsOf, Held}
 use Rattle.even_recover.proofs.Groups.{Reads}
 use Rattle.even_recover.proofs.GroupParts.{HasQuery}
 use Rattle.even_recover.proofs.Sized.{sized}
@@ -51,7 +52,7 @@ module _ (N K S wanted server : ℕ) (fits : evenFits N K S ≡ true) (wanted-kn
     firsts-are = λ A good. ap (λ (l : List ℕ). getD l (byteOf A) 0) e ∙ first-rows-at N K A (bounds .messages-high) (good .long) (good .some);
   }
 
-  held : (answers : List ℕ) → N * (evenRows N K * S) ≤ length answers → Held (readingOf N K S wanted server) answers
+  held : (answers : List ℕ) → N * (evenRows N K * S) ≤ length answers → Held (serverRowsOf N K S wanted server) answers
   held answers h = record {
     known = server-known;
     few = bounds .servers-high;
@@ -59,12 +60,12 @@ module _ (N K S wanted server : ℕ) (fits : evenFits N K S ≡ true) (wanted-kn
     held = omega (arith, mul-assoc N (evenRows N K) S);
   }
 
-  pub fetched-none : (key sets firsts answers start : List ℕ) (here : Reading) (query space : List ℕ) → evenKeyGood N K key ≡ true
+  pub fetched-none : (sum : Sum) (key sets firsts answers start : List ℕ) (here : ServerRows) (query space : List ℕ) → evenKeyGood N K key ≡ true
       → sets ≡ map byteOf (allSets K) → firsts ≡ firstRows N K → N * (evenRows N K * S) ≤ length answers → N ^ K * S ≤ length start
-      → here ≡ readingOf N K S wanted server → query ≡ put 0 (evenQuery N K wanted server key) space
-      → Fetched N K S wanted server key sets firsts answers start here query start 0 0
-  unfolding sum partsOf keep flatMap assemble
-  fetched-none key sets firsts answers start here query space good sets-are firsts-are slots room here-is query-is = record {
+      → here ≡ serverRowsOf N K S wanted server → query ≡ put 0 (evenQuery N K wanted server key) space
+      → Fetched sum N K S wanted server key sets firsts answers start here query start 0 0
+  unfolding summed partsOf keep flatMap assemble
+  fetched-none sum key sets firsts answers start here query space good sets-are firsts-are slots room here-is query-is = record {
     reads = reads firsts firsts-are;
     asked = has-query N K wanted server key query space good query-is;
     sets-are = sets-are;

@@ -8,41 +8,46 @@ use mathlib.Core.List.{List, [], map}
 use lib.Count.{ones}
 use lib.Dec.{eqb}
 use lib.ListN.{length, getD}
-use Rattle.lists.specs.Parts.{cut}
+use Rattle.lists.specs.Parts.{cut, put}
 use Rattle.lists.specs.Ranges.{range}
 use Rattle.parameters.specs.Measures.{evenRows}
-use Rattle.symbol.specs.Xor.{xor}
+use Rattle.symbol.specs.Sum.{Sum}
 use Rattle.even_places.specs.Rule.{others}
-use Rattle.even_recover.specs.declared.Reading.{Reading}
+use Rattle.even_recover.specs.declared.ServerRows.{ServerRows}
 use Rattle.even_recover.specs.declared.Group.{Group}
 
 -- what is the same for all rows of a server's query
-abbrev pub readingOf : ℕ → ℕ → ℕ → ℕ → ℕ → Reading
-readingOf N K S wanted server = record { servers = N; symbol = S; rows = evenRows N K; bit = 2 ^ wanted; server = server }
+abbrev pub serverRowsOf : ℕ → ℕ → ℕ → ℕ → ℕ → ServerRows
+serverRowsOf N K S wanted server = record { servers = N; symbol = S; rows = evenRows N K; bit = 2 ^ wanted; server = server }
 
 -- the answer to a row of a server's query, in the answer buffer
-abbrev pub rowIn : Reading → List ℕ → ℕ → ℕ → List ℕ
+abbrev pub rowIn : ServerRows → List ℕ → ℕ → ℕ → List ℕ
 rowIn here answers server row = cut ((server * here .rows + row) * here .symbol) (here .symbol) answers
 
+-- the message after a row of the answer buffer is taken away from a symbol of it
+abbrev pub rowTaken : Sum → ℕ → ℕ → ℕ → List ℕ → List ℕ → List ℕ
+rowTaken sum size number row answers message =
+    put (number * size) (sum .minus (cut (number * size) size message) (cut (row * size) size answers)) message
+
 -- the symbol that row i of a group gives
-unfoldable pub groupSymbol : Reading → Group → List ℕ → ℕ → List ℕ
-groupSymbol here group answers i =
+unfoldable pub groupSymbol : Sum → ServerRows → Group → List ℕ → ℕ → List ℕ
+groupSymbol sum here group answers i =
     cond (eqb (group .messages) 1)
     (rowIn here answers (here .server) (group .first + i))
-    (xor .minus (rowIn here answers (here .server) (group .first + i))
+    (sum .minus (rowIn here answers (here .server) (group .first + i))
     (rowIn here answers (getD (others (here .servers) (here .server)) (i / group .each) 0) (group .source + i % group .each)))
 
 -- the part of the message that it gives: the query names the symbol's number
-unfoldable pub groupPart : Reading → Group → List ℕ → List ℕ → ℕ → ℕ × List ℕ
-groupPart here group query answers i =
-    (getD query (group .cell + i * group .messages) 0 * here .symbol, groupSymbol here group answers i)
+unfoldable pub groupPart : Sum → ServerRows → Group → List ℕ → List ℕ → ℕ → ℕ × List ℕ
+groupPart sum here group query answers i =
+    (getD query (group .cell + i * group .messages) 0 * here .symbol, groupSymbol sum here group answers i)
 
 -- those of all its rows
-unfoldable pub groupParts : Reading → Group → List ℕ → List ℕ → List (ℕ × List ℕ)
-groupParts here group query answers = map (groupPart here group query answers) (range 0 (group .count))
+unfoldable pub groupParts : Sum → ServerRows → Group → List ℕ → List ℕ → List (ℕ × List ℕ)
+groupParts sum here group query answers = map (groupPart sum here group query answers) (range 0 (group .count))
 
 -- the group of a set with the wanted message, whose first row begins at a cell of the query
-unfoldable pub groupOf : Reading → ℕ → ℕ → List ℕ → Group
+unfoldable pub groupOf : ServerRows → ℕ → ℕ → List ℕ → Group
 groupOf here set cell firsts = record {
   messages = ones set;
   count = (here .servers - 1) ^ (ones set - 1);
@@ -53,12 +58,12 @@ groupOf here set cell firsts = record {
 }
 
 -- what the rows of a set give: nothing, if it is without the wanted message
-unfoldable pub setParts : Reading → ℕ → ℕ → List ℕ → List ℕ → List ℕ → List (ℕ × List ℕ)
-setParts here set cell firsts query answers =
-    cond (eqb (set / here .bit % 2) 1) (groupParts here (groupOf here set cell firsts) query answers) []
+unfoldable pub setParts : Sum → ServerRows → ℕ → ℕ → List ℕ → List ℕ → List ℕ → List (ℕ × List ℕ)
+setParts sum here set cell firsts query answers =
+    cond (eqb (set / here .bit % 2) 1) (groupParts sum here (groupOf here set cell firsts) query answers) []
 
 -- a set with the wanted message has rows, and a table the first of them; its first cell is near
-pub record Given (here : Reading) (set cell : ℕ) (firsts : List ℕ) : Type 0 where
+pub record Given (here : ServerRows) (set cell : ℕ) (firsts : List ℕ) : Type 0 where
   pub two : 2 ≤ here .servers
   pub wanted-low : 1 ≤ here .bit
   pub wanted-high : here .bit ≤ set
@@ -68,26 +73,26 @@ pub record Given (here : Reading) (set cell : ℕ) (firsts : List ℕ) : Type 0 
   pub table : length firsts ≡ 256
 
 -- the server is one of at most 16, a query has at most 256 rows, and the answer buffer holds the rows of all
-pub record Held (here : Reading) (answers : List ℕ) : Type 0 where
+pub record Held (here : ServerRows) (answers : List ℕ) : Type 0 where
   pub known : here .server < here .servers
   pub few : here .servers ≤ 16
   pub short : here .rows ≤ 256
   pub held : here .servers * here .rows * here .symbol ≤ length answers
 
 -- the group's rows, and those that they are joined from, are rows of a query
-pub record Grouped (here : Reading) (group : Group) : Type 0 where
+pub record Grouped (here : ServerRows) (group : Group) : Type 0 where
   pub small : group .messages ≤ 8
   pub own : group .first + group .count ≤ here .rows
   pub joined : group .messages ≢ 1 → group .source + group .each ≤ here .rows
   pub turns : group .messages ≢ 1 → group .count ≤ (here .servers - 1) * group .each
 
 -- the group's cells are in the query, and the symbols that they name in the message
-pub record Named (here : Reading) (group : Group) (query message : List ℕ) : Type 0 where
+pub record Named (here : ServerRows) (group : Group) (query message : List ℕ) : Type 0 where
   pub cells : (i : ℕ) → i < group .count → group .cell + i * group .messages < length query
   pub symbols : (i : ℕ) → i < group .count → getD query (group .cell + i * group .messages) 0 * here .symbol + here .symbol ≤ length message
 
 -- all of that, of the group of a set with the wanted message
-pub record Ready (here : Reading) (set cell : ℕ) (firsts query message : List ℕ) : Type 0 where
+pub record Ready (here : ServerRows) (set cell : ℕ) (firsts query message : List ℕ) : Type 0 where
   pub given : Given here set cell firsts
   pub grouped : Grouped here (groupOf here set cell firsts)
   pub named : Named here (groupOf here set cell firsts) query message

@@ -1,21 +1,22 @@
 // Recovery of the even code (01: 'Even code', recovery): the wanted message from the answers of all servers.
+use symbol::Operation;
 ghost use mathlib.Core.Path.{_≡_};
 ghost use mathlib.Core.Bool.{true};
 ghost use mathlib.Core.List.{map};
 ghost use Prim.Native.Nat.{_+_, _-_, _*_, _/_, _%_, _^_, _≤_, _<_};
 ghost use lib.ListN.{length};
 ghost use Rattle.lists.specs.Parts.{cut, put};
-ghost use Rattle.symbol.specs.Xor.{xor};
+ghost use Rattle.symbol.specs.Operations.{sumOf};
 ghost use Rattle.parameters.specs.Bounds.{evenFits};
 ghost use Rattle.parameters.specs.Measures.{evenRows};
 ghost use Rattle.scheme.specs.Scheme.{answersIn};
 ghost use Rattle.even_places.specs.Sets.{byteOf, allSets};
 ghost use Rattle.even_scheme.specs.Even.{assemble, evenKeyGood, serverParts, recoveredParts, evenScheme};
 ghost use Rattle.even_layout.specs.Layout.{firstRows};
-ghost use Rattle.even_recover.specs.Rows.{readingOf, groupSymbol, groupParts, groupOf, setParts, Given, Held, Grouped, Named, Ready};
+ghost use Rattle.even_recover.specs.Rows.{serverRowsOf, rowTaken, groupSymbol, groupParts, groupOf, setParts, Given, Held, Grouped, Named, Ready};
 
 // What is the same for all rows of one server's query.
-struct Reading {
+struct ServerRows {
     // How many servers there are.
     servers: usize,
     // Bytes of a symbol.
@@ -57,22 +58,30 @@ fn copy_row(symbol: usize, number: usize, row: usize, answers: &[u8], message: &
     symbol::copy(&mut message[at..end], &answers[from..until]);
 }
 
-// Combines a row of the answer buffer into a symbol of the message.
-fn combine_row(symbol: usize, number: usize, row: usize, answers: &[u8], message: &mut [u8])
+// Takes a row of the answer buffer away from a symbol of the message.
+fn subtract_row(
+    op: Operation,
+    symbol: usize,
+    number: usize,
+    row: usize,
+    answers: &[u8],
+    message: &mut [u8],
+)
     requires { ⌜ row * symbol + symbol ≤ length (now answers) ⌝ }
     requires { ⌜ number * symbol + symbol ≤ length (now message) ⌝ }
-    ensures { λ _. ⌜ now (message .exit) ≡ put (number * symbol) (xor .plus (cut (number * symbol) symbol (now (message .entry))) (cut (row * symbol) symbol (now (answers .entry)))) (now (message .entry)) ⌝ }
+    ensures { λ _. ⌜ now (message .exit) ≡ rowTaken (sumOf op) symbol number row (now (answers .entry)) (now (message .entry)) ⌝ }
 {
     let at = number * symbol;
     let end = at + symbol;
     let from = row * symbol;
     let until = from + symbol;
-    symbol::combine(&mut message[at..end], &answers[from..until]);
+    symbol::subtract(op, &mut message[at..end], &answers[from..until]);
 }
 
-// Recovers the symbol of row `i` of the group: the answer to it, combined with the answer to the row that it was joined from.
+// Recovers the symbol of row `i` of the group: the answer to it, less the answer to the row that it was joined from.
 fn from_row(
-    here: Reading,
+    op: Operation,
+    here: ServerRows,
     group: Group,
     i: usize,
     number: usize,
@@ -83,37 +92,44 @@ fn from_row(
     requires { ⌜ Grouped here group ⌝ }
     requires { ⌜ i < group .count ⌝ }
     requires { ⌜ number * here .symbol + here .symbol ≤ length (now message) ⌝ }
-    ensures { λ _. ⌜ now (message .exit) ≡ put (number * here .symbol) (groupSymbol here group (now (answers .entry)) i) (now (message .entry)) ⌝ }
+    ensures { λ _. ⌜ now (message .exit) ≡ put (number * here .symbol) (groupSymbol (sumOf op) here group (now (answers .entry)) i) (now (message .entry)) ⌝ }
 {
     let row = here.server * here.rows + (group.first + i);
     copy_row(here.symbol, number, row, answers, message);
     if group.messages != 1 {
         let source = even_layout::other_server(here.server, i / group.each) * here.rows
             + (group.source + i % group.each);
-        combine_row(here.symbol, number, source, answers, message);
+        subtract_row(op, here.symbol, number, source, answers, message);
     }
 }
 
 // Recovers the symbols of the group's rows, in order.
-fn from_group(here: Reading, group: Group, query: &[u8], answers: &[u8], message: &mut [u8])
+fn from_group(
+    op: Operation,
+    here: ServerRows,
+    group: Group,
+    query: &[u8],
+    answers: &[u8],
+    message: &mut [u8],
+)
     requires { ⌜ Held here (now answers) ⌝ }
     requires { ⌜ Grouped here group ⌝ }
     requires { ⌜ Named here group (now query) (now message) ⌝ }
-    ensures { λ _. ⌜ now (message .exit) ≡ assemble (groupParts here group (now (query .entry)) (now (answers .entry))) (now (message .entry)) ⌝ }
+    ensures { λ _. ⌜ now (message .exit) ≡ assemble (groupParts (sumOf op) here group (now (query .entry)) (now (answers .entry))) (now (message .entry)) ⌝ }
 {
     let count = group.count;
     let mut cell = group.cell;
     let mut i = 0;
     while i < count {
         let number = query[cell] as usize;
-        from_row(here, group, i, number, answers, message);
+        from_row(op, here, group, i, number, answers, message);
         cell += group.messages;
         i += 1;
     }
 }
 
 // The group of a set with the wanted message, whose first row starts at position `cell` of the query.
-fn group_of(here: Reading, set: u8, cell: usize, firsts: &[usize]) -> Group
+fn group_of(here: ServerRows, set: u8, cell: usize, firsts: &[usize]) -> Group
     requires { ⌜ Given here set cell (now firsts) ⌝ }
     ensures { λ r. ⌜ r ≡ groupOf here set cell (now (firsts .entry)) ⌝ }
 {
@@ -130,7 +146,8 @@ fn group_of(here: Reading, set: u8, cell: usize, firsts: &[usize]) -> Group
 
 // Recovers the symbols of the rows of a set, if it has the wanted message.
 fn from_set(
-    here: Reading,
+    op: Operation,
+    here: ServerRows,
     set: u8,
     cell: usize,
     firsts: &[usize],
@@ -141,10 +158,11 @@ fn from_set(
     requires { ⌜ 1 ≤ here .bit ⌝ }
     requires { ⌜ Held here (now answers) ⌝ }
     requires { ⌜ (set / here .bit % 2 ≡ 1 → Ready here set cell (now firsts) (now query) (now message)) ⌝ }
-    ensures { λ _. ⌜ now (message .exit) ≡ assemble (setParts here set cell (now (firsts .entry)) (now (query .entry)) (now (answers .entry))) (now (message .entry)) ⌝ }
+    ensures { λ _. ⌜ now (message .exit) ≡ assemble (setParts (sumOf op) here set cell (now (firsts .entry)) (now (query .entry)) (now (answers .entry))) (now (message .entry)) ⌝ }
 {
     if set / here.bit % 2 == 1 {
         from_group(
+            op,
             here,
             group_of(here, set, cell, firsts),
             query,
@@ -155,13 +173,13 @@ fn from_set(
 }
 
 // What is the same for all rows of a server's query.
-fn reading_of(n: usize, k: usize, s: usize, wanted: usize, server: usize) -> Reading
+fn server_rows_of(n: usize, k: usize, s: usize, wanted: usize, server: usize) -> ServerRows
     requires { ⌜ evenFits n k s ≡ true ⌝ }
     requires { ⌜ wanted < k ⌝ }
-    ensures { λ r. ⌜ r ≡ readingOf n k s wanted server ⌝ }
+    ensures { λ r. ⌜ r ≡ serverRowsOf n k s wanted server ⌝ }
 {
     let whole = parameters::power(n, k - 1);
-    Reading {
+    ServerRows {
         servers: n,
         symbol: s,
         rows: whole + (whole - 1) / (n - 1),
@@ -172,6 +190,7 @@ fn reading_of(n: usize, k: usize, s: usize, wanted: usize, server: usize) -> Rea
 
 // Recovers the symbols of the rows with the wanted message of one server's query.
 fn from_server(
+    op: Operation,
     n: usize,
     k: usize,
     s: usize,
@@ -188,16 +207,16 @@ fn from_server(
     requires { ⌜ (length (now key) ≡ k * n ^ k) × (evenKeyGood n k (now key) ≡ true) ⌝ }
     requires { ⌜ (now sets ≡ map byteOf (allSets k)) × (now firsts ≡ firstRows n k) ⌝ }
     requires { ⌜ (n * (evenRows n k * s) ≤ length (now answers)) × (n ^ k * s ≤ length (now message)) ⌝ }
-    ensures { λ _. ⌜ now (message .exit) ≡ assemble (serverParts xor n k s wanted (now (key .entry)) (answersIn (evenScheme xor n k s) n wanted (now (key .entry)) (now (answers .entry))) server) (now (message .entry)) ⌝ }
+    ensures { λ _. ⌜ now (message .exit) ≡ assemble (serverParts (sumOf op) n k s wanted (now (key .entry)) (answersIn (evenScheme (sumOf op) n k s) n wanted (now (key .entry)) (now (answers .entry))) server) (now (message .entry)) ⌝ }
 {
-    let here = reading_of(n, k, s, wanted, server);
+    let here = server_rows_of(n, k, s, wanted, server);
     let mut asked = [0u8; 1024];
     even_query::query(n, k, wanted, server, key, &mut asked);
     let mut cell = 0;
     let mut j = 0;
     while j < sets.len() {
         let set = sets[j];
-        from_set(here, set, cell, firsts, &asked, answers, message);
+        from_set(op, here, set, cell, firsts, &asked, answers, message);
         cell += even_layout::rows_of(n, set) * u8::count_ones(set) as usize;
         j += 1;
     }
@@ -205,6 +224,7 @@ fn from_server(
 
 // Recovers the wanted message from the slots of the answer buffer, and writes each symbol at its number.
 pub fn recover(
+    op: Operation,
     n: usize,
     k: usize,
     s: usize,
@@ -217,7 +237,7 @@ pub fn recover(
     requires { ⌜ wanted < k ⌝ }
     requires { ⌜ (length (now key) ≡ k * n ^ k) × (evenKeyGood n k (now key) ≡ true) ⌝ }
     requires { ⌜ (n * (evenRows n k * s) ≤ length (now answers)) × (n ^ k * s ≤ length (now message)) ⌝ }
-    ensures { λ _. ⌜ now (message .exit) ≡ assemble (recoveredParts xor n k s wanted (now (key .entry)) (answersIn (evenScheme xor n k s) n wanted (now (key .entry)) (now (answers .entry)))) (now (message .entry)) ⌝ }
+    ensures { λ _. ⌜ now (message .exit) ≡ assemble (recoveredParts (sumOf op) n k s wanted (now (key .entry)) (answersIn (evenScheme (sumOf op) n k s) n wanted (now (key .entry)) (now (answers .entry)))) (now (message .entry)) ⌝ }
 {
     let sets = even_layout::ordered_sets(k);
     let count = parameters::power(2, k) - 1;
@@ -225,6 +245,7 @@ pub fn recover(
     let mut server = 0;
     while server < n {
         from_server(
+            op,
             n,
             k,
             s,

@@ -1,4 +1,5 @@
--- An answer has one symbol for each row of the query, so it fills its slot.
+-- An answer has one symbol for each row of the query (`answer-length`), so it fills its slot (`answer-fits`). Rests on the number of
+-- rows of a layout (`layout-length`).
 use mathlib.Core.Path.{_≡_, sym, ap, _∙_}
 use mathlib.Core.Bool.{Bool, true, false}
 use mathlib.Core.List.{List, [], _∷_, zipWith}
@@ -14,13 +15,12 @@ use Rattle.parameters.specs.Measures.{evenSizes, evenRows}
 use Rattle.parameters.proofs.Bounds.{even-bounds}
 use Rattle.symbol.specs.Sum.{Sum, zeros, total, totalFrom}
 use Rattle.symbol.specs.Group.{KeepsLength}
-use Rattle.even_places.specs.Sets.{ones, members}
-use Rattle.even_places.specs.Rule.{rows, layout}
+use Rattle.even_places.specs.Rule.{onesIn, members, rows, layout}
 use Rattle.even_places.proofs.Counts.{rows-length}
 use Rattle.even_places.proofs.Joined.{same-layout}
 use Rattle.even_places.proofs.SetLaws.{setOf}
 use Rattle.even_places.proofs.AllSets.{layout-long}
-use Rattle.even_scheme.specs.Even.{symbolAt, rowAnswer, rowAnswers, evenAnswer, evenScheme}
+use Rattle.even_scheme.specs.Even.{symbolOf, rowAnswer, rowAnswers, evenAnswer, evenScheme}
 use Rattle.even_scheme.proofs.Measures.{rows-counted}
 use Rattle.even_scheme.proofs.Reach.{admitted}
 use Rattle.even_scheme.proofs.Symbols.{symbol-long}
@@ -49,7 +49,7 @@ module _ (sum : Sum) (N K S : ℕ) (keeps : KeepsLength (sum .plus) S) where
 
   module _ (store : List ℕ) (long : length store ≡ K * (N ^ K * S)) where
     named-long : {ps : List ℕ} → All (λ p. p < K) ps → (numbers : List ℕ) → Below (N ^ K) numbers
-        → All (λ x. length x ≡ S) (zipWith (symbolAt sum N K S store) ps numbers)
+        → All (λ x. length x ≡ S) (zipWith (symbolOf sum N K S store) ps numbers)
     unfolding zipWith
     named-long allNil numbers b = allNil
     named-long (allCons h a) [] b = allNil
@@ -61,11 +61,11 @@ module _ (sum : Sum) (N K S : ℕ) (keeps : KeepsLength (sum .plus) S) where
     unfolding rowAnswers rowAnswer
     rows-long allNil query b = sym (zero-mul S)
     rows-long (allCons {x = A} {xs = sets} h a) query b =
-        length-append (rowAnswer sum N K S store A query) (rowAnswers sum N K S store sets (drop (ones A) query))
+        length-append (rowAnswer sum N K S store A query) (rowAnswers sum N K S store sets (drop (onesIn A) query))
         ∙ omega (
           arith,
           total-long (named-long (members-below K 0 A (omega arith)) query b),
-          rows-long a (drop (ones A) query) (below-drop (N ^ K) (ones A) query b),
+          rows-long a (drop (onesIn A) query) (below-drop (N ^ K) (onesIn A) query b),
           suc-mul (length sets) S,
         )
 

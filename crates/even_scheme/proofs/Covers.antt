@@ -1,4 +1,5 @@
--- The recovered parts lie within the message and cover it, as they are its symbols, each once.
+-- The recovered parts lie within the message (`parts-within`) and cover it (`parts-cover`), as they are its symbols, each once
+-- (`symbols-once` in Once).
 use mathlib.Core.Path.{_≡_, sym, ap, _∙_}
 use mathlib.Core.Bool.{Bool, true}
 use mathlib.Core.List.{List, [], map}
@@ -15,11 +16,12 @@ use Rattle.lists.proofs.Arranged.{Permutation, covers}
 use Rattle.lists.proofs.Each.{All-get, All-imp, All-keep, All-flatMap, All-map}
 use Rattle.symbol.specs.Sum.{Sum}
 use Rattle.scheme.specs.Scheme.{Valid}
-use Rattle.even_places.specs.Sets.{has, ones}
+use Rattle.even_places.specs.Rule.{has, onesIn}
 use Rattle.even_places.proofs.RowNumbers.{WantedRow}
 use Rattle.even_places.proofs.AllSets.{IsSet, all-sets}
 use Rattle.even_scheme.specs.Even.{entryAt, recoveredSymbol, wantedPlace, recoveredPart, serverParts, recoveredParts, evenScheme}
-use Rattle.even_scheme.proofs.Assembled.{Part, Within, Covers}
+use Rattle.lists.specs.Assembled.{Part}
+use Rattle.lists.proofs.Assembled.{PartWithin, Covers}
 use Rattle.even_scheme.proofs.Once.{symbols-once}
 use Rattle.even_scheme.proofs.Symbols.{number-below}
 
@@ -28,7 +30,7 @@ module _ (sum : Sum) (N K S k : ℕ) (key : List ℕ) (answers : List (List ℕ)
   part n A i = recoveredPart sum N K S k key answers n A i
 
   setParts : ℕ → List Bool → List Part
-  setParts n A = map (part n A) (range 0 ((N - 1) ^ (ones A - 1)))
+  setParts n A = map (part n A) (range 0 ((N - 1) ^ (onesIn A - 1)))
 
   -- what holds of the part of each row with the wanted message holds of each part
   pub each-part : {P : Part → Type 0} → ((n : ℕ) (A : List Bool) (i : ℕ) → WantedRow N K k n A i → P (recoveredPart sum N K S k key answers n A i))
@@ -39,7 +41,9 @@ module _ (sum : Sum) (N K S k : ℕ) (key : List ℕ) (answers : List (List ℕ)
       (All-range N (λ n l. All-flatMap (setParts n) (All-imp (λ A h. of-set n l A (h .0) (h .1)) (All-keep (has k) (all-sets K)))))
     where
       of-set : (n : ℕ) → n < N → (A : List Bool) → IsSet K A → has k A ≡ true → All P (setParts n A)
-      of-set n l A good in-set = All-map (part n A) (All-range ((N - 1) ^ (ones A - 1)) (λ i h. p n A i (record { server-below = l; set-good = good; in-set = in-set; row-below = h })))
+      of-set n l A good in-set =
+          All-map (part n A)
+          (All-range ((N - 1) ^ (onesIn A - 1)) (λ i h. p n A i (record { server-below = l; set-good = good; in-set = in-set; row-below = h })))
 
 -- each recovered symbol has its length
 abbrev pub Whole : Sum → ℕ → ℕ → ℕ → ℕ → List (List ℕ) → Type 0
@@ -47,7 +51,7 @@ Whole sum N K S k answers = (n : ℕ) (A : List Bool) (i : ℕ) → WantedRow N 
 
 module _ (sum : Sum) (N K S k : ℕ) (key : List ℕ) (answers : List (List ℕ)) (wide : 1 < N) (known : k < K) (valid : Valid (evenScheme sum N K S) key)
     (whole : Whole sum N K S k answers) where
-  pub parts-within : All (Within (N ^ K * S)) (recoveredParts sum N K S k key answers)
+  pub parts-within : All (PartWithin (N ^ K * S)) (recoveredParts sum N K S k key answers)
   unfolding recoveredPart
   parts-within = each-part sum N K S k key answers (λ n A i wanted.
       let number = entryAt N K key k (wantedPlace sum N K S k n A i) in

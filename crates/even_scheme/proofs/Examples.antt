@@ -1,13 +1,12 @@
 -- The tables of source 003 for N = 2, K = 2 and N = 3, K = 3 (sections IV-A and IV-C), from the definitions by computation: one table
--- with one theorem.
+-- with one theorem (`examples`).
 use mathlib.Core.Path.{_≡_, refl}
 use mathlib.Core.List.{List, [], _∷_, map}
 use Prim.Native.Nat.{ℕ, suc, _-_, _^_}
 use Rattle.lists.specs.Ranges.{range}
 use Rattle.lists.specs.Sums.{All, allNil, allCons}
 use Rattle.symbol.specs.Xor.{xor}
-use Rattle.even_places.specs.Rule.{layout, positions, queryCells}
-use Rattle.even_places.specs.Sets.{members}
+use Rattle.even_places.specs.Rule.{members, queryCells, layout, positions}
 use Rattle.even_scheme.specs.Even.{permutation, entryAt, evenQuery, evenScheme}
 use Rattle.even_scheme.proofs.Keys.{keyOf}
 
@@ -51,4 +50,12 @@ table =
 pub examples : All Holds table
 unfolding Holds table evenQuery entryAt permutation queryCells keyOf range positions layout members
 examples =
-    allCons refl (allCons refl (allCons refl (allCons refl (allCons refl (allCons refl (allCons refl (allCons refl (allCons refl (allCons refl (allCons refl (allCons refl (allCons refl (allCons refl (allCons refl allNil))))))))))))))
+    allCons refl
+    (allCons refl
+    (allCons refl
+    (allCons refl
+    (allCons refl
+    (allCons refl
+    (allCons refl
+    (allCons refl
+    (allCons refl (allCons refl (allCons refl (allCons refl (allCons refl (allCons refl (allCons refl allNil))))))))))))))

@@ -1,5 +1,6 @@
--- The exchange of keys: for two wanted messages, the key that shows a server for one what a key shows it for the other. It keeps
--- validity, is undone by the opposite exchange, and shows the same query: a server learns nothing of the wanted message.
+-- The exchange of keys: for two wanted messages, each at a server, the key that shows the one server what a key shows the other (`moved`). It keeps
+-- validity (`moved-valid`), is undone by the opposite one (`moved-back`), and shows the same query (`moved-shown`). At one and the same server it is
+-- the exchange by which that server learns nothing of the wanted message: `evenExchange`.
 use Prim.Native.Nat.{ℕ, _^_, _<_}
 use mathlib.Core.Path.{_≡_, sym, ap, _∙_}
 use mathlib.Core.Bool.{true}
@@ -20,67 +21,79 @@ use Rattle.even_scheme.specs.Even.{permutation, entryAt, evenQuery, even
 use Rattle.even_scheme.proofs.Keys.{keyOf, key-permutation, key-whole, key-of, key-of-valid, key-same}
 use Rattle.even_scheme.proofs.Queries.{cells-labels}
 
-module _ (N K server : ℕ) where
-  -- the places of message p in the server's query for the wanted message, in query order, then those left, ascending
-  unfoldable pub order : ℕ → ℕ → List ℕ
-  order wanted p = completed (N ^ K) (under p (queryCells N K wanted server))
+module _ (N K : ℕ) where
+  -- the places of message p in a server's query for the wanted message, in query order, then those left, ascending
+  unfoldable pub order : ℕ → ℕ → ℕ → List ℕ
+  order server wanted p = completed (N ^ K) (under p (queryCells N K wanted server))
 
-  -- message p's permutation with, at place i of the order for `other`, what stands at place i of the order for `wanted`
-  unfoldable pub exchanged : ℕ → ℕ → List ℕ → ℕ → List ℕ
-  exchanged wanted other key p = arranged (order other p) (picked (permutation N K key p) (order wanted p))
+  -- message p's permutation with, at place i of the order of `to` for `other`, what stands at place i of the order of `from` for `wanted`
+  unfoldable pub movedAt : ℕ → ℕ → ℕ → ℕ → List ℕ → ℕ → List ℕ
+  movedAt from wanted to other key p = arranged (order to other p) (picked (permutation N K key p) (order from wanted p))
 
-  unfoldable pub evenExchange : ℕ → ℕ → List ℕ → List ℕ
-  evenExchange wanted other key = keyOf K (exchanged wanted other key)
+  unfoldable pub moved : ℕ → ℕ → ℕ → ℕ → List ℕ → List ℕ
+  moved from wanted to other key = keyOf K (movedAt from wanted to other key)
 
-  pub order-permutation : 1 < N → server < N → (wanted p : ℕ) → wanted < K → p < K → Permutation (N ^ K) (order wanted p)
+  abbrev pub evenExchange : ℕ → ℕ → ℕ → List ℕ → List ℕ
+  evenExchange server wanted other = moved server wanted server other
+
+  pub order-permutation : (server : ℕ) → 1 < N → server < N → (wanted p : ℕ) → wanted < K → p < K → Permutation (N ^ K) (order server wanted p)
   unfolding order
-  order-permutation wide there wanted p known h =
-      completed-permutation (N ^ K) (under p (queryCells N K wanted server)) (places-below N K wanted wide known server there p h) (places-distinct N K wanted wide known server there p h)
+  order-permutation server wide there wanted p known h =
+      completed-permutation (N ^ K) (under p (queryCells N K wanted server))
+      (places-below N K wanted wide known server there p h) (places-distinct N K wanted wide known server there p h)
 
-module _ (sum : Sum) (N K S : ℕ) (fits : evenFits N K S ≡ true) (server wanted other : ℕ) (key : List ℕ)
-    (there : server < N) (known : wanted < K) (known′ : other < K) (valid : Valid (evenScheme sum N K S) key) where
+module _ (sum : Sum) (N K S : ℕ) (fits : evenFits N K S ≡ true) (from wanted to other : ℕ) (key : List ℕ)
+    (there : from < N) (known : wanted < K) (there′ : to < N) (known′ : other < K) (valid : Valid (evenScheme sum N K S) key) where
   wide : 1 < N
   wide = even-bounds N K S fits .servers-low
 
-  exchanged-permutation : (p : ℕ) → p < K → Permutation (N ^ K) (exchanged N K server wanted other key p)
-  unfolding exchanged
-  exchanged-permutation p h =
-      arranged-permutation (N ^ K) (order N K server other p) (picked (permutation N K key p) (order N K server wanted p)) (order-permutation N K server wide there other p known′ h)
-      (picked-permutation (N ^ K) (permutation N K key p) (order N K server wanted p) (key-permutation sum N K S key valid p h) (order-permutation N K server wide there wanted p known h))
+  places : (p : ℕ) → p < K → Permutation (N ^ K) (order N K from wanted p)
+  places p h = order-permutation N K from wide there wanted p known h
 
-  pub exchange-valid : Valid (evenScheme sum N K S) (evenExchange N K server wanted other key)
-  unfolding evenExchange
-  exchange-valid = key-of-valid sum N K S (exchanged N K server wanted other key) exchanged-permutation
+  places′ : (p : ℕ) → p < K → Permutation (N ^ K) (order N K to other p)
+  places′ p h = order-permutation N K to wide there′ other p known′ h
 
-  exchange-at : (p : ℕ) → p < K → permutation N K (evenExchange N K server wanted other key) p ≡ exchanged N K server wanted other key p
-  unfolding evenExchange
-  exchange-at p h = key-of sum N K S (exchanged N K server wanted other key) exchanged-permutation p h
+  moved-permutation : (p : ℕ) → p < K → Permutation (N ^ K) (movedAt N K from wanted to other key p)
+  unfolding movedAt
+  moved-permutation p h =
+      arranged-permutation (N ^ K) (order N K to other p) (picked (permutation N K key p) (order N K from wanted p)) (places′ p h)
+      (picked-permutation (N ^ K) (permutation N K key p) (order N K from wanted p) (key-permutation sum N K S key valid p h) (places p h))
 
-  back : (p : ℕ) → p < K → exchanged N K server other wanted (evenExchange N K server wanted other key) p ≡ permutation N K key p
-  unfolding exchanged
+  pub moved-valid : Valid (evenScheme sum N K S) (moved N K from wanted to other key)
+  unfolding moved
+  moved-valid = key-of-valid sum N K S (movedAt N K from wanted to other key) moved-permutation
+
+  moved-at : (p : ℕ) → p < K → permutation N K (moved N K from wanted to other key) p ≡ movedAt N K from wanted to other key p
+  unfolding moved
+  moved-at p h = key-of sum N K S (movedAt N K from wanted to other key) moved-permutation p h
+
+  back : (p : ℕ) → p < K → movedAt N K to other from wanted (moved N K from wanted to other key) p ≡ permutation N K key p
+  unfolding movedAt
   back p h =
-      ap (λ l. arranged (order N K server wanted p) (picked l (order N K server other p))) (exchange-at p h)
-      ∙ carried-back (N ^ K) (order N K server other p) (order N K server wanted p) (permutation N K key p) (order-permutation N K server wide there other p known′ h) (order-permutation N K server wide there wanted p known h)
+      ap (λ l. arranged (order N K from wanted p) (picked l (order N K to other p))) (moved-at p h)
+      ∙ carried-back (N ^ K) (order N K to other p) (order N K from wanted p) (permutation N K key p) (places′ p h) (places p h)
       (key-permutation sum N K S key valid p h .long)
 
-  same-labels : map (λ cell. cell .0) (queryCells N K other server) ≡ map (λ cell. cell .0) (queryCells N K wanted server)
-  same-labels = cells-labels N K other server wide known′ there ∙ sym (cells-labels N K wanted server wide known there)
+  same-labels : map (λ cell. cell .0) (queryCells N K other to) ≡ map (λ cell. cell .0) (queryCells N K wanted from)
+  same-labels = cells-labels N K other to wide known′ there′ ∙ sym (cells-labels N K wanted from wide known there)
 
-  -- what the exchanged key has at message p's places for `other` is what the key has at those for `wanted`
+  -- what the moved key has at message p's places for `other` is what the key has at those for `wanted`
   shown : (p : ℕ) → p < K
-      → map (entryAt N K (evenExchange N K server wanted other key) p) (under p (queryCells N K other server)) ≡ map (entryAt N K key p) (under p (queryCells N K wanted server))
-  unfolding entryAt exchanged order picked
+      → map (entryAt N K (moved N K from wanted to other key) p) (under p (queryCells N K other to))
+      ≡ map (entryAt N K key p) (under p (queryCells N K wanted from))
+  unfolding entryAt movedAt order picked
   shown p h =
-      ap (λ l. picked l (under p (queryCells N K other server))) (exchange-at p h)
-      ∙ carried-shown (N ^ K) (under p (queryCells N K other server)) (under p (queryCells N K wanted server)) (order-permutation N K server wide there other p known′ h)
-      (under-length p (queryCells N K other server) (queryCells N K wanted server) same-labels) (permutation N K key p)
+      ap (λ l. picked l (under p (queryCells N K other to))) (moved-at p h)
+      ∙ carried-shown (N ^ K) (under p (queryCells N K other to)) (under p (queryCells N K wanted from)) (places′ p h)
+      (under-length p (queryCells N K other to) (queryCells N K wanted from) same-labels) (permutation N K key p)
 
-  pub exchange-back : evenExchange N K server other wanted (evenExchange N K server wanted other key) ≡ key
-  unfolding evenExchange
-  exchange-back = key-same K (exchanged N K server other wanted (evenExchange N K server wanted other key)) (permutation N K key) back ∙ key-whole sum N K S key valid
+  pub moved-back : moved N K to other from wanted (moved N K from wanted to other key) ≡ key
+  unfolding moved
+  moved-back =
+      key-same K (movedAt N K to other from wanted (moved N K from wanted to other key)) (permutation N K key) back ∙ key-whole sum N K S key valid
 
-  pub exchange-shown : evenScheme sum N K S .query other server (evenExchange N K server wanted other key) ≡ evenScheme sum N K S .query wanted server key
+  pub moved-shown : evenScheme sum N K S .query other to (moved N K from wanted to other key) ≡ evenScheme sum N K S .query wanted from key
   unfolding evenQuery
-  exchange-shown =
-      same-under (entryAt N K (evenExchange N K server wanted other key)) (entryAt N K key) K (queryCells N K wanted server)
-      (All-imp (λ cell h. h .0) (cells-inside N K other wide known′ server there)) same-labels shown
+  moved-shown =
+      same-under (entryAt N K (moved N K from wanted to other key)) (entryAt N K key) K (queryCells N K wanted from)
+      (All-imp (λ cell h. h .0) (cells-inside N K other wide known′ to there′)) same-labels shown

@@ -1,4 +1,5 @@
--- What the honest servers answer: for each row of the query the total of the symbols that its places name through the key.
+-- What the honest servers answer: for each row of the query the total of the symbols that its places name through the key
+-- (`honest-row`). Rests on the sets of a query's rows, which the server knows.
 use mathlib.Core.Path.{_≡_, refl, sym, ap, _∙_}
 use mathlib.Core.Bool.{Bool}
 use mathlib.Core.List.{List, [], _∷_, _++_, map, map-append, flatMap, zipWith}
@@ -18,14 +19,13 @@ use Rattle.symbol.specs.Group.{AbelianGroup, Symbols, none, more}
 use Rattle.symbol.specs.Sum.{Sum, total}
 use Rattle.symbol.proofs.Totals.{total-symbol}
 use Rattle.scheme.specs.Scheme.{Valid, honestAnswers}
-use Rattle.even_places.specs.Sets.{ones, members}
-use Rattle.even_places.specs.Rule.{Row, isSome, rows, cells, queryCells, layout, firstRow}
+use Rattle.even_places.specs.Rule.{onesIn, members, Row, isSome, cells, rows, queryCells, layout, firstRow}
 use Rattle.even_places.proofs.Flat.{cells-messages, rows-long}
 use Rattle.even_places.proofs.Joined.{same-layout}
 use Rattle.even_places.proofs.RowNumbers.{setRows, row-number}
 use Rattle.even_places.proofs.SetLaws.{setOf, cells-length}
 use Rattle.even_places.proofs.AllSets.{IsSet}
-use Rattle.even_scheme.specs.Even.{entryAt, evenQuery, symbolAt, rowAnswer, rowAnswers, evenAnswer, answeredRow, evenScheme}
+use Rattle.even_scheme.specs.Even.{entryAt, evenQuery, symbolOf, rowAnswer, rowAnswers, evenAnswer, answeredRow, evenScheme}
 use Rattle.even_scheme.proofs.Symbols.{number-below, symbol-symbol}
 
 module _ (sum : Sum) (N K S : ℕ) (store key : List ℕ) where
@@ -34,14 +34,14 @@ module _ (sum : Sum) (N K S : ℕ) (store key : List ℕ) where
   cellNumber cell = entryAt N K key (cell .0) (cell .1)
 
   unfoldable pub cellSymbol : ℕ × ℕ → List ℕ
-  cellSymbol cell = symbolAt sum N K S store (cell .0) (cellNumber cell)
+  cellSymbol cell = symbolOf sum N K S store (cell .0) (cellNumber cell)
 
   -- the total of a row's symbols
   unfoldable pub rowTotal : Row → List ℕ
   rowTotal r = total sum S (map cellSymbol (cells 0 r))
 
   cells-named : (q : ℕ) (r : Row) (later : List ℕ)
-      → zipWith (symbolAt sum N K S store) (members q (setOf r)) (map cellNumber (cells q r) ++ later) ≡ map cellSymbol (cells q r)
+      → zipWith (symbolOf sum N K S store) (members q (setOf r)) (map cellNumber (cells q r) ++ later) ≡ map cellSymbol (cells q r)
   unfolding zipWith members setOf isSome cells cellSymbol
   cells-named q [] later = refl
   cells-named q (none ∷ r) later = cells-named (suc q) r later
@@ -55,8 +55,9 @@ module _ (sum : Sum) (N K S : ℕ) (store key : List ℕ) where
       rw (map-append cellNumber (cells 0 r) (flatMap (cells 0) rs), cells-named 0 r (map cellNumber (flatMap (cells 0) rs)), rest)
       (ap (λ (l : List ℕ). rowTotal r ++ l) (rows-answered rs))
     where
-      rest : drop (ones (setOf r)) (map cellNumber (cells 0 r) ++ map cellNumber (flatMap (cells 0) rs)) ≡ map cellNumber (flatMap (cells 0) rs)
-      rest = drop-at (map cellNumber (cells 0 r)) (map cellNumber (flatMap (cells 0) rs)) (ones (setOf r)) (length-map (cells 0 r) cellNumber ∙ cells-length 0 r)
+      rest : drop (onesIn (setOf r)) (map cellNumber (cells 0 r) ++ map cellNumber (flatMap (cells 0) rs)) ≡ map cellNumber (flatMap (cells 0) rs)
+      rest = drop-at (map cellNumber (cells 0 r)) (map cellNumber (flatMap (cells 0) rs)) (onesIn (setOf r))
+          (length-map (cells 0 r) cellNumber ∙ cells-length 0 r)
 
   answer-rows : (k n : ℕ) → 1 < N → k < K → n < N → evenAnswer sum N K S store (evenQuery N K k n key) ≡ flatMap rowTotal (rows N K k n)
   unfolding evenAnswer evenQuery queryCells cellNumber
@@ -92,14 +93,15 @@ module _ (sum : Sum) (N K S k : ℕ) (store key : List ℕ) (run : Retrieval sum
   row-symbols r e = cell-symbols (All-imp (λ cell h. omega (arith, h)) (cells-messages r 0))
 
   -- row i of set A in server n's answer
-  pub honest-row : (n : ℕ) → n < N → (A : List Bool) (i : ℕ) → IsSet K A → i < (N - 1) ^ (ones A - 1)
+  pub honest-row : (n : ℕ) → n < N → (A : List Bool) (i : ℕ) → IsSet K A → i < (N - 1) ^ (onesIn A - 1)
       → answeredRow sum N K S k (honestAnswers (evenScheme sum N K S) N store k key) n (firstRow A (layout N K) + i)
       ≡ rowTotal sum N K S store key (getD (setRows N K k n A) i [])
   unfolding answeredRow honestAnswers rowTotal
   honest-row n l A i set-good h =
-      ap (cut ((firstRow A (layout N K) + i) * S) S) (mapped-at (λ m. evenAnswer sum N K S store (evenQuery N K k m key)) [] N n l ∙ answer-rows sum N K S store key k n (run .wide) (run .known) l)
+      ap (cut ((firstRow A (layout N K) + i) * S) S)
+      (mapped-at (λ m. evenAnswer sum N K S store (evenQuery N K k m key)) [] N n l ∙ answer-rows sum N K S store key k n (run .wide) (run .known) l)
       ∙ flatMap-cut (rowTotal sum N K S store key) S []
-      (All-imp (λ r e. total-symbol sum S (run .group) (row-symbols r e) .long) (rows-long N K k (run .wide) (run .known) n))
+      (All-imp (λ r e. total-symbol sum S (run .group) (row-symbols r e) .long) (rows-long N K k (run .wide) (run .known) n l))
       (firstRow A (layout N K) + i) (number .0)
       ∙ ap (rowTotal sum N K S store key) (number .1)
     where

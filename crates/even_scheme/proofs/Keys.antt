@@ -1,4 +1,5 @@
--- Keys: a valid key is K permutations (`key-permutation`), and any K permutations are a valid key (`key-of`, `key-of-valid`).
+-- Keys: a valid key is K permutations (`key-permutation`), and any K permutations are a valid key (`key-of`, `key-of-valid`), which is
+-- given back by its permutations (`key-whole`).
 use Prim.Native.Nat.{ℕ, _*_, _^_, _<_}
 use native.Mathlib.Nat.{zero-add}
 use native.Mathlib.Omega.{arith}

@@ -4,6 +4,7 @@ pub mod Queries
 pub mod Exchange
 pub mod Reach
 pub mod Renaming
+pub mod EqualReach
 pub mod Examples
 pub mod Symbols
 pub mod Answers
@@ -11,7 +12,6 @@ pub mod HonestRows
 pub mod RowSymbols
 pub mod Recovery
 pub mod Once
-pub mod Assembled
 pub mod Covers
 pub mod Recovers
 pub mod Written

@@ -1,4 +1,5 @@
--- Sizes: those that the laws ask for, and the rows of a query as document 01 counts them and as the place rule makes them.
+-- Sizes: those that the laws of a scheme ask for (`key-fits`, `store-whole`), and the rows of a query as document 01 counts them and
+-- as the place rule makes them (`rows-counted`).
 use Prim.Native.Nat.{ℕ, _*_, _^_, _≤_, _<_}
 use native.Mathlib.Nat.{mul-le-mul}
 use native.Mathlib.Omega.{arith}

@@ -33,7 +33,8 @@ module _ (N K wanted server : ℕ) (wide : 1 < N) (known : wanted < K) (there : 
   cells-labels = same-members N K wanted server wide known there
 
   -- the numbers that a query names of a message are what the key has at the message's places
-  pub query-numbers : (p : ℕ) (key : List ℕ) → numbersOf N K p (evenQuery N K wanted server key) ≡ picked (permutation N K key p) (under p (queryCells N K wanted server))
+  pub query-numbers : (p : ℕ) (key : List ℕ)
+      → numbersOf N K p (evenQuery N K wanted server key) ≡ picked (permutation N K key p) (under p (queryCells N K wanted server))
   unfolding numbersOf evenQuery picked entryAt under
   query-numbers p key =
       ap (λ l. under p (zip l (evenQuery N K wanted server key))) (sym cells-labels)
@@ -44,13 +45,16 @@ module _ (N K wanted server : ℕ) (wide : 1 < N) (known : wanted < K) (there : 
   whole query long = positions-length N K wide (omega arith) ∙ sym long
 
   -- so a list of a query's length names as many numbers of a message as the message has places
-  pub numbers-many : (p : ℕ) (query : List ℕ) → length query ≡ K * N ^ (K - 1) → length (under p (queryCells N K wanted server)) ≡ length (numbersOf N K p query)
+  pub numbers-many : (p : ℕ) (query : List ℕ) → length query ≡ K * N ^ (K - 1)
+      → length (under p (queryCells N K wanted server)) ≡ length (numbersOf N K p query)
   unfolding numbersOf under
-  numbers-many p query long = under-length p (queryCells N K wanted server) (zip (positions N K) query) (cells-labels ∙ sym (zip-firsts (positions N K) query (whole query long)))
+  numbers-many p query long =
+      under-length p (queryCells N K wanted server) (zip (positions N K) query) (cells-labels ∙ sym (zip-firsts (positions N K) query (whole query long)))
 
   -- and it is the query as soon as it names the numbers that the key has there
   pub query-is : (key query : List ℕ) → length query ≡ K * N ^ (K - 1)
-      → ((p : ℕ) → p < K → picked (permutation N K key p) (under p (queryCells N K wanted server)) ≡ numbersOf N K p query) → evenQuery N K wanted server key ≡ query
+      → ((p : ℕ) → p < K → picked (permutation N K key p) (under p (queryCells N K wanted server)) ≡ numbersOf N K p query)
+      → evenQuery N K wanted server key ≡ query
   unfolding evenQuery entryAt picked numbersOf under
   query-is key query long numbers =
       same-under (entryAt N K key) (λ p v. v) K (zip (positions N K) query) (All-imp (λ cell h. h .0) (cells-inside N K wanted wide known server there))

@@ -1,4 +1,5 @@
 -- Nothing that is admitted is out of reach: for each server, wanted message and admitted query, a valid key gives the query (`reach`).
+-- The key is the query's numbers, completed to permutations.
 use Prim.Native.Nat.{ℕ, _*_, _-_, _^_, _<_}
 use mathlib.Core.Path.{_≡_, ap, _∙_}
 use mathlib.Core.Bool.{true, _&&_}
@@ -19,7 +20,7 @@ use Rattle.lists.proofs.Pairs.{under-below}
 use Rattle.lists.proofs.Every.{every-at}
 use Rattle.parameters.specs.Bounds.{evenFits}
 use Rattle.parameters.proofs.Bounds.{even-bounds}
-use Rattle.scheme.specs.Scheme.{Valid}
+use Rattle.scheme.specs.Reach.{Gives}
 use Rattle.symbol.specs.Sum.{Sum}
 use Rattle.even_places.specs.Rule.{queryCells, positions}
 use Rattle.even_scheme.specs.Even.{permutation, numbersOf, evenAdmits, evenScheme}
@@ -60,11 +61,6 @@ module _ (N K : ℕ) where
   unfolding named numbersOf under
   named-permutation query a p h = completed-permutation (N ^ K) (numbersOf N K p query) (under-below (N ^ K) p (positions N K) query (a .low)) (a .apart p h)
 
--- a valid key that gives a server a query for the wanted message
-pub record Gives (sum : Sum) (N K S server wanted : ℕ) (query key : List ℕ) : Type 0 where
-  pub valid : Valid (evenScheme sum N K S) key
-  pub shown : evenScheme sum N K S .query wanted server key ≡ query
-
 module _ (sum : Sum) (N K S : ℕ) (fits : evenFits N K S ≡ true) (server wanted : ℕ) (query : List ℕ)
     (there : server < N) (known : wanted < K) (admits : evenScheme sum N K S .admits server query ≡ true) where
   wide : 1 < N
@@ -76,14 +72,16 @@ module _ (sum : Sum) (N K S : ℕ) (fits : evenFits N K S ≡ true) (server want
       arranged-permutation (N ^ K) (order N K server wanted p) (named N K query p) (order-permutation N K server wide there wanted p known h)
       (named-permutation N K query (admitted N K server query admits) p h)
 
-  reached-shown : (p : ℕ) → p < K → picked (permutation N K (reached N K server wanted query) p) (under p (queryCells N K wanted server)) ≡ numbersOf N K p query
+  reached-shown : (p : ℕ) → p < K
+      → picked (permutation N K (reached N K server wanted query) p) (under p (queryCells N K wanted server)) ≡ numbersOf N K p query
   unfolding reached reachedAt named order
   reached-shown p h =
       ap (λ l. picked l (under p (queryCells N K wanted server))) (key-of sum N K S (reachedAt N K server wanted query) reached-permutation p h)
-      ∙ completed-shown (N ^ K) (under p (queryCells N K wanted server)) (numbersOf N K p query) (order-permutation N K server wide there wanted p known h)
+      ∙ completed-shown (N ^ K) (under p (queryCells N K wanted server)) (numbersOf N K p query)
+      (order-permutation N K server wide there wanted p known h)
       (numbers-many N K wanted server wide known there p query (admitted N K server query admits .long))
 
-  pub reach : Gives sum N K S server wanted query (reached N K server wanted query)
+  pub reach : Gives (evenScheme sum N K S) wanted server query (reached N K server wanted query)
   unfolding reached
   reach =
       record {

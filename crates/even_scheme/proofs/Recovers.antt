@@ -1,4 +1,5 @@
--- The honest answers give the wanted message: each recovered part is a symbol of it, and they cover it.
+-- The honest answers give the wanted message (`recovers`): each recovered part is a symbol of it (Recovery), and they cover it
+-- (Covers).
 use mathlib.Core.Path.{_≡_, sym, ap, _∙_}
 use mathlib.Core.Bool.{true}
 use mathlib.Core.List.{List}
@@ -17,7 +18,7 @@ use Rattle.symbol.specs.Group.{AbelianGroup}
 use Rattle.symbol.specs.Sum.{Sum, zeros}
 use Rattle.scheme.specs.Scheme.{Valid, messageOf, honestAnswers}
 use Rattle.even_scheme.specs.Even.{entryAt, wantedPlace, recoveredPart, recoveredParts, evenScheme}
-use Rattle.even_scheme.proofs.Assembled.{Of, assemble-message}
+use Rattle.lists.proofs.Assembled.{PartOf, assemble-message}
 use Rattle.even_scheme.proofs.Covers.{each-part, Whole, parts-cover}
 use Rattle.even_scheme.proofs.HonestRows.{Retrieval, number-small}
 use Rattle.even_scheme.proofs.Recovery.{recovered}
@@ -41,9 +42,10 @@ module _ (sum : Sum) (N K S k : ℕ) (store key : List ℕ) (run : Retrieval sum
   unfolding answers
   whole n A i wanted =
       let place = wantedPlace sum N K S k n A i in
-      ap length (recovered sum N K S k store key run n A i wanted) ∙ symbol-long sum N K S store (run .long) k (entryAt N K key k place) (run .known) (wanted-small place)
+      ap length (recovered sum N K S k store key run n A i wanted)
+      ∙ symbol-long sum N K S store (run .long) k (entryAt N K key k place) (run .known) (wanted-small place)
 
-  parts-of : All (Of message) (recoveredParts sum N K S k key answers)
+  parts-of : All (PartOf message) (recoveredParts sum N K S k key answers)
   unfolding recoveredPart answers message
   parts-of = each-part sum N K S k key answers (λ n A i wanted.
       let number = entryAt N K key k (wantedPlace sum N K S k n A i) in

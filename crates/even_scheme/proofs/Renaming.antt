@@ -12,12 +12,13 @@ use Rattle.lists.proofs.Completed.{completed-shown}
 use Rattle.parameters.specs.Bounds.{evenFits}
 use Rattle.parameters.proofs.Bounds.{even-bounds}
 use Rattle.symbol.specs.Sum.{Sum}
+use Rattle.scheme.specs.Reach.{Gives}
 use Rattle.even_places.specs.Rule.{queryCells}
 use Rattle.even_places.proofs.Flat.{places-below}
 use Rattle.even_scheme.specs.Even.{permutation, numbersOf, evenScheme}
 use Rattle.even_scheme.proofs.Keys.{keyOf, key-permutation, key-whole, key-of, key-of-valid, key-same}
 use Rattle.even_scheme.proofs.Queries.{query-numbers, query-is, numbers-many}
-use Rattle.even_scheme.proofs.Reach.{Gives, named, named-permutation, admitted}
+use Rattle.even_scheme.proofs.Reach.{named, named-permutation, admitted}
 
 module _ (N K : ℕ) where
   -- message p's permutation with its numbers renamed as one query's become another's
@@ -28,8 +29,9 @@ module _ (N K : ℕ) where
   renamed query other key = keyOf K (renamedAt query other key)
 
 module _ (sum : Sum) (N K S : ℕ) (fits : evenFits N K S ≡ true) (server wanted : ℕ) (query other key : List ℕ)
-    (there : server < N) (known : wanted < K) (admits : evenScheme sum N K S .admits server query ≡ true) (admits′ : evenScheme sum N K S .admits server other ≡ true)
-    (gives : Gives sum N K S server wanted query key) where
+    (there : server < N) (known : wanted < K)
+    (admits : evenScheme sum N K S .admits server query ≡ true) (admits′ : evenScheme sum N K S .admits server other ≡ true)
+    (gives : Gives (evenScheme sum N K S) wanted server query key) where
   wide : 1 < N
   wide = even-bounds N K S fits .servers-low
 
@@ -49,7 +51,8 @@ module _ (sum : Sum) (N K S : ℕ) (fits : evenFits N K S ≡ true) (server want
   unfolding renamed
   renamed-at p h = key-of sum N K S (renamedAt N K query other key) renamed-permutation p h
 
-  renamed-shown : (p : ℕ) → p < K → picked (permutation N K (renamed N K query other key) p) (under p (queryCells N K wanted server)) ≡ numbersOf N K p other
+  renamed-shown : (p : ℕ) → p < K
+      → picked (permutation N K (renamed N K query other key) p) (under p (queryCells N K wanted server)) ≡ numbersOf N K p other
   unfolding renamedAt named
   renamed-shown p h =
       let places = under p (queryCells N K wanted server) in
@@ -57,14 +60,16 @@ module _ (sum : Sum) (N K S : ℕ) (fits : evenFits N K S ≡ true) (server want
       let rename = arranged (named N K query p) (named N K other p) in
       let long : length P ≡ N ^ K = key-permutation sum N K S key (gives .valid) p h .long in
       let many : length (numbersOf N K p query) ≡ length (numbersOf N K p other) =
-      sym (numbers-many N K wanted server wide known there p query (admitted N K server query admits .long)) ∙ numbers-many N K wanted server wide known there p other (admitted N K server other admits′ .long) in
+      sym (numbers-many N K wanted server wide known there p query (admitted N K server query admits .long))
+      ∙ numbers-many N K wanted server wide known there p other (admitted N K server other admits′ .long) in
       ap (λ l. picked l places) (renamed-at p h)
-      ∙ picked-picked rename P places (λ i l. subst (λ (n : ℕ). getD places i 0 < n) (sym long) (places-below N K wanted wide known server there p h i l))
+      ∙ picked-picked rename P places
+      (λ i l. subst (λ (n : ℕ). getD places i 0 < n) (sym long) (places-below N K wanted wide known server there p h i l))
       ∙ ap (picked rename) (sym (query-numbers N K wanted server wide known there p key) ∙ ap (numbersOf N K p) (gives .shown))
       ∙ completed-shown (N ^ K) (numbersOf N K p query) (numbersOf N K p other) (names p h) many
 
   -- renaming takes the keys that give a query to those that give another
-  pub renamed-gives : Gives sum N K S server wanted other (renamed N K query other key)
+  pub renamed-gives : Gives (evenScheme sum N K S) wanted server other (renamed N K query other key)
   unfolding renamed
   renamed-gives =
       record {
@@ -76,9 +81,11 @@ module _ (sum : Sum) (N K S : ℕ) (fits : evenFits N K S ≡ true) (server want
   unfolding renamedAt
   renamed-undone p h =
       ap (picked (arranged (named N K other p) (named N K query p))) (renamed-at p h)
-      ∙ renamed-back (N ^ K) (named N K query p) (named N K other p) (permutation N K key p) (names p h) (names′ p h) (permutation-tests (N ^ K) (permutation N K key p) (key-permutation sum N K S key (gives .valid) p h) .0)
+      ∙ renamed-back (N ^ K) (named N K query p) (named N K other p) (permutation N K key p) (names p h) (names′ p h)
+      (permutation-tests (N ^ K) (permutation N K key p) (key-permutation sum N K S key (gives .valid) p h) .0)
 
   -- and the opposite renaming takes them back: so there are equally many of either
   pub renamed-once : renamed N K other query (renamed N K query other key) ≡ key
   unfolding renamed
-  renamed-once = key-same K (renamedAt N K other query (renamed N K query other key)) (permutation N K key) renamed-undone ∙ key-whole sum N K S key (gives .valid)
+  renamed-once =
+      key-same K (renamedAt N K other query (renamed N K query other key)) (permutation N K key) renamed-undone ∙ key-whole sum N K S key (gives .valid)

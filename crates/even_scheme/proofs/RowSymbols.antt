@@ -1,5 +1,5 @@
--- The symbol of the wanted message in a row's total: a row with no other message is that symbol, and any other is one symbol more
--- than the row without that message.
+-- The symbol of the wanted message in a row's total: a row with no other message is that symbol (`row-alone`), and any other is one
+-- symbol more than the row without that message (`row-more`).
 use mathlib.Core.Path.{_≡_, refl, sym, ap, _∙_}
 use mathlib.Core.List.{List, [], _∷_, _++_, map, map-append}
 use mathlib.Core.Option.{none, some, Option·some-injective}
@@ -10,10 +10,9 @@ use lib.ListN.{length, getD, set, length-append, length-map}
 use Rattle.symbol.specs.Group.{Symbols, none, more}
 use Rattle.symbol.specs.Sum.{Symbol, Sum, total, totalFrom}
 use Rattle.symbol.proofs.Totals.{total-found}
-use Rattle.even_places.specs.Sets.{ones}
-use Rattle.even_places.specs.Rule.{Row, cells}
+use Rattle.even_places.specs.Rule.{onesIn, Row, cells}
 use Rattle.even_places.proofs.SetLaws.{setOf, cells-length}
-use Rattle.even_scheme.specs.Even.{entryAt, symbolAt}
+use Rattle.even_scheme.specs.Even.{entryAt, symbolOf}
 use Rattle.even_scheme.proofs.HonestRows.{cellNumber, cellSymbol, rowTotal, Retrieval, row-symbols}
 
 nothing : {x : ℕ} → none ≡ some x → ⊥
@@ -56,11 +55,13 @@ around q (suc k) x (some y ∷ r) e =
       without = ap (λ (l : List (ℕ × ℕ)). (q, y) ∷ l) (rest .without);
     }
 
-symbols-split : {size : ℕ} (xs : List (List ℕ)) {x : List ℕ} {ys : List (List ℕ)} → Symbols size (xs ++ x ∷ ys) → Symbols size xs × Symbol size x × Symbols size ys
+symbols-split : {size : ℕ} (xs : List (List ℕ)) {x : List ℕ} {ys : List (List ℕ)} → Symbols size (xs ++ x ∷ ys)
+    → Symbols size xs × Symbol size x × Symbols size ys
 symbols-split [] (more p ps) = (none, p, ps)
 symbols-split (y ∷ xs) (more p ps) = let rest = symbols-split xs ps in (more p (rest .0), rest .1, rest .2)
 
-module _ (sum : Sum) (N K S k : ℕ) (store key : List ℕ) (run : Retrieval sum N K S k store key) (r : Row) (x : ℕ) (long : length r ≡ K) (place : getD r k none ≡ some x) where
+module _ (sum : Sum) (N K S k : ℕ) (store key : List ℕ) (run : Retrieval sum N K S k store key) (r : Row) (x : ℕ) (long : length r ≡ K)
+    (place : getD r k none ≡ some x) where
   around-wanted : Around 0 k x r
   around-wanted = around 0 k x r place
 
@@ -81,12 +82,12 @@ module _ (sum : Sum) (N K S k : ℕ) (store key : List ℕ) (run : Retrieval sum
   unfolding named
   parts = symbols-split before (rw whole at (row-symbols sum N K S k store key run r long))
 
-  wanted-cell : named (0 + k, x) ≡ symbolAt sum N K S store k (entryAt N K key k x)
+  wanted-cell : named (0 + k, x) ≡ symbolOf sum N K S store k (entryAt N K key k x)
   unfolding named cellSymbol cellNumber
   wanted-cell = ap (λ (p : ℕ). named (p, x)) (zero-add k)
 
   -- a row is one symbol more than the row without the wanted message
-  pub row-more : sum .minus (rowTotal sum N K S store key r) (rowTotal sum N K S store key (set r k none)) ≡ symbolAt sum N K S store k (entryAt N K key k x)
+  pub row-more : sum .minus (rowTotal sum N K S store key r) (rowTotal sum N K S store key (set r k none)) ≡ symbolOf sum N K S store k (entryAt N K key k x)
   unfolding rowTotal named before after
   row-more =
       rw (whole, ap (map named) (around-wanted .without) ∙ map-append named (around-wanted .before) (around-wanted .after))
@@ -94,7 +95,7 @@ module _ (sum : Sum) (N K S k : ℕ) (store key : List ℕ) (run : Retrieval sum
       ∙ wanted-cell
 
   -- a row with the wanted message alone is its symbol
-  pub row-alone : ones (setOf r) ≡ 1 → rowTotal sum N K S store key r ≡ symbolAt sum N K S store k (entryAt N K key k x)
+  pub row-alone : onesIn (setOf r) ≡ 1 → rowTotal sum N K S store key r ≡ symbolOf sum N K S store k (entryAt N K key k x)
   unfolding rowTotal named total totalFrom
   row-alone one = ap (total sum S) whole ∙ go before after (sym (ap length whole) ∙ length-map (cells 0 r) named ∙ cells-length 0 r ∙ one) ∙ wanted-cell
     where

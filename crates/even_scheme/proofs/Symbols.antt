@@ -1,4 +1,5 @@
--- The symbols that a valid key's numbers name: each lies whole in the store, and in its message at its number.
+-- The symbols that a valid key's numbers name: each lies whole in the store (`symbol-long`, `symbol-symbol`), and in its message at
+-- its number (`symbol-part`).
 use mathlib.Core.Path.{_≡_, sym, ap, _∙_}
 use mathlib.Core.Bool.{true}
 use mathlib.Core.List.{List}
@@ -15,7 +16,7 @@ use Rattle.lists.proofs.Below.{below-take, below-drop}
 use Rattle.lists.proofs.Cuts.{cut-length, cut-cut}
 use Rattle.lists.proofs.Every.{every-at}
 use Rattle.symbol.specs.Sum.{Symbol, Sum}
-use Rattle.even_scheme.specs.Even.{permutation, entryAt, evenKeyGood, symbolAt}
+use Rattle.even_scheme.specs.Even.{permutation, entryAt, evenKeyGood, symbolOf}
 
 -- ---- The key's numbers
 
@@ -43,15 +44,16 @@ module _ (sum : Sum) (N K S : ℕ) (store : List ℕ) (long : length store ≡ K
   offset : (p * N ^ K + i) * S ≡ p * (N ^ K * S) + i * S
   offset = omega (arith, add-mul (p * N ^ K) i S, mul-assoc p (N ^ K) S)
 
-  pub symbol-long : length (symbolAt sum N K S store p i) ≡ S
-  unfolding symbolAt
+  pub symbol-long : length (symbolOf sum N K S store p i) ≡ S
+  unfolding symbolOf
   symbol-long = cut-length ((p * N ^ K + i) * S) S store (omega (arith, offset, within-message, within-store))
 
-  pub symbol-symbol : Below 256 store → Symbol S (symbolAt sum N K S store p i)
-  unfolding symbolAt
-  symbol-symbol bytes = record { long = symbol-long; bytes = below-take 256 S (drop ((p * N ^ K + i) * S) store) (below-drop 256 ((p * N ^ K + i) * S) store bytes) }
+  pub symbol-symbol : Below 256 store → Symbol S (symbolOf sum N K S store p i)
+  unfolding symbolOf
+  symbol-symbol bytes =
+      record { long = symbol-long; bytes = below-take 256 S (drop ((p * N ^ K + i) * S) store) (below-drop 256 ((p * N ^ K + i) * S) store bytes) }
 
   -- symbol i of message p is that part of the message
-  pub symbol-part : symbolAt sum N K S store p i ≡ cut (i * S) S (cut (p * (N ^ K * S)) (N ^ K * S) store)
-  unfolding symbolAt
+  pub symbol-part : symbolOf sum N K S store p i ≡ cut (i * S) S (cut (p * (N ^ K * S)) (N ^ K * S) store)
+  unfolding symbolOf
   symbol-part = ap (λ (at : ℕ). cut at S store) offset ∙ sym (cut-cut (i * S) S (p * (N ^ K * S)) (N ^ K * S) store within-message)

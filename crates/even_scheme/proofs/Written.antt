@@ -19,14 +19,14 @@ use Rattle.parameters.proofs.Bounds.{EvenBounds, even-bounds}
 use Rattle.symbol.specs.Sum.{Sum, zeros}
 use Rattle.symbol.specs.Group.{KeepsLength}
 use Rattle.scheme.specs.Scheme.{Valid, answersIn, recoverIn}
-use Rattle.even_places.specs.Sets.{ones}
-use Rattle.even_places.specs.Rule.{others, firstRow, layout}
+use Rattle.even_places.specs.Rule.{onesIn, others, layout, firstRow}
 use Rattle.even_places.proofs.Counts.{rows-length}
 use Rattle.even_places.proofs.RowNumbers.{row-number}
 use Rattle.even_places.proofs.SourceRows.{source-row}
 use Rattle.even_places.proofs.AllSets.{IsSet}
-use Rattle.even_scheme.specs.Even.{assemble, answeredRow, sourceServer, sourceRow, recoveredSymbol, recoveredParts, evenScheme}
-use Rattle.even_scheme.proofs.Assembled.{Within, assemble-anywhere}
+use Rattle.lists.specs.Assembled.{assemble}
+use Rattle.even_scheme.specs.Even.{answeredRow, sourceServer, sourceRow, recoveredSymbol, recoveredParts, evenScheme}
+use Rattle.lists.proofs.Assembled.{PartWithin, assemble-anywhere}
 use Rattle.even_scheme.proofs.Covers.{Whole, parts-within, parts-cover}
 use Rattle.even_scheme.proofs.Measures.{rows-counted}
 
@@ -34,26 +34,32 @@ use Rattle.even_scheme.proofs.Measures.{rows-counted}
 abbrev pub FullAnswers : ℕ → ℕ → ℕ → List (List ℕ) → Type 0
 FullAnswers N K S answers = (n : ℕ) → n < N → length (getD answers n []) ≡ evenRows N K * S
 
-module _ (sum : Sum) (N K S k : ℕ) (keeps : KeepsLength (sum .minus) S) (wide : 1 < N) (known : k < K) (answers : List (List ℕ)) (long : FullAnswers N K S answers) where
+module _ (sum : Sum) (N K S k : ℕ) (keeps : KeepsLength (sum .minus) S) (wide : 1 < N) (known : k < K) (answers : List (List ℕ))
+    (long : FullAnswers N K S answers) where
   -- row i of set A lies whole in a server's answer
-  answered-long : (n : ℕ) → n < N → (A : List Bool) → IsSet K A → (i : ℕ) → i < (N - 1) ^ (ones A - 1)
+  answered-long : (n : ℕ) → n < N → (A : List Bool) → IsSet K A → (i : ℕ) → i < (N - 1) ^ (onesIn A - 1)
       → length (answeredRow sum N K S k answers n (firstRow A (layout N K) + i)) ≡ S
   unfolding answeredRow
   answered-long n l A good i h =
       let row = firstRow A (layout N K) + i in
       let below : row < evenRows N K =
-      omega (arith, row-number N K k wide known n l A i good h .0, rows-length N K k wide known n l, rows-counted N K wide (let w : 0 < K = omega arith in w)) in
+      omega (
+        arith,
+        row-number N K k wide known n l A i good h .0,
+        rows-length N K k wide known n l,
+        rows-counted N K wide (let w : 0 < K = omega arith in w),
+      ) in
       cut-length (row * S) S (getD answers n []) (omega (arith, suc-mul row S, mul-le-mul-right S below, long n l))
 
   recovered-whole : Whole sum N K S k answers
   unfolding recoveredSymbol sourceServer sourceRow
-  recovered-whole n A i wanted = go (eqb (ones A) 1) refl
+  recovered-whole n A i wanted = go (eqb (onesIn A) 1) refl
     where
       m : ℕ
-      m = getD (others N n) (i / (N - 1) ^ (ones A - 2)) 0
+      m = getD (others N n) (i / (N - 1) ^ (onesIn A - 2)) 0
 
       j : ℕ
-      j = i % (N - 1) ^ (ones A - 2)
+      j = i % (N - 1) ^ (onesIn A - 2)
 
       here : List ℕ
       here = answeredRow sum N K S k answers n (firstRow A (layout N K) + i)
@@ -64,10 +70,10 @@ module _ (sum : Sum) (N K S k : ℕ) (keeps : KeepsLength (sum .minus) S) (wide 
       here-long : length here ≡ S
       here-long = answered-long n (wanted .server-below) A (wanted .set-good) i (wanted .row-below)
 
-      go : (t : Bool) → eqb (ones A) 1 ≡ t → length (cond t here (sum .minus here there)) ≡ S
+      go : (t : Bool) → eqb (onesIn A) 1 ≡ t → length (cond t here (sum .minus here there)) ≡ S
       go true e = here-long
       go false e =
-          let many : 1 < ones A = omega (arith, eqb-false (ones A) 1 e, wanted .set-good .some) in
+          let many : 1 < onesIn A = omega (arith, eqb-false (onesIn A) 1 e, wanted .set-good .some) in
           let source = source-row N K k wide known n (wanted .server-below) A i (wanted .set-good) (wanted .in-set) many (wanted .row-below) in
           keeps here there here-long (answered-long m (source .server-below) (set A k false) (source .set-good) j (source .row-below))
 
@@ -80,7 +86,7 @@ module _ (sum : Sum) (N K S : ℕ) (keeps : KeepsLength (sum .minus) S) (fits : 
     whole : Whole sum N K S wanted answers
     whole = recovered-whole sum N K S wanted keeps (bounds .servers-low) known answers long
 
-    within : All (Within (N ^ K * S)) (recoveredParts sum N K S wanted key answers)
+    within : All (PartWithin (N ^ K * S)) (recoveredParts sum N K S wanted key answers)
     within = parts-within sum N K S wanted key answers (bounds .servers-low) known valid whole
 
     -- the parts written into a buffer are the recovered message at its start

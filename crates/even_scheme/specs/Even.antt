@@ -6,16 +6,17 @@ use mathlib.Core.List.{List, [], _∷_, _++_, map, flatMap, zip, zipWith}
 use mathlib.Core.Option.{Option, none, some}
 use lib.Dec.{eqb}
 use lib.ListN.{length, getD, set, drop}
-use Rattle.lists.specs.Parts.{cut, put}
+use Rattle.lists.specs.Parts.{cut}
+use Rattle.lists.specs.Assembled.{Part}
+unfoldable pub use Rattle.lists.specs.Assembled.{assemble}
 use Rattle.lists.specs.Ranges.{range, every}
 use Rattle.lists.specs.Below.{allBelow}
 use Rattle.lists.specs.Sums.{keep}
 use Rattle.lists.specs.Distinct.{distinct, isPermutation}
 use Rattle.parameters.specs.Measures.{evenSizes, evenRows}
-use Rattle.symbol.specs.Sum.{Sum, zeros, total}
+use Rattle.symbol.specs.Sum.{Sum, zeros, symbolAt, total}
 use Rattle.scheme.specs.Scheme.{Scheme}
-use Rattle.even_places.specs.Sets.{has, ones, members, allSets}
-use Rattle.even_places.specs.Rule.{others, rows, queryCells, layout, positions, firstRow}
+use Rattle.even_places.specs.Rule.{has, onesIn, members, others, rows, queryCells, allSets, layout, positions, firstRow}
 
 -- ---- The key: K permutations, message 0's first
 
@@ -49,17 +50,17 @@ module _ (N K : ℕ) where
 
 module _ (sum : Sum) (N K S : ℕ) where
   -- symbol i of message p in the store
-  unfoldable pub symbolAt : List ℕ → ℕ → ℕ → List ℕ
-  symbolAt store p i = cut ((p * N ^ K + i) * S) S store
+  unfoldable pub symbolOf : List ℕ → ℕ → ℕ → List ℕ
+  symbolOf store p i = symbolAt S store (p * N ^ K + i)
 
   -- the combined symbol of one row: its set's messages, each with the next number of the query
   unfoldable pub rowAnswer : List ℕ → List Bool → List ℕ → List ℕ
-  rowAnswer store A numbers = total sum S (zipWith (symbolAt store) (members 0 A) numbers)
+  rowAnswer store A numbers = total sum S (zipWith (symbolOf store) (members 0 A) numbers)
 
   -- the combined symbols of the rows with these sets, one after another
   unfoldable pub rowAnswers : List ℕ → List (List Bool) → List ℕ → List ℕ
   rowAnswers store [] query = []
-  rowAnswers store (A ∷ sets) query = rowAnswer store A query ++ rowAnswers store sets (drop (ones A) query)
+  rowAnswers store (A ∷ sets) query = rowAnswer store A query ++ rowAnswers store sets (drop (onesIn A) query)
 
   unfoldable pub evenAnswer : List ℕ → List ℕ → List ℕ
   evenAnswer store query = rowAnswers store (layout N K) query
@@ -70,11 +71,6 @@ abbrev placeOf : Option ℕ → ℕ
 placeOf none = 0
 placeOf (some place) = place
 
--- parts written into a buffer, one after another: where each begins, and its bytes
-unfoldable pub assemble : List (ℕ × List ℕ) → List ℕ → List ℕ
-assemble [] buffer = buffer
-assemble (part ∷ parts) buffer = assemble parts (put (part .0) (part .1) buffer)
-
 module _ (sum : Sum) (N K S wanted : ℕ) where
   -- the combined symbol of a row in a server's answer
   unfoldable pub answeredRow : List (List ℕ) → ℕ → ℕ → List ℕ
@@ -83,16 +79,16 @@ module _ (sum : Sum) (N K S wanted : ℕ) where
   -- Row i of set A, which has the wanted message, is joined from a row of A without it: row i modulo (N-1)^(b-1) of the other
   -- server whose turn is i / (N-1)^(b-1), where A's block is b, counted from 0. `joined-at` shows that it is that row
   unfoldable pub sourceServer : ℕ → List Bool → ℕ → ℕ
-  sourceServer server A i = getD (others N server) (i / (N - 1) ^ (ones A - 2)) 0
+  sourceServer server A i = getD (others N server) (i / (N - 1) ^ (onesIn A - 2)) 0
 
   unfoldable pub sourceRow : List Bool → ℕ → ℕ
-  sourceRow A i = firstRow (set A wanted false) (layout N K) + i % (N - 1) ^ (ones A - 2)
+  sourceRow A i = firstRow (set A wanted false) (layout N K) + i % (N - 1) ^ (onesIn A - 2)
 
   -- the symbol that row i of set A at a server gives: of the wanted message alone it is the answer; else what the answer to the
   -- row that it was joined from leaves of it
   unfoldable pub recoveredSymbol : List (List ℕ) → ℕ → List Bool → ℕ → List ℕ
   recoveredSymbol answers server A i =
-      cond (eqb (ones A) 1)
+      cond (eqb (onesIn A) 1)
       (answeredRow answers server (firstRow A (layout N K) + i))
       (sum .minus (answeredRow answers server (firstRow A (layout N K) + i)) (answeredRow answers (sourceServer server A i) (sourceRow A i)))
 
@@ -101,15 +97,15 @@ module _ (sum : Sum) (N K S wanted : ℕ) where
   wantedPlace server A i = placeOf (getD (getD (rows N K wanted server) (firstRow A (layout N K) + i) []) wanted none)
 
   -- the part of the message that row i of set A at a server gives: its symbol's offset and bytes
-  unfoldable pub recoveredPart : List ℕ → List (List ℕ) → ℕ → List Bool → ℕ → ℕ × List ℕ
+  unfoldable pub recoveredPart : List ℕ → List (List ℕ) → ℕ → List Bool → ℕ → Part
   recoveredPart key answers server A i = (entryAt N K key wanted (wantedPlace server A i) * S, recoveredSymbol answers server A i)
 
   -- those of all rows with the wanted message at a server, and at all servers
-  unfoldable pub serverParts : List ℕ → List (List ℕ) → ℕ → List (ℕ × List ℕ)
+  unfoldable pub serverParts : List ℕ → List (List ℕ) → ℕ → List Part
   serverParts key answers server =
-      flatMap (λ A. map (recoveredPart key answers server A) (range 0 ((N - 1) ^ (ones A - 1)))) (keep (has wanted) (allSets K))
+      flatMap (λ A. map (recoveredPart key answers server A) (range 0 ((N - 1) ^ (onesIn A - 1)))) (keep (has wanted) (allSets K))
 
-  unfoldable pub recoveredParts : List ℕ → List (List ℕ) → List (ℕ × List ℕ)
+  unfoldable pub recoveredParts : List ℕ → List (List ℕ) → List Part
   recoveredParts key answers = flatMap (serverParts key answers) (range 0 N)
 
 abbrev pub evenScheme : Sum → ℕ → ℕ → ℕ → Scheme

@@ -1,33 +1,40 @@
--- DEMAND 3, closed: the claim on whole lists of fetches for the codes of this library, with no hypothesis left but the demand's own; and
--- beside it, for every admitted catalogue, the plain fetch, the verdicts of issue and take by the calls made before them, the marks that
--- histories give, and the bound on received bytes. The functions that the claim runs are those in the contracts of `session` and `server`,
--- at the scheme that each catalogue names.
+-- DEMAND 3, closed: the claim on whole lists of fetches for the codes of this library, with no hypothesis left but the demand's own
+-- (`no-server-can-tell`); and beside it, for every admitted catalogue, the plain fetch, the marks that histories give, and the bound on
+-- received bytes. The functions that the claim runs are those in the contracts of `session` and `server`, at the scheme that each
+-- catalogue names.
+use mathlib.Core.Path.{_≡_, ap}
+use mathlib.Core.List.{List, map}
+use Prim.Native.Nat.{ℕ}
+use lib.Dec.{eqb}
+use Rattle.lists.specs.Sums.{keep}
 use Rattle.catalogue.specs.declared.Catalogue.{Catalogue}
 use Rattle.catalogue.specs.Catalogue.{Admitted}
 use Rattle.codes.specs.Codes.{schemeOf}
 use Rattle.codes.proofs.Promises.{promises}
-use Rattle.fetches.specs.Claim.{Demand3}
-use Rattle.fetches.specs.Plain.{PlainFetch}
+use Rattle.fetches.specs.Fetches.{Fetch}
+use Rattle.fetches.specs.Shown.{Issue, issuesOf, shown}
+use Rattle.fetches.specs.Claim.{Claim, Demand3}
+use Rattle.fetches.specs.Plain.{PlainFetches}
 use Rattle.fetches.specs.Received.{Bounded}
-use Rattle.fetches.specs.ByHistory.{ByHistory}
-use Rattle.fetches.specs.Reached.{MarksReached}
+use Rattle.fetches.specs.Reached.{MarksByHistory}
 use Rattle.fetches.proofs.Theorem.{demand3}
 use Rattle.fetches.proofs.Served.{plain-fetch}
 use Rattle.fetches.proofs.Received.{bound-holds}
-use Rattle.fetches.proofs.ByHistory.{by-history}
-use Rattle.fetches.proofs.Reached.{marks-reached}
+use Rattle.fetches.proofs.Reached.{marks-by-history}
 
 pub no-server-can-tell : Demand3 schemeOf
 no-server-can-tell = demand3 schemeOf promises
 
-pub every-fetch-recovers : PlainFetch schemeOf
+-- as document 01 has it: lists that make the same issues, to all servers, show each server the same
+pub alike-if-all-issues-are : (c : Catalogue) (store : List ℕ) (n : ℕ) (fs gs : List Fetch) → Claim schemeOf c store n fs gs → issuesOf fs ≡ issuesOf gs
+    → shown schemeOf c store n fs ≡ shown schemeOf c store n gs
+alike-if-all-issues-are c store n fs gs claim same = claim .alike (ap (map (keep (λ (i : Issue). eqb (i .server) n))) same)
+
+pub every-fetch-recovers : PlainFetches schemeOf
 every-fetch-recovers = plain-fetch schemeOf promises
 
-pub every-fetch-goes-by-its-history : ByHistory schemeOf
-every-fetch-goes-by-its-history = by-history schemeOf promises
-
-pub every-good-marking-is-reached : MarksReached schemeOf
-every-good-marking-is-reached = marks-reached schemeOf promises
+pub marks-are-good-exactly-if-reached : MarksByHistory schemeOf
+marks-are-good-exactly-if-reached = marks-by-history schemeOf promises
 
 pub the-bound-holds : (c : Catalogue) → Admitted c → Bounded schemeOf c
 the-bound-holds = bound-holds schemeOf promises

@@ -1,4 +1,5 @@
--- The exchange of lists of keys: key by key, for one server and two lists of messages. It keeps valid keys valid, and the opposite one undoes it.
+-- The exchange of lists of keys: key by key, for one server and two lists of messages. It keeps valid keys valid (`exchanges-valid`), and the opposite
+-- one undoes it (`exchanges-back`), by the laws of the exchange of one key.
 use mathlib.Core.Path.{_≡_, refl}
 use mathlib.Core.List.{List, [], _∷_}
 use Prim.Native.Nat.{ℕ, zero, suc, _<_}

@@ -1,5 +1,6 @@
 pub mod Throughout
 pub mod Steps
+pub mod Told
 pub mod View
 pub mod Recovery
 pub mod Exchange
@@ -7,7 +8,6 @@ pub mod Theorem
 pub mod Plain
 pub mod Served
 pub mod Received
-pub mod ByHistory
 pub mod Reached
 pub mod Closed
 pub mod Runs

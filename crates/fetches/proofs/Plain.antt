@@ -1,4 +1,4 @@
--- The plain fetch is right: its session is sound throughout, so that no call is refused, and its takes are honest.
+-- The plain fetch ends with the wanted message (`plain-ends`): its session is sound throughout, so that no call is refused, and its takes are honest.
 use mathlib.Core.Path.{_≡_, refl, sym, ap, _∙_}
 use mathlib.Core.Bool.{Bool, true, false, _||_}
 use mathlib.Core.List.{List, [], _∷_, _++_, map}
@@ -10,6 +10,7 @@ use lib.Dec.{eqb}
 use lib.ListN.{length, set}
 use Rattle.lists.specs.Parts.{put}
 use Rattle.lists.specs.Below.{Below}
+use Rattle.lists.specs.Distinct.{stands}
 use Rattle.lists.specs.Ranges.{range}
 use Rattle.refusal.specs.declared.Verdict.the-variants.{Accepted}
 use Rattle.scheme.specs.Scheme.{Scheme, Valid, messageOf}
@@ -19,13 +20,13 @@ use Rattle.catalogue.specs.Catalogue.{Admitted}
 use Rattle.session.specs.declared.Session.{Session}
 use Rattle.session_parts.specs.Marks.{noMarks, marked}
 use Rattle.session.specs.Calls.{slotsOf, issueVerdict}
-use Rattle.session_parts.proofs.Marks.{mark-set, mark-other, marks-issue}
+use Rattle.session_parts.proofs.Marks.{mark-set, mark-other}
 use Rattle.session.proofs.Issue.{issue-accepted, issue-by}
 use Rattle.session.proofs.Take.{Takes, take-accepted, take-by}
 use Rattle.fetches.specs.Fetches.{Call, issuing, taking, recovering, Made, run, history}
-use Rattle.fetches.specs.Right.{has}
-use Rattle.fetches.specs.Plain.{Ends, last, later, queryTo, answerOf, plain}
-use Rattle.fetches.proofs.Steps.{sessionOf, stateOf, Kept, Held, kept-query, sound, take-kept, take-held}
+use Rattle.fetches.specs.Past.{Past}
+use Rattle.fetches.specs.Plain.{Ends, last, later, queryTo, answerOf, plainFetch}
+use Rattle.fetches.proofs.Steps.{sessionOf, stateOf, Kept, Held, kept-query, sound, issue-kept, take-kept, take-held}
 use Rattle.fetches.proofs.Recovery.{recover-right, recover-message}
 use Rattle.fetches.proofs.Theorem.{kept-first, held-first, begun}
 
@@ -50,17 +51,19 @@ module _ (schemeOf : Catalogue → Scheme) (c : Catalogue) (admitted : Admitted 
   answer-long server h = laws .answer-length server store _ long (laws .query-admitted wanted server key inside h valid)
 
   -- all were issued, and those before `from` are taken
-  takes-end : (count from : ℕ) → from + count ≡ c .servers → (issued taken : List Bool) (got answers : List ℕ)
-      → Kept schemeOf c room got issued taken answers → Held schemeOf c store wanted key got answers
-      → ((i : ℕ) → i < c .servers → marked issued i ≡ true) → ((i : ℕ) → i < from → has i got ≡ true) → ((i : ℕ) → from ≤ i → has i got ≡ false)
+  takes-end : (count from : ℕ) → from + count ≡ c .servers → (issued taken : List Bool) (past : Past) (answers : List ℕ)
+      → Kept schemeOf c room past issued taken answers → Held schemeOf c store wanted key past answers
+      → ((i : ℕ) → i < c .servers → marked issued i ≡ true) → ((i : ℕ) → i < from → stands i (past .taken) ≡ true)
+      → ((i : ℕ) → from ≤ i → stands i (past .taken) ≡ false)
       → Ends End (run schemeOf (stateOf c wanted key issued taken answers) (takesFrom from count))
-  unfolding range
-  takes-end zero from e issued taken got answers k held all had lacks =
+  unfolding range stands
+  takes-end zero from e issued taken past answers k held all had lacks =
       last
       (rw (le-ltb (length message) (schemeOf c .sizes .message) fits) at
-      (recover-right schemeOf c admitted laws wanted inside key valid room got issued taken answers k message .all-taken (λ i h. had i (omega arith))))
-      (recover-message schemeOf c admitted laws wanted inside key valid room got issued taken answers k message store bytes held (λ i h. had i (omega arith)) fits)
-  takes-end (suc count) from e issued taken got answers k held all had lacks =
+      (recover-right schemeOf c admitted laws wanted inside key valid room past issued taken answers k message .all-taken (λ i h. had i (omega arith))))
+      (recover-message schemeOf c admitted laws wanted inside key valid room past issued taken answers k message store bytes held
+      (λ i h. had i (omega arith)) fits)
+  takes-end (suc count) from e issued taken past answers k held all had lacks =
       let h : from < c .servers = omega arith in
       let t : Takes schemeOf (sessionOf c wanted key issued taken) from (length (answerFrom from)) (length answers) = record {
         sound = sound schemeOf c admitted laws wanted inside key valid issued taken (k .marks);
@@ -74,43 +77,41 @@ module _ (schemeOf : Catalogue → Scheme) (c : Catalogue) (admitted : Admitted 
       (sym (take-accepted schemeOf (sessionOf c wanted key issued taken) from (length (answerFrom from)) (length answers) t)) in
       rw by
       (later refl
-      (takes-end count (suc from) (omega arith) issued (set taken from true) (from ∷ got) (put (from * schemeOf c .sizes .slot) (answerFrom from) answers)
-      (take-kept schemeOf c admitted laws wanted inside key valid room got issued taken answers k from (answerFrom from) t)
-      (take-held schemeOf c admitted laws wanted inside key valid room got issued taken answers k from (answerFrom from) t store held
+      (takes-end count (suc from) (omega arith) issued (set taken from true) (record { issued = past .issued; taken = from ∷ past .taken })
+      (put (from * schemeOf c .sizes .slot) (answerFrom from) answers)
+      (take-kept schemeOf c admitted laws wanted inside key valid room past issued taken answers k from (answerFrom from) t)
+      (take-held schemeOf c admitted laws wanted inside key valid room past issued taken answers k from (answerFrom from) t store held
       (record { store-long = long; as-coded = refl }))
       all
-      (λ i l. had-more i l (eqb from i) refl)
+      (λ i l. had-more i l (eqb i from) refl)
       (λ i l. lacks-more i l)))
     where
-      had-more : (i : ℕ) → i < suc from → (b : Bool) → eqb from i ≡ b → (b || has i got) ≡ true
+      had-more : (i : ℕ) → i < suc from → (b : Bool) → eqb i from ≡ b → (b || stands i (past .taken)) ≡ true
       had-more i l true q = refl
-      had-more i l false q = let ne : (from ≡ i → ⊥) = eqb-false from i q in had i (omega (arith, ne))
+      had-more i l false q = let ne : (i ≡ from → ⊥) = eqb-false i from q in had i (omega (arith, ne))
 
-      lacks-more : (i : ℕ) → suc from ≤ i → (eqb from i || has i got) ≡ false
-      lacks-more i l = rw (ne-eqb from i (λ q. omega arith)) (lacks i (omega arith))
+      lacks-more : (i : ℕ) → suc from ≤ i → (eqb i from || stands i (past .taken)) ≡ false
+      lacks-more i l = rw (ne-eqb i from (λ q. omega arith)) (lacks i (omega arith))
 
   -- those before `from` were issued
   issues-end : (query answer : List ℕ) → schemeOf c .sizes .query ≤ length query → (count from : ℕ) → from + count ≡ c .servers
-      → (issued : List Bool) (answers : List ℕ) → Kept schemeOf c room [] issued noMarks answers → ((i : ℕ) → i < from → marked issued i ≡ true)
+      → (issued : List Bool) (to answers : List ℕ) → Kept schemeOf c room (record { issued = to; taken = [] }) issued noMarks answers
+      → ((i : ℕ) → i < from → marked issued i ≡ true)
       → Ends End (run schemeOf (stateOf c wanted key issued noMarks answers) (issuesFrom query answer from count))
-  unfolding range
-  issues-end query answer room-for zero from e issued answers k had =
-      takes-end (c .servers) 0 (omega (arith, zero-add (c .servers))) issued noMarks [] answers k (held-first schemeOf c store wanted key answers)
+  unfolding range stands
+  issues-end query answer room-for zero from e issued to answers k had =
+      takes-end (c .servers) 0 (omega (arith, zero-add (c .servers))) issued noMarks (record { issued = to; taken = [] }) answers k
+      (held-first schemeOf c store wanted key answers)
       (λ i h. had i (omega arith)) (λ i h. absurd (not-suc-le-zero h)) (λ i h. refl)
-  issues-end query answer room-for (suc count) from e issued answers k had =
+  issues-end query answer room-for (suc count) from e issued to answers k had =
       let h : from < c .servers = omega arith in
       let s : Session = sessionOf c wanted key issued noMarks in
       let accepted : issueVerdict schemeOf s from (length query) ≡ Accepted = issue-accepted schemeOf s from (length query)
       (record { sound = sound schemeOf c admitted laws wanted inside key valid issued noMarks (k .marks); below = h; roomy = room-for }) in
       rw (issue-by schemeOf s from query Accepted (sym accepted))
       (later refl
-      (issues-end query answer room-for count (suc from) (omega arith) (set issued from true) answers
-      (record {
-        marks = marks-issue (c .servers) issued noMarks (k .marks) from h (laws .servers-fit);
-        room-kept = k .room-kept;
-        agree = k .agree;
-        roomy = k .roomy;
-      })
+      (issues-end query answer room-for count (suc from) (omega arith) (set issued from true) (from ∷ to) answers
+      (issue-kept schemeOf c admitted laws wanted inside key valid room (record { issued = to; taken = [] }) issued noMarks answers k from h)
       (λ i l. had-more i l (eqb i from) refl)))
     where
       had-more : (i : ℕ) → i < suc from → (b : Bool) → eqb i from ≡ b → marked (set issued from true) i ≡ true
@@ -124,8 +125,8 @@ pub plain-ends : (schemeOf : Catalogue → Scheme) (c : Catalogue) → Admitted 
     → (store : List ℕ) → Below 256 store → length store ≡ schemeOf c .sizes .store → (message : List ℕ) → schemeOf c .sizes .message ≤ length message
     → (answers : List ℕ) → slotsOf schemeOf c ≤ length answers → (query answer : List ℕ) → schemeOf c .sizes .query ≤ length query
     → Ends (λ (made : Made). made .left ≡ put 0 (messageOf (schemeOf c) store wanted) message)
-    (history schemeOf c (plain schemeOf c store wanted key answers query answer message))
+    (history schemeOf c (plainFetch schemeOf c store wanted key answers query answer message))
 plain-ends schemeOf c admitted laws wanted inside key valid store bytes long message fits answers roomy query answer room-for =
     rw (begun schemeOf c admitted laws wanted inside key valid)
     (issues-end schemeOf c admitted laws wanted inside key valid store bytes long message fits (length answers) roomy query answer room-for (c .servers) 0
-    (zero-add (c .servers)) noMarks answers (kept-first schemeOf c answers) (λ i h. absurd (not-suc-le-zero h)))
+    (zero-add (c .servers)) noMarks [] answers (kept-first schemeOf c answers) (λ i h. absurd (not-suc-le-zero h)))

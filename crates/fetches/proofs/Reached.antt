@@ -1,6 +1,6 @@
--- Every good marking is reached (`marks-reached`): place by place, a query is issued to the server where the first mark is set, and its answer is
--- taken where the second is.
-use mathlib.Core.Path.{_≡_, refl, sym, ap, _∙_}
+-- Some history gives marks exactly if they are good (`marks-by-history`). Good marks are reached place by place: a query is issued to the server where
+-- the first mark is set, and its answer is taken where the second is. And every call of a fetch keeps its marks good (`next`).
+use mathlib.Core.Path.{_≡_, refl, sym, ap, _∙_, subst}
 use mathlib.Core.Bool.{Bool, true, false, cond}
 use mathlib.Core.List.{List, [], _∷_}
 use Prim.Native.Nat.{ℕ, zero, suc, _+_, _*_, _≤_, _<_}
@@ -21,13 +21,14 @@ use Rattle.refusal.specs.declared.Verdict.the-variants.{Accepted}
 use Rattle.session.specs.declared.Session.{Session}
 use Rattle.session_parts.specs.Marks.{noMarks, marked, markGood, marksGood}
 use Rattle.session.specs.Calls.{slotsOf}
-use Rattle.session_parts.proofs.Marks.{none-marked, mark-set, mark-other, marks-issue}
+use Rattle.session_parts.proofs.Marks.{none-marked, mark-set, mark-other}
 use Rattle.session.proofs.Issue.{issue-by, issue-accepted}
 use Rattle.session.proofs.Take.{Takes, take-by, take-accepted}
-use Rattle.fetches.specs.Fetches.{Call, issuing, taking, State, make}
+use Rattle.fetches.specs.Fetches.{Call, issuing, taking, State, make, start}
+use Rattle.fetches.specs.Past.{Past, nothing}
 use Rattle.fetches.specs.Claim.{Promises}
-use Rattle.fetches.specs.Reached.{ended, Reached, MarksReached}
-use Rattle.fetches.proofs.Steps.{sessionOf, stateOf, Kept, kept-query, sound, take-kept}
+use Rattle.fetches.specs.Reached.{ended, Reached, MarksByHistory}
+use Rattle.fetches.proofs.Steps.{sessionOf, stateOf, Kept, kept-query, sound, issue-kept, take-kept, next}
 use Rattle.fetches.proofs.Theorem.{kept-first, begun}
 
 -- the marks of the places before i, and none from there on
@@ -78,12 +79,13 @@ module _ (schemeOf : Catalogue → Scheme) (c : Catalogue) (admitted : Admitted 
       (call ∷ way .0, ap (λ (after : State). ended schemeOf after (way .0) .session) e ∙ way .1)
 
   -- what holds before place i, with an answer buffer of N slots
-  record Before (i : ℕ) (got : List ℕ) (first second : List Bool) (answers : List ℕ) : Type 0 where
-    kept : Kept schemeOf c (slotsOf schemeOf c) got first second answers
+  record Before (i : ℕ) (past : Past) (first second : List Bool) (answers : List ℕ) : Type 0 where
+    kept : Kept schemeOf c (slotsOf schemeOf c) past first second answers
     first-upto : Upto i first issued
     second-upto : Upto i second taken
 
-  module _ (i : ℕ) (got : List ℕ) (first second : List Bool) (answers : List ℕ) (b : Before i got first second answers) (below : i < c .servers) (set-first : marked issued i ≡ true) where
+  module _ (i : ℕ) (past : Past) (first second : List Bool) (answers : List ℕ) (b : Before i past first second answers)
+      (below : i < c .servers) (set-first : marked issued i ≡ true) where
     abbrev s : Session
     s = sessionOf c wanted key first second
 
@@ -93,20 +95,19 @@ module _ (schemeOf : Catalogue → Scheme) (c : Catalogue) (admitted : Admitted 
     in-first : i < length first
     in-first = omega (arith, b .kept .marks .issued-long, laws .servers-fit)
 
-    issue-after : make schemeOf (stateOf c wanted key first second answers) (issuing i query []) .after ≡ stateOf c wanted key (set first i true) second answers
+    issue-after : make schemeOf (stateOf c wanted key first second answers) (issuing i query []) .after
+        ≡ stateOf c wanted key (set first i true) second answers
     issue-after = rw (issue-by schemeOf s i query Accepted (sym (issue-accepted schemeOf s i (length query) (record {
       sound = sound schemeOf c admitted laws wanted inside key valid first second (b .kept .marks);
       below = below;
       roomy = let l = length-replicate {A = ℕ} (schemeOf c .sizes .query) 0 in omega arith;
     }))))
 
-    issue-kept : Kept schemeOf c (slotsOf schemeOf c) got (set first i true) second answers
-    issue-kept = record {
-      marks = marks-issue (c .servers) first second (b .kept .marks) i below (laws .servers-fit);
-      room-kept = b .kept .room-kept;
-      agree = b .kept .agree;
-      roomy = b .kept .roomy;
-    }
+    abbrev later : Past
+    later = record { issued = i ∷ past .issued; taken = past .taken }
+
+    kept-issued : Kept schemeOf c (slotsOf schemeOf c) later (set first i true) second answers
+    kept-issued = issue-kept schemeOf c admitted laws wanted inside key valid (slotsOf schemeOf c) past first second answers (b .kept) i below
 
     issue-first : Upto (suc i) (set first i true) issued
     issue-first = upto-set i issued first (b .first-upto) set-first in-first
@@ -124,7 +125,7 @@ module _ (schemeOf : Catalogue → Scheme) (c : Catalogue) (admitted : Admitted 
 
       takes : Takes schemeOf t i (length answer) (length answers)
       takes = record {
-        sound = sound schemeOf c admitted laws wanted inside key valid (set first i true) second (issue-kept .marks);
+        sound = sound schemeOf c admitted laws wanted inside key valid (set first i true) second (kept-issued .marks);
         below = below;
         roomy = let l = b .kept .room-kept in omega arith;
         sized = length-replicate {A = ℕ} (schemeOf c .answerLength (schemeOf c .query wanted i key)) 0
@@ -137,52 +138,55 @@ module _ (schemeOf : Catalogue → Scheme) (c : Catalogue) (admitted : Admitted 
           ≡ stateOf c wanted key (set first i true) (set second i true) kept-answers
       take-after = rw (take-by schemeOf t i answer answers Accepted (sym (take-accepted schemeOf t i (length answer) (length answers) takes)))
 
-      take-before : Before (suc i) (i ∷ got) (set first i true) (set second i true) kept-answers
+      take-before : Before (suc i) (record { issued = i ∷ past .issued; taken = i ∷ past .taken }) (set first i true) (set second i true) kept-answers
       take-before = record {
-        kept = take-kept schemeOf c admitted laws wanted inside key valid (slotsOf schemeOf c) got (set first i true) second answers issue-kept i answer takes;
+        kept = take-kept schemeOf c admitted laws wanted inside key valid (slotsOf schemeOf c) later (set first i true) second answers kept-issued
+            i answer takes;
         first-upto = issue-first;
         second-upto = upto-set i taken second (b .second-upto) set-second (omega (arith, b .kept .marks .taken-long, laws .servers-fit));
       }
 
-    issue-before : marked taken i ≡ false → Before (suc i) got (set first i true) second answers
-    issue-before e = record { kept = issue-kept; first-upto = issue-first; second-upto = upto-same i taken second (b .second-upto) e }
+    issue-before : marked taken i ≡ false → Before (suc i) later (set first i true) second answers
+    issue-before e = record { kept = kept-issued; first-upto = issue-first; second-upto = upto-same i taken second (b .second-upto) e }
 
   module _ (issued-long : length issued ≡ mostServers) (taken-long : length taken ≡ mostServers) (good : marksGood (c .servers) issued taken ≡ true) where
     place-good : (i : ℕ) → i < mostServers → markGood (c .servers) i (marked issued i) (marked taken i) ≡ true
     unfolding marksGood
     place-good = every-at mostServers (λ place. markGood (c .servers) place (marked issued place) (marked taken place)) good
 
-    leads : (count i : ℕ) → i + count ≡ mostServers → (got : List ℕ) (first second : List Bool) (answers : List ℕ) → Before i got first second answers
+    leads : (count i : ℕ) → i + count ≡ mostServers → (past : Past) (first second : List Bool) (answers : List ℕ) → Before i past first second answers
         → Leads (stateOf c wanted key first second answers)
-    leads zero i e got first second answers b =
+    leads zero i e past first second answers b =
         let f : first ≡ issued = upto-all i first issued (b .first-upto) (b .kept .marks .issued-long ∙ sym issued-long) (omega arith) in
         let g : second ≡ taken = upto-all i second taken (b .second-upto) (b .kept .marks .taken-long ∙ sym taken-long) (omega arith) in
         ([], rw (f, g))
-    leads (suc count) i e got first second answers b =
-        go (marked issued i) (marked taken i) refl refl (λ got′ first′ second′ answers′ b′. leads count (suc i) (omega arith) got′ first′ second′ answers′ b′)
+    leads (suc count) i e past first second answers b =
+        go (marked issued i) (marked taken i) refl refl (λ past′ first′ second′ answers′ b′. leads count (suc i) (omega arith) past′ first′ second′ answers′ b′)
         (place-good i (omega arith))
       where
         go : (x y : Bool) → marked issued i ≡ x → marked taken i ≡ y
-            → ((got′ : List ℕ) (first′ second′ : List Bool) (answers′ : List ℕ) → Before (suc i) got′ first′ second′ answers′ → Leads (stateOf c wanted key first′ second′ answers′))
+            → ((past′ : Past) (first′ second′ : List Bool) (answers′ : List ℕ) → Before (suc i) past′ first′ second′ answers′
+            → Leads (stateOf c wanted key first′ second′ answers′))
             → markGood (c .servers) i x y ≡ true → Leads (stateOf c wanted key first second answers)
         go true true f g further m =
             let below = ltb-true i (c .servers) m in
-            call-leads (issuing i _ []) (issue-after i got first second answers b below f)
-            (call-leads (taking i _) (take-after i got first second answers b below f g)
-            (further _ _ _ _ (take-before i got first second answers b below f g)))
+            call-leads (issuing i _ []) (issue-after i past first second answers b below f)
+            (call-leads (taking i _) (take-after i past first second answers b below f g)
+            (further _ _ _ _ (take-before i past first second answers b below f g)))
         go true false f g further m =
             let below = ltb-true i (c .servers) m in
-            call-leads (issuing i _ []) (issue-after i got first second answers b below f) (further _ _ _ _ (issue-before i got first second answers b below f g))
+            call-leads (issuing i _ []) (issue-after i past first second answers b below f)
+            (further _ _ _ _ (issue-before i past first second answers b below f g))
         go false true f g further m = absurd (let z : _≡_ {A = ℕ} 0 1 = cc in let w : ⊥ = omega arith in w)
         go false false f g further m =
-            further got first second answers
+            further past first second answers
             (record { kept = b .kept; first-upto = upto-same i issued first (b .first-upto) f; second-upto = upto-same i taken second (b .second-upto) g })
 
     reached : Reached schemeOf c wanted key issued taken
     reached =
         let answers : List ℕ = replicate (slotsOf schemeOf c) 0 in
         let room : length answers ≡ slotsOf schemeOf c = length-replicate {A = ℕ} (slotsOf schemeOf c) 0 in
-        let way = leads mostServers 0 refl [] noMarks noMarks answers (record {
+        let way = leads mostServers 0 refl nothing noMarks noMarks answers (record {
           kept = rw room at (kept-first schemeOf c answers);
           first-upto = upto-none issued;
           second-upto = upto-none taken;
@@ -194,6 +198,28 @@ module _ (schemeOf : Catalogue → Scheme) (c : Catalogue) (admitted : Admitted 
           its-session = rw (begun schemeOf c admitted laws wanted inside key valid) (way .1);
         }
 
-pub marks-reached : (schemeOf : Catalogue → Scheme) → Promises schemeOf → MarksReached schemeOf
-marks-reached schemeOf promises c admitted wanted inside key valid issued taken issued-long taken-long good =
-    reached schemeOf c admitted (promises c admitted) wanted inside key valid issued taken issued-long taken-long good
+-- the marks at the end of a fetch are good
+module _ (schemeOf : Catalogue → Scheme) (c : Catalogue) (admitted : Admitted c) (laws : Laws (c .servers) (c .messages) (schemeOf c))
+    (wanted : ℕ) (inside : wanted < c .messages) (key : List ℕ) (valid : Valid (schemeOf c) key) where
+  abbrev GoodAt : State → Type 0
+  GoodAt at = marksGood (c .servers) (at .session .issued) (at .session .taken) ≡ true
+
+  good-after : (calls : List Call) (room : ℕ) (past : Past) (issued taken : List Bool) (answers : List ℕ) → Kept schemeOf c room past issued taken answers
+      → GoodAt (ended schemeOf (stateOf c wanted key issued taken answers) calls)
+  good-after [] room past issued taken answers k = k .marks .good
+  good-after (call ∷ calls) room past issued taken answers k =
+      let x = next schemeOf c admitted laws wanted inside key valid room past issued taken answers k call in
+      subst (λ (at : State). GoodAt (ended schemeOf at calls)) (sym (x .is)) (good-after calls room _ (x .issued) (x .taken) (x .answers) (x .kept))
+
+  good-if-reached : (issued taken : List Bool) → Reached schemeOf c wanted key issued taken → marksGood (c .servers) issued taken ≡ true
+  good-if-reached issued taken r =
+      let good : GoodAt (ended schemeOf (start schemeOf c (r .fetch)) (r .fetch .calls)) =
+      rw (r .its-message, r .its-key, begun schemeOf c admitted laws wanted inside key valid)
+      (good-after (r .fetch .calls) (length (r .fetch .answers)) nothing noMarks noMarks (r .fetch .answers) (kept-first schemeOf c (r .fetch .answers))) in
+      rw (r .its-session) at good
+
+pub marks-by-history : (schemeOf : Catalogue → Scheme) → Promises schemeOf → MarksByHistory schemeOf
+marks-by-history schemeOf promises c admitted wanted inside key valid issued taken issued-long taken-long = record {
+  reached-if-good = reached schemeOf c admitted (promises c admitted) wanted inside key valid issued taken issued-long taken-long;
+  good-if-reached = good-if-reached schemeOf c admitted (promises c admitted) wanted inside key valid issued taken;
+}

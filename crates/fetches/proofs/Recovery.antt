@@ -1,4 +1,5 @@
--- What recover does in a fetch: its verdict goes by the calls made, and after honest takes from all servers it gives the wanted message.
+-- What recover does in a fetch: its verdict goes by the calls made (`verdicts`), and after honest takes from all servers it gives the wanted message
+-- (`messages`). It rests on `next`, and on the law that the honest answers recover.
 use mathlib.Core.Path.{_≡_, sym, ap, _∙_}
 use mathlib.Core.Bool.{Bool, false, not}
 use mathlib.Core.List.{List, [], _∷_}
@@ -7,14 +8,14 @@ use native.Mathlib.Omega.{arith}
 use borrow.Author.Tests.{le-ltb}
 use lib.Dec.{ltb}
 use lib.ListN.{length}
+use Rattle.lists.specs.Distinct.{stands}
 use Rattle.lists.specs.Parts.{put}
 use Rattle.lists.specs.Below.{Below}
 use Rattle.lists.proofs.Every.{every-true, every-false}
 use Rattle.lists.proofs.Mapped.{map-range}
-use Rattle.refusal.specs.declared.Refusal.the-variants.{Room, Missing}
 use Rattle.refusal.specs.declared.Verdict.{Verdict}
 use Rattle.refusal.specs.declared.Verdict.the-variants.{Accepted, Refused}
-use Rattle.refusal.specs.Chain.{refuseIf}
+use Rattle.refusal.specs.Chain.{refused, refuseIf}
 use Rattle.scheme.specs.Scheme.{Scheme, Valid, messageOf, honestAnswers, answersIn, recoverIn}
 use Rattle.scheme.specs.Laws.{Laws}
 use Rattle.catalogue.specs.declared.Catalogue.{Catalogue}
@@ -23,9 +24,10 @@ use Rattle.session.specs.declared.Session.{Session}
 use Rattle.session_parts.specs.Marks.{marked, allTaken}
 use Rattle.session.specs.Calls.{slotsOf, recoveredMessage, recoverVerdict, recover}
 use Rattle.session.proofs.Begin.{key-kept}
-use Rattle.session.proofs.Recover.{recover-verdict, recover-by, recover-says}
+use Rattle.session.proofs.Recover.{recover-verdict, recover-by, recover-goes}
 use Rattle.fetches.specs.Fetches.{Call, issuing, taking, recovering, make, run}
-use Rattle.fetches.specs.Right.{has, Throughout, end, step, AllTaken, RecoverSays, RecoverVerdict, HonestTake, MessageLeft}
+use Rattle.fetches.specs.Past.{Past, Throughout, end, step}
+use Rattle.fetches.specs.Right.{AllTaken, RecoverSays, RecoverVerdict, HonestTake, MessageLeft}
 use Rattle.fetches.proofs.Throughout.{now-holds, then-holds, from-state}
 use Rattle.fetches.proofs.Steps.{sessionOf, stateOf, Kept, Held, sound, next}
 
@@ -35,7 +37,7 @@ same-message {a} {b} e = cc
 
 module _ (schemeOf : Catalogue → Scheme) (c : Catalogue) (admitted : Admitted c) (laws : Laws (c .servers) (c .messages) (schemeOf c))
     (wanted : ℕ) (inside : wanted < c .messages) (key : List ℕ) (valid : Valid (schemeOf c) key) where
-  module _ (room : ℕ) (got : List ℕ) (issued taken : List Bool) (answers : List ℕ) (k : Kept schemeOf c room got issued taken answers) (message : List ℕ) where
+  module _ (room : ℕ) (past : Past) (issued taken : List Bool) (answers : List ℕ) (k : Kept schemeOf c room past issued taken answers) (message : List ℕ) where
     abbrev s : Session
     s = sessionOf c wanted key issued taken
 
@@ -43,15 +45,15 @@ module _ (schemeOf : Catalogue → Scheme) (c : Catalogue) (admitted : Admitted 
     verdict = recoverVerdict schemeOf s (length answers) (length message)
 
     verdict-left : verdict
-        ≡ refuseIf (ltb room (slotsOf schemeOf c)) Room
-        (refuseIf (ltb (length message) (schemeOf c .sizes .message)) Room (refuseIf (not (allTaken (c .servers) taken)) Missing Accepted))
+        ≡ refuseIf (ltb room (slotsOf schemeOf c)) 9
+        (refuseIf (ltb (length message) (schemeOf c .sizes .message)) 9 (refuseIf (not (allTaken (c .servers) taken)) 12 Accepted))
     verdict-left = rw (← k .room-kept)
         (recover-verdict schemeOf s (sound schemeOf c admitted laws wanted inside key valid issued taken (k .marks))
         (length answers) (length message))
 
     -- all are taken, by the calls and so by the marks
-    all-verdict : AllTaken schemeOf c got → verdict
-        ≡ refuseIf (ltb (length message) (schemeOf c .sizes .message)) Room Accepted
+    all-verdict : AllTaken schemeOf c past → verdict
+        ≡ refuseIf (ltb (length message) (schemeOf c .sizes .message)) 9 Accepted
     unfolding allTaken
     all-verdict all =
         verdict-left
@@ -60,20 +62,20 @@ module _ (schemeOf : Catalogue → Scheme) (c : Catalogue) (admitted : Admitted 
           every-true (c .servers) (marked taken) (λ i h. k .agree i h ∙ all i h),
         )
 
-    missing-verdict : (server : ℕ) → server < c .servers → has server got ≡ false
+    missing-verdict : (server : ℕ) → server < c .servers → stands server (past .taken) ≡ false
         → verdict
-        ≡ refuseIf (ltb room (slotsOf schemeOf c)) Room (refuseIf (ltb (length message) (schemeOf c .sizes .message)) Room (Refused Missing))
+        ≡ refuseIf (ltb room (slotsOf schemeOf c)) 9 (refuseIf (ltb (length message) (schemeOf c .sizes .message)) 9 (refused 12))
     unfolding allTaken
     missing-verdict server h lacks = verdict-left ∙ rw (every-false (c .servers) (marked taken) server h (k .agree server h ∙ lacks))
 
-    pub recover-right : RecoverSays schemeOf c room got message (recover schemeOf s answers message .handed .verdict)
+    pub recover-right : RecoverSays schemeOf c room past message (recover schemeOf s answers message .handed .verdict)
     recover-right = record {
-      all-taken = λ all. recover-says schemeOf s answers message ∙ all-verdict all;
-      missing = λ server h lacks. recover-says schemeOf s answers message ∙ missing-verdict server h lacks;
+      all-taken = λ all. recover-goes schemeOf s answers message .says ∙ all-verdict all;
+      missing = λ server h lacks. recover-goes schemeOf s answers message .says ∙ missing-verdict server h lacks;
     }
 
     -- the slots hold the honest answers
-    module _ (store : List ℕ) (bytes : Below 256 store) (held : Held schemeOf c store wanted key got answers) (all : AllTaken schemeOf c got) where
+    module _ (store : List ℕ) (bytes : Below 256 store) (held : Held schemeOf c store wanted key past answers) (all : AllTaken schemeOf c past) where
       answers-honest : answersIn (schemeOf c) (c .servers) wanted key answers ≡ honestAnswers (schemeOf c) (c .servers) store wanted key
       unfolding answersIn honestAnswers
       answers-honest = map-range 0 (c .servers) _ _ (λ i l u. let h : i < c .servers = omega arith in held i h (all i h) .holds)
@@ -92,35 +94,37 @@ module _ (schemeOf : Catalogue → Scheme) (c : Catalogue) (admitted : Admitted 
           rw (recover-by schemeOf s answers message Accepted (sym e), gives)
 
   -- over the calls of a fetch
-  says : (room : ℕ) (got : List ℕ) (issued taken : List Bool) (answers : List ℕ) → Kept schemeOf c room got issued taken answers → (call : Call)
-      → RecoverVerdict schemeOf c room got (make schemeOf (stateOf c wanted key issued taken answers) call)
-  says room got issued taken answers k (issuing server query answer) message e = absurd (let z : _≡_ {A = ℕ} 0 1 = cc in let w : ⊥ = omega arith in w)
-  says room got issued taken answers k (taking server answer) message e = absurd (let z : _≡_ {A = ℕ} 0 1 = cc in let w : ⊥ = omega arith in w)
-  says room got issued taken answers k (recovering own) message e = rw (← same-message e) (recover-right room got issued taken answers k own)
+  says : (room : ℕ) (past : Past) (issued taken : List Bool) (answers : List ℕ) → Kept schemeOf c room past issued taken answers → (call : Call)
+      → RecoverVerdict schemeOf c room past (make schemeOf (stateOf c wanted key issued taken answers) call)
+  says room past issued taken answers k (issuing server query answer) message e = absurd (let z : _≡_ {A = ℕ} 0 1 = cc in let w : ⊥ = omega arith in w)
+  says room past issued taken answers k (taking server answer) message e = absurd (let z : _≡_ {A = ℕ} 0 1 = cc in let w : ⊥ = omega arith in w)
+  says room past issued taken answers k (recovering own) message e = rw (← same-message e) (recover-right room past issued taken answers k own)
 
-  pub verdicts : (calls : List Call) (room : ℕ) (got : List ℕ) (issued taken : List Bool) (answers : List ℕ) → Kept schemeOf c room got issued taken answers
-      → Throughout (RecoverVerdict schemeOf c room) got (run schemeOf (stateOf c wanted key issued taken answers) calls)
-  verdicts [] room got issued taken answers k = end
-  verdicts (call ∷ calls) room got issued taken answers k =
-      let x = next schemeOf c admitted laws wanted inside key valid room got issued taken answers k call in
-      step (says room got issued taken answers k call) (from-state schemeOf calls (x .is) (verdicts calls room _ (x .issued) (x .taken) (x .answers) (x .kept)))
+  pub verdicts : (calls : List Call) (room : ℕ) (past : Past) (issued taken : List Bool) (answers : List ℕ) → Kept schemeOf c room past issued taken answers
+      → Throughout (RecoverVerdict schemeOf c room) past (run schemeOf (stateOf c wanted key issued taken answers) calls)
+  verdicts [] room past issued taken answers k = end
+  verdicts (call ∷ calls) room past issued taken answers k =
+      let x = next schemeOf c admitted laws wanted inside key valid room past issued taken answers k call in
+      step (says room past issued taken answers k call)
+      (from-state schemeOf calls (x .is) (verdicts calls room _ (x .issued) (x .taken) (x .answers) (x .kept)))
 
   module _ (store : List ℕ) (bytes : Below 256 store) where
-    leaves : (room : ℕ) (got : List ℕ) (issued taken : List Bool) (answers : List ℕ) → Kept schemeOf c room got issued taken answers
-        → Held schemeOf c store wanted key got answers → (call : Call)
-        → MessageLeft schemeOf c store wanted got (make schemeOf (stateOf c wanted key issued taken answers) call)
-    leaves room got issued taken answers k held (issuing server query answer) message e = absurd (let z : _≡_ {A = ℕ} 0 1 = cc in let w : ⊥ = omega arith in w)
-    leaves room got issued taken answers k held (taking server answer) message e = absurd (let z : _≡_ {A = ℕ} 0 1 = cc in let w : ⊥ = omega arith in w)
-    leaves room got issued taken answers k held (recovering own) message e =
-        rw (← same-message e) (λ all fits. recover-message room got issued taken answers k own store bytes held all fits)
+    leaves : (room : ℕ) (past : Past) (issued taken : List Bool) (answers : List ℕ) → Kept schemeOf c room past issued taken answers
+        → Held schemeOf c store wanted key past answers → (call : Call)
+        → MessageLeft schemeOf c store wanted past (make schemeOf (stateOf c wanted key issued taken answers) call)
+    leaves room past issued taken answers k held (issuing server query answer) message e = absurd (let z : _≡_ {A = ℕ} 0 1 = cc in let w : ⊥ = omega arith in w)
+    leaves room past issued taken answers k held (taking server answer) message e = absurd (let z : _≡_ {A = ℕ} 0 1 = cc in let w : ⊥ = omega arith in w)
+    leaves room past issued taken answers k held (recovering own) message e =
+        rw (← same-message e) (λ all fits. recover-message room past issued taken answers k own store bytes held all fits)
 
-    pub messages : (calls : List Call) (room : ℕ) (got : List ℕ) (issued taken : List Bool) (answers : List ℕ) → Kept schemeOf c room got issued taken answers
-        → Held schemeOf c store wanted key got answers
-        → Throughout (HonestTake schemeOf c store wanted key) got (run schemeOf (stateOf c wanted key issued taken answers) calls)
-        → Throughout (MessageLeft schemeOf c store wanted) got (run schemeOf (stateOf c wanted key issued taken answers) calls)
-    messages [] room got issued taken answers k held honest = end
-    messages (call ∷ calls) room got issued taken answers k held honest =
-        let x = next schemeOf c admitted laws wanted inside key valid room got issued taken answers k call in
-        step (leaves room got issued taken answers k held call)
+    pub messages : (calls : List Call) (room : ℕ) (past : Past) (issued taken : List Bool) (answers : List ℕ) → Kept schemeOf c room past issued taken answers
+        → Held schemeOf c store wanted key past answers
+        → Throughout (HonestTake schemeOf c store wanted key) past (run schemeOf (stateOf c wanted key issued taken answers) calls)
+        → Throughout (MessageLeft schemeOf c store wanted) past (run schemeOf (stateOf c wanted key issued taken answers) calls)
+    messages [] room past issued taken answers k held honest = end
+    messages (call ∷ calls) room past issued taken answers k held honest =
+        let x = next schemeOf c admitted laws wanted inside key valid room past issued taken answers k call in
+        step (leaves room past issued taken answers k held call)
         (from-state schemeOf calls (x .is)
-        (messages calls room _ (x .issued) (x .taken) (x .answers) (x .kept) (x .held store held (now-holds honest)) (from-state schemeOf calls (sym (x .is)) (then-holds honest))))
+        (messages calls room _ (x .issued) (x .taken) (x .answers) (x .kept) (x .held store held (now-holds honest))
+        (from-state schemeOf calls (sym (x .is)) (then-holds honest))))

@@ -6,6 +6,7 @@ use Prim.Native.Nat.{ℕ}
 use Rattle.lists.specs.Below.{allBelow}
 use Rattle.lists.specs.Ranges.{range, every}
 use Rattle.refusal.specs.declared.Outcome.the-variants.{Value}
+use Rattle.refusal.specs.Foremost.{foremost}
 use Rattle.parameters.specs.Bounds.{shortFits}
 use Rattle.parameters.specs.Measures.{shortSizes}
 use Rattle.symbol.specs.Sum.{total, totalFrom}
@@ -18,7 +19,6 @@ use Rattle.short_code.specs.Short.{digitSum, shortQuery, shortAdmits, shortAnsw
 use Rattle.codes.specs.Codes.{schemeOf}
 use Rattle.server.specs.Answering.{answerVerdict, answering}
 use Rattle.session.specs.Calls.{beginVerdict, begin, issueVerdict, issue, takeVerdict, takeAnswer, recoverVerdict, recover}
-use Rattle.session_parts.specs.Places.{paddedKey}
 use Rattle.session_parts.specs.Marks.{noMarks, marksGood, allTaken}
 use Rattle.fetches.specs.Fetches.{issuing, taking, recovering, Fetch, Made, history}
 use Rattle.fetches.specs.Shown.{Shown, asked, shownTo}
@@ -50,7 +50,10 @@ pub b2 : Run (fetch 1 (153 ∷ []) (195 ∷ []))
     (asked (1 ∷ 1 ∷ []) (Value 1) (153 ∷ []) ∷ [])
     (asked (0 ∷ 1 ∷ []) (Value 1) (195 ∷ []) ∷ [])
     ((1 ∷ 1 ∷ []) ∷ (0 ∷ 1 ∷ []) ∷ [] ∷ [] ∷ (90 ∷ 9 ∷ []) ∷ [])
-unfolding allBelow range every shortFits shortSizes total totalFrom xorBytes answersIn catalogueVerdict digitSum shortQuery shortAdmits shortAnswerLength named shortAnswer orZeros recovered shortRecover schemeOf answerVerdict answering beginVerdict begin issueVerdict issue takeVerdict takeAnswer recoverVerdict recover paddedKey noMarks marksGood allTaken flatMap
+unfolding foremost allBelow range every shortFits shortSizes
+    total totalFrom xorBytes answersIn catalogueVerdict digitSum shortQuery
+    shortAdmits shortAnswerLength named shortAnswer orZeros recovered shortRecover schemeOf
+    answerVerdict answering beginVerdict begin issueVerdict issue takeVerdict takeAnswer recoverVerdict recover noMarks marksGood allTaken flatMap
 b2 = record { server-0 = refl; server-1 = refl; buffers = refl }
 
 -- B3: key 0. Server 0 gets the row of zeros and answers with no bytes
@@ -58,5 +61,8 @@ pub b3 : Run (fetch 0 [] (90 ∷ []))
     (asked (0 ∷ 0 ∷ []) (Value 0) [] ∷ [])
     (asked (1 ∷ 0 ∷ []) (Value 1) (90 ∷ []) ∷ [])
     ((0 ∷ 0 ∷ []) ∷ (1 ∷ 0 ∷ []) ∷ [] ∷ [] ∷ (90 ∷ 9 ∷ []) ∷ [])
-unfolding allBelow range every shortFits shortSizes total totalFrom xorBytes answersIn catalogueVerdict digitSum shortQuery shortAdmits shortAnswerLength named shortAnswer orZeros recovered shortRecover schemeOf answerVerdict answering beginVerdict begin issueVerdict issue takeVerdict takeAnswer recoverVerdict recover paddedKey noMarks marksGood allTaken flatMap
+unfolding foremost allBelow range every shortFits shortSizes
+    total totalFrom xorBytes answersIn catalogueVerdict digitSum shortQuery
+    shortAdmits shortAnswerLength named shortAnswer orZeros recovered shortRecover schemeOf
+    answerVerdict answering beginVerdict begin issueVerdict issue takeVerdict takeAnswer recoverVerdict recover noMarks marksGood allTaken flatMap
 b3 = record { server-0 = refl; server-1 = refl; buffers = refl }

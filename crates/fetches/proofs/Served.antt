@@ -1,4 +1,5 @@
--- What the plain fetch shows each server: its one query, and the honest answer that it writes.
+-- The plain fetch is right (`plain-fetch`): it shows each server its one query, and the honest answer that the server writes (`served`), and ends with
+-- the wanted message (`plain-ends`).
 use mathlib.Core.Path.{_≡_, refl, sym, ap, _∙_}
 use mathlib.Core.Bool.{Bool, true, false, cond}
 use mathlib.Core.List.{List, [], _∷_, _++_, map}
@@ -22,7 +23,7 @@ use Rattle.server.proofs.Laws.{answer-accepted, answer-by, writes-answer}
 use Rattle.fetches.specs.Fetches.{Call, issuing, taking, recovering, history}
 use Rattle.fetches.specs.Shown.{Shown, asked, issues, asking, shownTo}
 use Rattle.fetches.specs.Claim.{Promises}
-use Rattle.fetches.specs.Plain.{queryTo, answerOf, plain, PlainFetch}
+use Rattle.fetches.specs.Plain.{queryTo, answerOf, plainFetch, PlainFetches}
 use Rattle.fetches.proofs.View.{seen, seenOf}
 use Rattle.fetches.proofs.Theorem.{fetch-shown}
 use Rattle.fetches.proofs.Plain.{plain-ends}
@@ -35,7 +36,8 @@ no-issues answer message zero from = refl
 no-issues answer message (suc count) from = no-issues answer message count (suc from)
 
 -- issues to the servers from `from` on show server n one of them, if it is there
-module _ (schemeOf : Catalogue → Scheme) (c : Catalogue) (store : List ℕ) (n : ℕ) (asked-for query answer : List ℕ) (rest : List Call) (none : issues rest ≡ []) where
+module _ (schemeOf : Catalogue → Scheme) (c : Catalogue) (store : List ℕ) (n : ℕ) (asked-for query answer : List ℕ)
+    (rest : List Call) (none : issues rest ≡ []) where
   seen-none : (count from : ℕ) → n < from
       → seenOf schemeOf c store n asked-for (issues (map (λ (server : ℕ). issuing server query answer) (range from count) ++ rest)) ≡ []
   unfolding range
@@ -60,8 +62,8 @@ module _ (schemeOf : Catalogue → Scheme) (c : Catalogue) (store : List ℕ) (n
       go later false q = let ne : (from ≡ n → ⊥) = eqb-false from n q in later (omega (arith, ne)) (omega (arith, ne))
 
 module _ (schemeOf : Catalogue → Scheme) (c : Catalogue) (admitted : Admitted c) (laws : Laws (c .servers) (c .messages) (schemeOf c))
-    (store : List ℕ) (long : length store ≡ schemeOf c .sizes .store) (wanted : ℕ) (inside : wanted < c .messages) (key : List ℕ) (valid : Valid (schemeOf c) key)
-    (n : ℕ) (below : n < c .servers) where
+    (store : List ℕ) (long : length store ≡ schemeOf c .sizes .store) (wanted : ℕ) (inside : wanted < c .messages)
+    (key : List ℕ) (valid : Valid (schemeOf c) key) (n : ℕ) (below : n < c .servers) where
   abbrev query : List ℕ
   query = queryTo schemeOf c store wanted key n
 
@@ -73,18 +75,20 @@ module _ (schemeOf : Catalogue → Scheme) (c : Catalogue) (admitted : Admitted 
   honest buffer roomy =
       let admits = laws .query-admitted wanted n key inside below valid in
       let sized : length answer ≡ schemeOf c .answerLength query = laws .answer-length n store query long admits in
-      let accepted : answerVerdict schemeOf c n (length store) query (length buffer) ≡ Accepted = answer-accepted schemeOf c n (length store) query (length buffer)
+      let accepted : answerVerdict schemeOf c n (length store) query (length buffer) ≡ Accepted =
+      answer-accepted schemeOf c n (length store) query (length buffer)
       (record { admitted = admitted; below = below; admits = admits; store-long = long; roomy = omega (arith, laws .answer-fits n query admits) }) in
       let by = answer-by schemeOf c n store query buffer Accepted (sym accepted) in
       let written = writes-answer schemeOf c laws n store query buffer accepted in
       rw by
       (ap (asked query (Value (schemeOf c .answerLength query))) (rw by at written) ∙ ap (λ (size : ℕ). asked query (Value size) answer) (sym sized))
 
-  pub served : (answers queryBuffer answerBuffer message : List ℕ) → schemeOf c .sizes .query ≤ length queryBuffer → schemeOf c .sizes .slot ≤ length answerBuffer
-      → shownTo schemeOf c store n (history schemeOf c (plain schemeOf c store wanted key answers queryBuffer answerBuffer message))
+  pub served : (answers queryBuffer answerBuffer message : List ℕ) → schemeOf c .sizes .query ≤ length queryBuffer
+      → schemeOf c .sizes .slot ≤ length answerBuffer
+      → shownTo schemeOf c store n (history schemeOf c (plainFetch schemeOf c store wanted key answers queryBuffer answerBuffer message))
       ≡ asked query (Value (length answer)) answer ∷ []
   served answers queryBuffer answerBuffer message query-fits answer-fits =
-      fetch-shown schemeOf c admitted laws store n below (plain schemeOf c store wanted key answers queryBuffer answerBuffer message) inside valid
+      fetch-shown schemeOf c admitted laws store n below (plainFetch schemeOf c store wanted key answers queryBuffer answerBuffer message) inside valid
       ∙ seen-once schemeOf c store n query queryBuffer answerBuffer _ (no-issues (answerOf schemeOf c store wanted key) message (c .servers) 0) (c .servers) 0
       (omega arith) (omega (arith, zero-add (c .servers)))
       ∙ ap (λ (s : Shown). s ∷ []) once
@@ -104,10 +108,13 @@ whole-message servers messages scheme laws store long wanted inside =
     cut-length (wanted * scheme .sizes .message) (scheme .sizes .message) store
     (omega (arith, slot-end wanted messages (scheme .sizes .message) inside, laws .store-whole))
 
-pub plain-fetch : (schemeOf : Catalogue → Scheme) → Promises schemeOf → PlainFetch schemeOf
+pub plain-fetch : (schemeOf : Catalogue → Scheme) → Promises schemeOf → PlainFetches schemeOf
 plain-fetch schemeOf promises c admitted store bytes long wanted inside key valid answers query answer message slots-fit query-fits answer-fits message-fits =
     record {
       whole = whole-message (c .servers) (c .messages) (schemeOf c) (promises c admitted) store long wanted inside;
-      served = λ n below. served schemeOf c admitted (promises c admitted) store long wanted inside key valid n below answers query answer message query-fits answer-fits;
-      ends = plain-ends schemeOf c admitted (promises c admitted) wanted inside key valid store bytes long message message-fits answers slots-fit query answer query-fits;
+      served = λ n below.
+          served schemeOf c admitted (promises c admitted) store long wanted inside key valid n below answers query answer message query-fits answer-fits;
+      ends =
+          plain-ends schemeOf c admitted (promises c admitted) wanted inside key valid store bytes long message message-fits answers slots-fit
+          query answer query-fits;
     }

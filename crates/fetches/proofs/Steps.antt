@@ -1,5 +1,5 @@
--- One call of a fetch: catalogue, wanted message and key of its session stay, its marks agree with the calls made, and the slots of honest takes hold
--- the honest answers.
+-- One call of a fetch (`next`): catalogue, wanted message and key of its session stay, its marks agree with the calls made (`Kept`), and the slots of
+-- honest takes hold the honest answers (`Held`). It rests on what session and marks say of issue, take and recover.
 use mathlib.Core.Path.{_≡_, refl, sym, ap, _∙_}
 use mathlib.Core.Bool.{Bool, true, false, _||_}
 use mathlib.Core.List.{List, _∷_}
@@ -8,6 +8,7 @@ use native.Mathlib.Omega.{arith}
 use borrow.Author.Tests.{eqb-true, eqb-false}
 use lib.Dec.{eqb}
 use lib.ListN.{length, set}
+use Rattle.lists.specs.Distinct.{stands}
 use Rattle.lists.specs.Parts.{cut, put}
 use Rattle.refusal.specs.declared.Verdict.{Verdict}
 use Rattle.refusal.specs.declared.Verdict.the-variants.{Accepted, Refused}
@@ -27,7 +28,8 @@ use Rattle.session.proofs.Take.{Takes, take-passed, take-by}
 use Rattle.session.proofs.Recover.{recover-same}
 use Rattle.session.proofs.Slots.{take-length, take-reads, take-others}
 use Rattle.fetches.specs.Fetches.{Call, issuing, taking, recovering, State, make}
-use Rattle.fetches.specs.Right.{tally, has, Honest, HonestTake}
+use Rattle.fetches.specs.Past.{Past, since}
+use Rattle.fetches.specs.Right.{Honest, HonestTake}
 
 -- a session of a fetch, and a state of one: only the marks and the answer buffer move
 abbrev pub sessionOf : Catalogue → ℕ → List ℕ → List Bool → List Bool → Session
@@ -36,12 +38,23 @@ sessionOf c wanted key issued taken = record { catalogue = c; wanted = wanted; k
 abbrev pub stateOf : Catalogue → ℕ → List ℕ → List Bool → List Bool → List ℕ → State
 stateOf c wanted key issued taken answers = record { session = sessionOf c wanted key issued taken; answers = answers }
 
--- what holds between the calls of a fetch, where the servers `got` were taken and the answer buffer has `room` bytes
-pub record Kept (schemeOf : Catalogue → Scheme) (c : Catalogue) (room : ℕ) (got : List ℕ) (issued taken : List Bool) (answers : List ℕ) : Type 0 where
+-- what holds between the calls of a fetch, after those that say `past`, where the answer buffer has `room` bytes
+pub record Kept (schemeOf : Catalogue → Scheme) (c : Catalogue) (room : ℕ) (past : Past) (issued taken : List Bool) (answers : List ℕ) : Type 0 where
   pub marks : Marks (c .servers) issued taken
   pub room-kept : length answers ≡ room
-  pub agree : (i : ℕ) → i < c .servers → marked taken i ≡ has i got
-  pub roomy : (i : ℕ) → has i got ≡ true → slotsOf schemeOf c ≤ room
+  pub agree-issued : (i : ℕ) → i < c .servers → marked issued i ≡ stands i (past .issued)
+  pub agree : (i : ℕ) → i < c .servers → marked taken i ≡ stands i (past .taken)
+  pub roomy : (i : ℕ) → stands i (past .taken) ≡ true → slotsOf schemeOf c ≤ room
+
+-- a mark set, and a server more in the list
+mark-agrees : (marks : List Bool) (servers : List ℕ) (count server : ℕ) → ((i : ℕ) → i < count → marked marks i ≡ stands i servers)
+    → server < length marks → (i : ℕ) → i < count → marked (set marks server true) i ≡ stands i (server ∷ servers)
+unfolding stands
+mark-agrees marks servers count server agree inside i h = go (eqb i server) refl
+  where
+    go : (b : Bool) → eqb i server ≡ b → marked (set marks server true) i ≡ (b || stands i servers)
+    go true e = rw (eqb-true i server e) (mark-set marks server inside)
+    go false e = mark-other marks server i (eqb-false i server e) ∙ agree i h
 
 module _ (schemeOf : Catalogue → Scheme) (c : Catalogue) (store : List ℕ) (wanted : ℕ) (key : List ℕ) where
   -- slot i holds the honest answer
@@ -50,18 +63,18 @@ module _ (schemeOf : Catalogue → Scheme) (c : Catalogue) (store : List ℕ) (w
     pub holds : cut (i * schemeOf c .sizes .slot) (schemeOf c .answerLength (schemeOf c .query wanted i key)) answers
         ≡ schemeOf c .answer store (schemeOf c .query wanted i key)
 
-  abbrev pub Held : List ℕ → List ℕ → Type 0
-  Held got answers = (i : ℕ) → i < c .servers → has i got ≡ true → HeldAt answers i
+  abbrev pub Held : Past → List ℕ → Type 0
+  Held past answers = (i : ℕ) → i < c .servers → stands i (past .taken) ≡ true → HeldAt answers i
 
 -- the state after a call
-pub record Next (schemeOf : Catalogue → Scheme) (c : Catalogue) (wanted : ℕ) (key : List ℕ) (room : ℕ) (got : List ℕ) (at : State) (call : Call) : Type 0 where
+pub record Next (schemeOf : Catalogue → Scheme) (c : Catalogue) (wanted : ℕ) (key : List ℕ) (room : ℕ) (past : Past) (at : State) (call : Call) : Type 0 where
   pub issued : List Bool
   pub taken : List Bool
   pub answers : List ℕ
   pub is : make schemeOf at call .after ≡ stateOf c wanted key issued taken answers
-  pub kept : Kept schemeOf c room (tally got (make schemeOf at call)) issued taken answers
-  pub held : (store : List ℕ) → Held schemeOf c store wanted key got (at .answers) → HonestTake schemeOf c store wanted key got (make schemeOf at call)
-      → Held schemeOf c store wanted key (tally got (make schemeOf at call)) answers
+  pub kept : Kept schemeOf c room (since past (make schemeOf at call)) issued taken answers
+  pub held : (store : List ℕ) → Held schemeOf c store wanted key past (at .answers) → HonestTake schemeOf c store wanted key past (make schemeOf at call)
+      → Held schemeOf c store wanted key (since past (make schemeOf at call)) answers
 
 module _ (schemeOf : Catalogue → Scheme) (c : Catalogue) (admitted : Admitted c) (laws : Laws (c .servers) (c .messages) (schemeOf c))
     (wanted : ℕ) (inside : wanted < c .messages) (key : List ℕ) (valid : Valid (schemeOf c) key) where
@@ -87,40 +100,43 @@ module _ (schemeOf : Catalogue → Scheme) (c : Catalogue) (admitted : Admitted 
   pub fits-slot : (i : ℕ) → i < c .servers → schemeOf c .answerLength (query i) ≤ slot
   fits-slot i h = laws .answer-fits i (query i) (laws .query-admitted wanted i key inside h valid)
 
-  module _ (room : ℕ) (got : List ℕ) (issued taken : List Bool) (answers : List ℕ) (k : Kept schemeOf c room got issued taken answers) where
+  module _ (room : ℕ) (past : Past) (issued taken : List Bool) (answers : List ℕ) (k : Kept schemeOf c room past issued taken answers) where
     abbrev s : Session
     s = sessionOf c wanted key issued taken
 
     abbrev at : State
     at = stateOf c wanted key issued taken answers
 
-    next-issue : (server : ℕ) (buffer answer : List ℕ) → Next schemeOf c wanted key room got at (issuing server buffer answer)
+    -- an issue that was not refused
+    pub issue-kept : (server : ℕ) → server < c .servers
+        → Kept schemeOf c room (record { issued = server ∷ past .issued; taken = past .taken }) (set issued server true) taken answers
+    issue-kept server below = record {
+      marks = marks-issue (c .servers) issued taken (k .marks) server below (laws .servers-fit);
+      room-kept = k .room-kept;
+      agree-issued = mark-agrees issued (past .issued) (c .servers) server (k .agree-issued) (omega (arith, k .marks .issued-long, laws .servers-fit));
+      agree = k .agree;
+      roomy = k .roomy;
+    }
+
+    next-issue : (server : ℕ) (buffer answer : List ℕ) → Next schemeOf c wanted key room past at (issuing server buffer answer)
     next-issue server buffer answer = go (issueVerdict schemeOf s server (length buffer)) refl
       where
-        go : (v : Verdict) → v ≡ issueVerdict schemeOf s server (length buffer) → Next schemeOf c wanted key room got at (issuing server buffer answer)
-        go Accepted e = record {
-          issued = set issued server true;
-          taken = taken;
-          answers = answers;
-          is = rw (issue-by schemeOf s server buffer Accepted e);
-          kept = record {
-            marks = marks-issue (c .servers) issued taken (k .marks) server (issue-passed schemeOf s server (length buffer) (sym e) .below) (laws .servers-fit);
-            room-kept = k .room-kept;
-            agree = k .agree;
-            roomy = k .roomy;
-          };
-          held = λ store h honest. h;
-        }
-        go (Refused refusal) e = record {
-          issued = issued;
-          taken = taken;
-          answers = answers;
-          is = rw (issue-by schemeOf s server buffer (Refused refusal) e);
-          kept = k;
-          held = λ store h honest. h;
-        }
+        go : (v : Verdict) → v ≡ issueVerdict schemeOf s server (length buffer) → Next schemeOf c wanted key room past at (issuing server buffer answer)
+        go Accepted e =
+            let done = issue-by schemeOf s server buffer Accepted e in
+            record {
+              issued = set issued server true;
+              taken = taken;
+              answers = answers;
+              is = rw done;
+              kept = rw done (issue-kept server (issue-passed schemeOf s server (length buffer) (sym e) .below));
+              held = rw done (λ store h honest. h);
+            }
+        go (Refused refusal) e =
+            let done = issue-by schemeOf s server buffer (Refused refusal) e in
+            record { issued = issued; taken = taken; answers = answers; is = rw done; kept = rw done k; held = rw done (λ store h honest. h) }
 
-    next-recover : (message : List ℕ) → Next schemeOf c wanted key room got at (recovering message)
+    next-recover : (message : List ℕ) → Next schemeOf c wanted key room past at (recovering message)
     next-recover message = record {
       issued = issued;
       taken = taken;
@@ -138,21 +154,19 @@ module _ (schemeOf : Catalogue → Scheme) (c : Catalogue) (admitted : Admitted 
       fits : schemeOf c .answerLength (queryOf schemeOf s server) ≤ slot
       fits = rw (kept-query issued taken server) (fits-slot server (t .below))
 
-      pub take-kept : Kept schemeOf c room (server ∷ got) issued (set taken server true) after
+      pub take-kept : Kept schemeOf c room (record { issued = past .issued; taken = server ∷ past .taken }) issued (set taken server true) after
       take-kept = record {
         marks = marks-take (c .servers) issued taken (k .marks) server (t .below) (laws .servers-fit) (t .was-issued);
         room-kept = take-length schemeOf s server answer answers t fits ∙ k .room-kept;
-        agree = λ i h. agrees i h (eqb server i) refl;
+        agree-issued = k .agree-issued;
+        agree = mark-agrees taken (past .taken) (c .servers) server (k .agree) (omega (arith, k .marks .taken-long, t .below, laws .servers-fit));
         roomy = λ i h. let e = k .room-kept in omega (arith, t .roomy);
       }
-        where
-          agrees : (i : ℕ) → i < c .servers → (b : Bool) → eqb server i ≡ b → marked (set taken server true) i ≡ (b || has i got)
-          agrees i h true e = rw (← eqb-true server i e) (mark-set taken server (omega (arith, k .marks .taken-long, t .below, laws .servers-fit)))
-          agrees i h false e = mark-other taken server i (λ q. eqb-false server i e (sym q)) ∙ k .agree i h
 
-      pub take-held : (store : List ℕ) → Held schemeOf c store wanted key got answers → Honest schemeOf c store wanted key server answer
-          → Held schemeOf c store wanted key (server ∷ got) after
-      take-held store held honest i h = go (eqb server i) refl
+      pub take-held : (store : List ℕ) → Held schemeOf c store wanted key past answers → Honest schemeOf c store wanted key server answer
+          → Held schemeOf c store wanted key (record { issued = past .issued; taken = server ∷ past .taken }) after
+      unfolding stands
+      take-held store held honest i h = go (eqb i server) refl
         where
           here : cut (server * slot) (schemeOf c .answerLength (query server)) after ≡ schemeOf c .answer store (query server)
           here =
@@ -160,17 +174,17 @@ module _ (schemeOf : Catalogue → Scheme) (c : Catalogue) (admitted : Admitted 
               ∙ take-reads schemeOf s server answer answers t fits
               ∙ honest .as-coded
 
-          go : (b : Bool) → eqb server i ≡ b → (b || has i got) ≡ true → HeldAt schemeOf c store wanted key after i
-          go true e p = record { store-long = honest .store-long; holds = rw (← eqb-true server i e) here }
+          go : (b : Bool) → eqb i server ≡ b → (b || stands i (past .taken)) ≡ true → HeldAt schemeOf c store wanted key after i
+          go true e p = record { store-long = honest .store-long; holds = rw (eqb-true i server e) here }
           go false e p =
               let w = held i h p in
-              let apart = take-others schemeOf s server answer answers t fits i (schemeOf c .answerLength (query i)) (λ q. eqb-false server i e (sym q)) (fits-slot i h) in
+              let apart = take-others schemeOf s server answer answers t fits i (schemeOf c .answerLength (query i)) (eqb-false i server e) (fits-slot i h) in
               record { store-long = w .store-long; holds = apart ∙ w .holds }
 
-    next-take : (server : ℕ) (answer : List ℕ) → Next schemeOf c wanted key room got at (taking server answer)
+    next-take : (server : ℕ) (answer : List ℕ) → Next schemeOf c wanted key room past at (taking server answer)
     next-take server answer = go (takeVerdict schemeOf s server (length answer) (length answers)) refl
       where
-        go : (v : Verdict) → v ≡ takeVerdict schemeOf s server (length answer) (length answers) → Next schemeOf c wanted key room got at (taking server answer)
+        go : (v : Verdict) → v ≡ takeVerdict schemeOf s server (length answer) (length answers) → Next schemeOf c wanted key room past at (taking server answer)
         go Accepted e =
             let by = take-by schemeOf s server answer answers Accepted e in
             let t = take-passed schemeOf s server (length answer) (length answers) (sym e) in
@@ -186,7 +200,7 @@ module _ (schemeOf : Catalogue → Scheme) (c : Catalogue) (admitted : Admitted 
             let by = take-by schemeOf s server answer answers (Refused refusal) e in
             record { issued = issued; taken = taken; answers = answers; is = rw by; kept = rw by k; held = rw by (λ store h honest. h) }
 
-    pub next : (call : Call) → Next schemeOf c wanted key room got at call
+    pub next : (call : Call) → Next schemeOf c wanted key room past at call
     next (issuing server buffer answer) = next-issue server buffer answer
     next (taking server answer) = next-take server answer
     next (recovering message) = next-recover message

@@ -1,12 +1,15 @@
--- Demand 3, from what the codes promise: of two lists of fetches with exchanged keys that make the same issues a server is shown the same, since it is
--- asked the same queries; and each fetch recovers what it wants.
+-- Demand 3, from what the codes promise (`demand3`): of two lists of fetches with exchanged keys that make the same issues to a server it is shown the
+-- same, since it is asked the same queries; and each fetch is right. It rests on `view`, `all-told`, `verdicts`, `messages`.
 use mathlib.Core.Path.{_≡_, refl, sym}
 use mathlib.Core.Bool.{true}
 use mathlib.Core.List.{List, [], _∷_, map}
 use Prim.Native.Nat.{ℕ, _<_}
 use native.Mathlib.Omega.{arith}
+use lib.Dec.{eqb}
 use lib.ListN.{length}
 use Rattle.lists.specs.Below.{Below}
+use Rattle.lists.specs.Distinct.{stands}
+use Rattle.lists.specs.Sums.{keep}
 use Rattle.refusal.specs.declared.Verdict.the-variants.{Accepted}
 use Rattle.scheme.specs.Scheme.{Scheme, Valid}
 use Rattle.scheme.specs.Laws.{Laws}
@@ -18,29 +21,34 @@ use Rattle.session.specs.Calls.{begin}
 use Rattle.session_parts.proofs.Marks.{none-marked, marks-none}
 use Rattle.session.proofs.Begin.{begin-accepted, begin-by}
 use Rattle.fetches.specs.Fetches.{Fetch, history}
-use Rattle.fetches.specs.Shown.{issues, issuesOf, shownTo, shown}
-use Rattle.fetches.specs.Right.{has, FetchRight}
+use Rattle.fetches.specs.Shown.{Issue, issues, issuesTo, shownTo, shown}
+use Rattle.fetches.specs.Past.{nothing}
+use Rattle.fetches.specs.Right.{FetchRight}
 use Rattle.fetches.specs.Claim.{Each, nil, cons, KeyList, Exchange, Demand3, Promises}
 use Rattle.fetches.proofs.Steps.{Kept, Held}
-use Rattle.fetches.proofs.View.{seenOf, view}
+use Rattle.fetches.proofs.Told.{all-told}
+use Rattle.fetches.proofs.View.{seenOf, seen-named, view}
 use Rattle.fetches.proofs.Recovery.{verdicts, messages}
 use Rattle.fetches.proofs.Throughout.{all-unchanged, all-answers-left}
 use Rattle.fetches.proofs.Exchange.{exchanges, first-key, other-keys, below-rest, exchanges-valid, exchanges-back}
 
 -- no server is taken at first
-pub none-taken : {A : Type 0} (i : ℕ) → has i [] ≡ true → A
+none-taken : {A : Type 0} (i : ℕ) → stands i [] ≡ true → A
+unfolding stands
 none-taken i e = let z : _≡_ {A = ℕ} 0 1 = cc in absurd (let w : ⊥ = omega arith in w)
 
-pub kept-first : (schemeOf : Catalogue → Scheme) (c : Catalogue) (answers : List ℕ) → Kept schemeOf c (length answers) [] noMarks noMarks answers
+pub kept-first : (schemeOf : Catalogue → Scheme) (c : Catalogue) (answers : List ℕ) → Kept schemeOf c (length answers) nothing noMarks noMarks answers
+unfolding stands
 kept-first schemeOf c answers = record {
   marks = marks-none (c .servers);
   room-kept = refl;
+  agree-issued = λ i h. none-marked i;
   agree = λ i h. none-marked i;
   roomy = λ i e. none-taken i e;
 }
 
 pub held-first : (schemeOf : Catalogue → Scheme) (c : Catalogue) (store : List ℕ) (wanted : ℕ) (key answers : List ℕ)
-    → Held schemeOf c store wanted key [] answers
+    → Held schemeOf c store wanted key nothing answers
 held-first schemeOf c store wanted key answers i h e = none-taken i e
 
 module _ (schemeOf : Catalogue → Scheme) (c : Catalogue) (admitted : Admitted c) (laws : Laws (c .servers) (c .messages) (schemeOf c)) where
@@ -55,19 +63,22 @@ module _ (schemeOf : Catalogue → Scheme) (c : Catalogue) (admitted : Admitted 
       → shownTo schemeOf c store n (history schemeOf c f) ≡ seenOf schemeOf c store n (schemeOf c .query (f .wanted) n (f .key)) (issues (f .calls))
   fetch-shown store n below f inside valid =
       rw (begun (f .wanted) inside (f .key) valid)
-      (view schemeOf c admitted laws (f .wanted) inside (f .key) valid store n below (f .calls) (length (f .answers)) [] noMarks noMarks (f .answers)
+      (view schemeOf c admitted laws (f .wanted) inside (f .key) valid store n below (f .calls) (length (f .answers)) nothing noMarks noMarks (f .answers)
       (kept-first schemeOf c (f .answers)))
 
   fetch-right : (store : List ℕ) → Below 256 store → (f : Fetch) → f .wanted < c .messages → Valid (schemeOf c) (f .key) → FetchRight schemeOf c store f
   fetch-right store bytes f inside valid = record {
     begun = rw (begun (f .wanted) inside (f .key) valid);
-    refusals = all-unchanged schemeOf (f .calls) [] _;
-    answers-left = all-answers-left schemeOf c laws store (f .calls) [] _;
+    refusals = all-unchanged schemeOf (f .calls) nothing _;
+    told = rw (begun (f .wanted) inside (f .key) valid)
+        (all-told schemeOf c admitted laws (f .wanted) inside (f .key) valid (f .calls) (length (f .answers)) nothing noMarks noMarks (f .answers)
+        (kept-first schemeOf c (f .answers)));
+    answers-left = all-answers-left schemeOf c laws store (f .calls) nothing _;
     verdicts = rw (begun (f .wanted) inside (f .key) valid)
-        (verdicts schemeOf c admitted laws (f .wanted) inside (f .key) valid (f .calls) (length (f .answers)) [] noMarks noMarks (f .answers)
+        (verdicts schemeOf c admitted laws (f .wanted) inside (f .key) valid (f .calls) (length (f .answers)) nothing noMarks noMarks (f .answers)
         (kept-first schemeOf c (f .answers)));
     messages = rw (begun (f .wanted) inside (f .key) valid)
-        (messages schemeOf c admitted laws (f .wanted) inside (f .key) valid store bytes (f .calls) (length (f .answers)) [] noMarks noMarks (f .answers)
+        (messages schemeOf c admitted laws (f .wanted) inside (f .key) valid store bytes (f .calls) (length (f .answers)) nothing noMarks noMarks (f .answers)
         (kept-first schemeOf c (f .answers)) (held-first schemeOf c store (f .wanted) (f .key) (f .answers)));
   }
 
@@ -89,14 +100,15 @@ module _ (schemeOf : Catalogue → Scheme) (c : Catalogue) (admitted : Admitted 
 
   all-alike : (store : List ℕ) (n : ℕ) → n < c .servers → (fs gs : List Fetch) → Below (c .messages) (wantedOf fs) → Below (c .messages) (wantedOf gs)
       → Keyed fs → Keyed gs → keysOf gs ≡ exchanges (laws .exchange n) (wantedOf fs) (wantedOf gs) (keysOf fs)
-      → issuesOf fs ≡ issuesOf gs → shown schemeOf c store n fs ≡ shown schemeOf c store n gs
+      → issuesTo n fs ≡ issuesTo n gs → shown schemeOf c store n fs ≡ shown schemeOf c store n gs
   all-alike store n below [] [] u v k l e i = refl
   all-alike store n below [] (g ∷ gs) u v k l e i = cc
   all-alike store n below (f ∷ fs) [] u v k l e i = cc
   all-alike store n below (f ∷ fs) (g ∷ gs) u v k l e i =
       let rest : shown schemeOf c store n fs ≡ shown schemeOf c store n gs = all-alike store n below fs gs
       (below-rest (c .messages) (f .wanted) (wantedOf fs) u) (below-rest (c .messages) (g .wanted) (wantedOf gs) v)
-      (other-keys (schemeOf c) (length (wantedOf fs)) (f .key) (keysOf fs) k) (other-keys (schemeOf c) (length (wantedOf gs)) (g .key) (keysOf gs) l) (cc) (cc) in
+      (other-keys (schemeOf c) (length (wantedOf fs)) (f .key) (keysOf fs) k)
+      (other-keys (schemeOf c) (length (wantedOf gs)) (g .key) (keysOf gs) l) (cc) (cc) in
       let p : f .wanted < c .messages = u 0 (omega arith) in
       let q : g .wanted < c .messages = v 0 (omega arith) in
       let vf = first-key (schemeOf c) (length (wantedOf fs)) (f .key) (keysOf fs) k in
@@ -104,7 +116,9 @@ module _ (schemeOf : Catalogue → Scheme) (c : Catalogue) (admitted : Admitted 
       let a = fetch-shown store n below f p vf in
       let b = fetch-shown store n below g q vg in
       let x : g .key ≡ laws .exchange n (f .wanted) (g .wanted) (f .key) = cc in
-      let y : issues (f .calls) ≡ issues (g .calls) = cc in
+      let y : keep (λ (i : Issue). eqb (i .server) n) (issues (f .calls)) ≡ keep (λ (i : Issue). eqb (i .server) n) (issues (g .calls)) = cc in
+      let s = seen-named schemeOf c store n (schemeOf c .query (f .wanted) n (f .key)) (issues (f .calls)) in
+      let t = seen-named schemeOf c store n (schemeOf c .query (g .wanted) n (g .key)) (issues (g .calls)) in
       let z = laws .exchange-shown n (f .wanted) (g .wanted) (f .key) below p q vf in
       let d : shownTo schemeOf c store n (history schemeOf c f) ≡ shownTo schemeOf c store n (history schemeOf c g) = cc in
       cc

@@ -1,4 +1,5 @@
--- What a server is shown of a fetch: a function of the query that the fetch asks it and of the fetch's issues, and of nothing else.
+-- What a server is shown of a fetch (`view`): a function of the query that the fetch asks it and of the fetch's issues, and of nothing else; and of
+-- the issues only those that name it count (`seen-named`). It rests on `next`: a fetch keeps its message and its key.
 use mathlib.Core.Path.{_≡_, refl, sym, ap, _∙_}
 use mathlib.Core.Bool.{Bool, true, false, cond}
 use mathlib.Core.List.{List, [], _∷_, _++_}
@@ -8,7 +9,7 @@ use borrow.Author.Tests.{eqb-true}
 use lib.Dec.{ltb, eqb}
 use lib.ListN.{length, drop, replicate, length-replicate}
 use lib.Seq.{take-at, take-all}
-use Rattle.refusal.specs.declared.Refusal.the-variants.{Room}
+use Rattle.lists.specs.Sums.{keep, keepIf}
 use Rattle.refusal.specs.declared.Verdict.{Verdict}
 use Rattle.refusal.specs.declared.Verdict.the-variants.{Accepted, Refused}
 use Rattle.refusal.specs.declared.Outcome.the-variants.{Value}
@@ -19,20 +20,32 @@ use Rattle.catalogue.specs.declared.Catalogue.{Catalogue}
 use Rattle.catalogue.specs.Catalogue.{Admitted}
 use Rattle.server.specs.Answering.{answerVerdict}
 use Rattle.server.proofs.Laws.{answer-by, writes-answer}
-use Rattle.session.specs.Calls.{issueVerdict, issue}
+use Rattle.session.specs.declared.Session.{Session}
+use Rattle.session.specs.Calls.{issueVerdict}
 use Rattle.session.proofs.Issue.{issue-verdict, issue-by}
-use Rattle.fetches.specs.Fetches.{Call, issuing, taking, recovering, run}
+use Rattle.fetches.specs.Fetches.{Call, issuing, taking, recovering, Made, make, run}
 use Rattle.fetches.specs.Shown.{Shown, asked, Issue, issues, asking, showing, shownTo}
+use Rattle.fetches.specs.Past.{Past}
 use Rattle.fetches.proofs.Steps.{sessionOf, stateOf, Kept, kept-query, sound, next}
 
 module _ (schemeOf : Catalogue → Scheme) (c : Catalogue) (store : List ℕ) (n : ℕ) (query : List ℕ) where
   -- what an issue shows that asks the query: as if into zeros
   abbrev pub seen : ℕ → ℕ → Shown
-  seen room answerRoom = showing schemeOf c store n query (replicate answerRoom 0) (refuseIf (ltb room (schemeOf c .sizes .query)) Room Accepted)
+  seen room answerRoom = showing schemeOf c store n query (replicate answerRoom 0) (refuseIf (ltb room (schemeOf c .sizes .query)) 9 Accepted)
 
   abbrev pub seenOf : List Issue → List Shown
   seenOf [] = []
   seenOf (i ∷ is) = cond (eqb (i .server) n) (seen (i .room) (i .answerRoom) ∷ []) [] ++ seenOf is
+
+  pub seen-named : (is : List Issue) → seenOf is ≡ seenOf (keep (λ (i : Issue). eqb (i .server) n) is)
+  unfolding keep keepIf
+  seen-named [] = refl
+  seen-named (i ∷ is) = go (eqb (i .server) n) refl (seen-named is)
+    where
+      go : (t : Bool) → eqb (i .server) n ≡ t → seenOf is ≡ seenOf (keep (λ (i : Issue). eqb (i .server) n) is)
+          → cond t (seen (i .room) (i .answerRoom) ∷ []) [] ++ seenOf is ≡ seenOf (keepIf t i (keep (λ (i : Issue). eqb (i .server) n) is))
+      go true e r = rw (e, r)
+      go false e r = r
 
 module _ (schemeOf : Catalogue → Scheme) (c : Catalogue) (laws : Laws (c .servers) (c .messages) (schemeOf c)) (store : List ℕ) (n : ℕ) (query : List ℕ) where
   abbrev verdict : List ℕ → Verdict
@@ -62,47 +75,49 @@ module _ (schemeOf : Catalogue → Scheme) (c : Catalogue) (admitted : Admitted 
   long = laws .query-length wanted n key inside below valid
 
   -- an issue to the server
-  module _ (room : ℕ) (got : List ℕ) (issued taken : List Bool) (answers : List ℕ) (k : Kept schemeOf c room got issued taken answers) where
+  module _ (room : ℕ) (past : Past) (issued taken : List Bool) (answers : List ℕ) (k : Kept schemeOf c room past issued taken answers) where
+    abbrev s : Session
+    s = sessionOf c wanted key issued taken
+
+    abbrev issueMade : ℕ → List ℕ → List ℕ → Made
+    issueMade server buffer answer = make schemeOf (stateOf c wanted key issued taken answers) (issuing server buffer answer)
+
     issue-shown : (buffer answer : List ℕ)
-        → showing schemeOf c store n (issue schemeOf (sessionOf c wanted key issued taken) n buffer .buffer) answer
-        (issue schemeOf (sessionOf c wanted key issued taken) n buffer .handed .verdict)
+        → showing schemeOf c store n (issueMade n buffer answer .left) answer (issueMade n buffer answer .verdict)
         ≡ seen schemeOf c store n query (length buffer) (length answer)
     issue-shown buffer answer =
-        go (refuseIf (ltb (length buffer) (schemeOf c .sizes .query)) Room Accepted)
-        (sym (issue-verdict schemeOf (sessionOf c wanted key issued taken) n
-        (sound schemeOf c admitted laws wanted inside key valid issued taken (k .marks)) below (length buffer)))
+        go (refuseIf (ltb (length buffer) (schemeOf c .sizes .query)) 9 Accepted)
+        (sym (issue-verdict schemeOf s n (sound schemeOf c admitted laws wanted inside key valid issued taken (k .marks)) below (length buffer)))
       where
-        go : (v : Verdict) → v ≡ issueVerdict schemeOf (sessionOf c wanted key issued taken) n (length buffer)
-            → showing schemeOf c store n (issue schemeOf (sessionOf c wanted key issued taken) n buffer .buffer) answer
-            (issue schemeOf (sessionOf c wanted key issued taken) n buffer .handed .verdict)
+        go : (v : Verdict) → v ≡ issueVerdict schemeOf s n (length buffer)
+            → showing schemeOf c store n (issueMade n buffer answer .left) answer (issueMade n buffer answer .verdict)
             ≡ showing schemeOf c store n query (replicate (length answer) 0) v
         go Accepted e =
             rw (
-              issue-by schemeOf (sessionOf c wanted key issued taken) n buffer Accepted e,
+              issue-by schemeOf s n buffer Accepted e,
               kept-query schemeOf c admitted laws wanted inside key valid issued taken n,
               take-at query (drop (length query) buffer) (schemeOf c .sizes .query) long,
               take-all (schemeOf c .sizes .query) query (omega (arith, long)),
             )
             (same-room schemeOf c laws store n query answer)
-        go (Refused refusal) e = rw (issue-by schemeOf (sessionOf c wanted key issued taken) n buffer (Refused refusal) e)
+        go (Refused refusal) e = rw (issue-by schemeOf s n buffer (Refused refusal) e)
 
   -- the calls of a fetch
-  pub view : (calls : List Call) (room : ℕ) (got : List ℕ) (issued taken : List Bool) (answers : List ℕ) → Kept schemeOf c room got issued taken answers
+  pub view : (calls : List Call) (room : ℕ) (past : Past) (issued taken : List Bool) (answers : List ℕ) → Kept schemeOf c room past issued taken answers
       → shownTo schemeOf c store n (run schemeOf (stateOf c wanted key issued taken answers) calls) ≡ seenOf schemeOf c store n query (issues calls)
-  view [] room got issued taken answers k = refl
-  view (issuing server buffer answer ∷ calls) room got issued taken answers k =
-      let x = next schemeOf c admitted laws wanted inside key valid room got issued taken answers k (issuing server buffer answer) in
-      rw (x .is, view calls room got (x .issued) (x .taken) (x .answers) (x .kept)) (go (eqb server n) refl)
+  view [] room past issued taken answers k = refl
+  view (issuing server buffer answer ∷ calls) room past issued taken answers k =
+      let x = next schemeOf c admitted laws wanted inside key valid room past issued taken answers k (issuing server buffer answer) in
+      rw (x .is, view calls room _ (x .issued) (x .taken) (x .answers) (x .kept)) (go (eqb server n) refl)
     where
-      go : (t : Bool) → eqb server n ≡ t
-          → cond t (showing schemeOf c store server (issue schemeOf (sessionOf c wanted key issued taken) server buffer .buffer) answer
-          (issue schemeOf (sessionOf c wanted key issued taken) server buffer .handed .verdict) ∷ []) [] ++ seenOf schemeOf c store n query (issues calls)
+      go : (t : Bool) → eqb server n ≡ t → let made = issueMade room past issued taken answers k server buffer answer in
+          cond t (showing schemeOf c store server (made .left) answer (made .verdict) ∷ []) [] ++ seenOf schemeOf c store n query (issues calls)
           ≡ cond t (seen schemeOf c store n query (length buffer) (length answer) ∷ []) [] ++ seenOf schemeOf c store n query (issues calls)
-      go true e = rw (eqb-true server n e, issue-shown room got issued taken answers k buffer answer)
+      go true e = rw (eqb-true server n e, issue-shown room past issued taken answers k buffer answer)
       go false e = refl
-  view (taking server answer ∷ calls) room got issued taken answers k =
-      let x = next schemeOf c admitted laws wanted inside key valid room got issued taken answers k (taking server answer) in
+  view (taking server answer ∷ calls) room past issued taken answers k =
+      let x = next schemeOf c admitted laws wanted inside key valid room past issued taken answers k (taking server answer) in
       rw (x .is) (view calls room _ (x .issued) (x .taken) (x .answers) (x .kept))
-  view (recovering message ∷ calls) room got issued taken answers k =
-      let x = next schemeOf c admitted laws wanted inside key valid room got issued taken answers k (recovering message) in
-      rw (x .is) (view calls room got (x .issued) (x .taken) (x .answers) (x .kept))
+  view (recovering message ∷ calls) room past issued taken answers k =
+      let x = next schemeOf c admitted laws wanted inside key valid room past issued taken answers k (recovering message) in
+      rw (x .is) (view calls room _ (x .issued) (x .taken) (x .answers) (x .kept))

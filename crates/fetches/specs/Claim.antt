@@ -1,5 +1,5 @@
 -- The claim on two whole lists of fetches over one catalogue and one store (demand 3; document 01, 'Lists of fetches'): any server is shown the same
--- of both, and each fetch of both recovers what it wants.
+-- of both, and in each fetch of both every call does what its history calls for. `Demand3` is the claim, whole.
 use mathlib.Core.Path.{_≡_}
 use mathlib.Core.List.{List, [], _∷_, map}
 use Prim.Native.Nat.{ℕ, _<_}
@@ -10,7 +10,7 @@ use Rattle.scheme.specs.Laws.{Laws}
 use Rattle.catalogue.specs.declared.Catalogue.{Catalogue}
 use Rattle.catalogue.specs.Catalogue.{Admitted}
 use Rattle.fetches.specs.Fetches.{Fetch}
-use Rattle.fetches.specs.Shown.{issuesOf, shown}
+use Rattle.fetches.specs.Shown.{issuesTo, shown}
 use Rattle.fetches.specs.Right.{FetchRight}
 
 -- P holds of each fetch
@@ -18,9 +18,10 @@ pub data Each (P : Fetch → Type 0) : List Fetch → Type 0 where
   nil : Each P []
   cons : {f : Fetch} {fs : List Fetch} → P f → Each P fs → Each P (f ∷ fs)
 
--- THE CLAIM on the lists fs and gs: server n is shown the same of both, if they make the same issues; and each fetch of both is right
+-- THE CLAIM on the lists fs and gs: server n is shown the same of both, if they make the same issues to it (their issues to other servers may differ);
+-- and each fetch of both is right
 pub record Claim (schemeOf : Catalogue → Scheme) (c : Catalogue) (store : List ℕ) (n : ℕ) (fs gs : List Fetch) : Type 0 where
-  pub alike : issuesOf fs ≡ issuesOf gs → shown schemeOf c store n fs ≡ shown schemeOf c store n gs
+  pub alike : issuesTo n fs ≡ issuesTo n gs → shown schemeOf c store n fs ≡ shown schemeOf c store n gs
   pub first : Each (FetchRight schemeOf c store) fs
   pub second : Each (FetchRight schemeOf c store) gs
 

@@ -1,4 +1,5 @@
 -- Fetches (document 01, 'Lists of fetches'): the calls that follow a begin, made one after another, and what each did.
+-- `make` makes one call, and `history` is what all calls of a fetch did, in order.
 use mathlib.Core.List.{List, [], _∷_}
 use Prim.Native.Nat.{ℕ}
 use Rattle.refusal.specs.declared.Verdict.{Verdict}

@@ -1,8 +1,9 @@
 pub mod Fetches
 pub mod Shown
+pub mod Past
+pub mod Told
 pub mod Right
 pub mod Claim
 pub mod Plain
 pub mod Received
-pub mod ByHistory
 pub mod Reached

@@ -1,5 +1,6 @@
 -- The plain fetch: a query issued to each server, the answer of each taken, the message recovered. What is promised of it, for every admitted catalogue,
--- store of the catalogue's length, wanted message and valid key, shuts out ends that refuse everything, or ask or answer nothing (demand 2).
+-- store of the catalogue's length, wanted message and valid key, shuts out ends that refuse everything, or ask or answer nothing (demand 2):
+-- `PlainFetches`.
 use mathlib.Core.Path.{_≡_}
 use mathlib.Core.List.{List, [], _∷_, _++_, map}
 use Prim.Native.Nat.{ℕ, _≤_, _<_}
@@ -30,8 +31,8 @@ module _ (schemeOf : Catalogue → Scheme) (c : Catalogue) (store : List ℕ) (w
   answerOf server = schemeOf c .answer store (queryTo server)
 
   -- the buffers: the fetch's for the answers, and for each issue a query's and a server's, and the message's
-  abbrev pub plain : List ℕ → List ℕ → List ℕ → List ℕ → Fetch
-  plain answers query answer message = record {
+  abbrev pub plainFetch : List ℕ → List ℕ → List ℕ → List ℕ → Fetch
+  plainFetch answers query answer message = record {
     wanted = wanted;
     key = key;
     answers = answers;
@@ -44,12 +45,15 @@ module _ (schemeOf : Catalogue → Scheme) (c : Catalogue) (store : List ℕ) (w
   pub record PlainRight (answers query answer message : List ℕ) : Type 0 where
     pub whole : length (messageOf (schemeOf c) store wanted) ≡ schemeOf c .sizes .message
     pub served : (n : ℕ) → n < c .servers
-        → shownTo schemeOf c store n (history schemeOf c (plain answers query answer message)) ≡ asked (queryTo n) (Value (length (answerOf n))) (answerOf n) ∷ []
-    pub ends : Ends (λ (made : Made). made .left ≡ put 0 (messageOf (schemeOf c) store wanted) message) (history schemeOf c (plain answers query answer message))
+        → shownTo schemeOf c store n (history schemeOf c (plainFetch answers query answer message))
+        ≡ asked (queryTo n) (Value (length (answerOf n))) (answerOf n) ∷ []
+    pub ends : Ends (λ (made : Made). made .left ≡ put 0 (messageOf (schemeOf c) store wanted) message)
+        (history schemeOf c (plainFetch answers query answer message))
 
-abbrev pub PlainFetch : (Catalogue → Scheme) → Type 0
-PlainFetch schemeOf =
+abbrev pub PlainFetches : (Catalogue → Scheme) → Type 0
+PlainFetches schemeOf =
     (c : Catalogue) → Admitted c → (store : List ℕ) → Below 256 store → length store ≡ schemeOf c .sizes .store
     → (wanted : ℕ) → wanted < c .messages → (key : List ℕ) → Valid (schemeOf c) key
     → (answers query answer message : List ℕ) → slotsOf schemeOf c ≤ length answers → schemeOf c .sizes .query ≤ length query
-    → schemeOf c .sizes .slot ≤ length answer → schemeOf c .sizes .message ≤ length message → PlainRight schemeOf c store wanted key answers query answer message
+    → schemeOf c .sizes .slot ≤ length answer → schemeOf c .sizes .message ≤ length message
+    → PlainRight schemeOf c store wanted key answers query answer message

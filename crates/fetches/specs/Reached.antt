@@ -1,5 +1,5 @@
--- The marks that a history gives (document 01, number 11): besides that every history gives good marks, every good marking is that of a session
--- to which some calls of a fetch lead. So what number 11 refuses is exactly what no history gives. `marks-reached` shows it.
+-- The marks that a history gives (document 01, number 11): those of a session to which some calls of a fetch lead. They are the good ones, so what
+-- number 11 refuses is exactly what no history gives: `MarksByHistory`.
 use mathlib.Core.Path.{_≡_}
 use mathlib.Core.Bool.{Bool, true}
 use mathlib.Core.List.{List, [], _∷_}
@@ -27,7 +27,13 @@ module _ (schemeOf : Catalogue → Scheme) where
     pub its-session : ended (start schemeOf c fetch) (fetch .calls) .session
         ≡ record { catalogue = c; wanted = wanted; key = paddedKey key; issued = issued; taken = taken }
 
-abbrev pub MarksReached : (Catalogue → Scheme) → Type 0
-MarksReached schemeOf =
+-- some history gives these marks exactly if they are good
+pub record MarksExactly (schemeOf : Catalogue → Scheme) (c : Catalogue) (wanted : ℕ) (key : List ℕ) (issued taken : List Bool) : Type 0 where
+  pub reached-if-good : marksGood (c .servers) issued taken ≡ true → Reached schemeOf c wanted key issued taken
+  pub good-if-reached : Reached schemeOf c wanted key issued taken → marksGood (c .servers) issued taken ≡ true
+
+-- for every admitted catalogue, message in it and valid key, and any marks of the session's places, those past the servers included
+abbrev pub MarksByHistory : (Catalogue → Scheme) → Type 0
+MarksByHistory schemeOf =
     (c : Catalogue) → Admitted c → (wanted : ℕ) → wanted < c .messages → (key : List ℕ) → Valid (schemeOf c) key → (issued taken : List Bool)
-    → length issued ≡ mostServers → length taken ≡ mostServers → marksGood (c .servers) issued taken ≡ true → Reached schemeOf c wanted key issued taken
+    → length issued ≡ mostServers → length taken ≡ mostServers → MarksExactly schemeOf c wanted key issued taken

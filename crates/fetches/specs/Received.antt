@@ -1,4 +1,4 @@
--- The bytes that a fetch receives, and the bound on them that the catalogue gives (document 01, 'Session').
+-- The bytes that a fetch receives, and the bound on them that the catalogue gives (document 01, 'Session'): `Bounded`.
 use mathlib.Core.Path.{_≡_}
 use mathlib.Core.List.{List, [], _∷_}
 use Prim.Native.Nat.{ℕ, _+_, _≤_, _<_}

@@ -1,9 +1,10 @@
--- What a server is shown of fetches, and the issues that two lists of fetches must agree on (document 01, 'Lists of fetches').
+-- What a server is shown of fetches (`shown`), and the issues that two lists of fetches must agree on (`issuesTo`): document 01, 'Lists of fetches'.
 use mathlib.Core.Bool.{cond}
 use mathlib.Core.List.{List, [], _∷_, _++_, map}
 use Prim.Native.Nat.{ℕ}
 use lib.Dec.{eqb}
 use lib.ListN.{length, take}
+use Rattle.lists.specs.Sums.{keep}
 use Rattle.refusal.specs.declared.Refusal.{Refusal}
 use Rattle.refusal.specs.declared.Verdict.{Verdict}
 use Rattle.refusal.specs.declared.Verdict.the-variants.{Accepted, Refused}
@@ -31,9 +32,12 @@ issues (issuing server query answer ∷ calls) = record { server = server; room 
 issues (taking server answer ∷ calls) = issues calls
 issues (recovering message ∷ calls) = issues calls
 
--- fetch by fetch
+-- those of a list of fetches, fetch by fetch; and of them only those that name server n
 abbrev pub issuesOf : List Fetch → List (List Issue)
 issuesOf fs = map (λ (f : Fetch). issues (f .calls)) fs
+
+abbrev pub issuesTo : ℕ → List Fetch → List (List Issue)
+issuesTo n fs = map (keep (λ (i : Issue). eqb (i .server) n)) (issuesOf fs)
 
 module _ (schemeOf : Catalogue → Scheme) (c : Catalogue) (store : List ℕ) where
   -- a server is asked a query, and answers it from the store into a buffer

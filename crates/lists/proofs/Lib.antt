@@ -14,6 +14,7 @@ pub mod Cuts
 pub mod ReadBack
 pub mod Puts
 pub mod Writing
+pub mod Assembled
 pub mod Inserts
 pub mod Marks
 pub mod Passes

@@ -1,5 +1,6 @@
 pub mod Ascii
 pub mod Parts
+pub mod Assembled
 pub mod Ranges
 pub mod Below
 pub mod Inserts

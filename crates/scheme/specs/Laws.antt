@@ -1,5 +1,5 @@
--- What a retrieval code promises, at given numbers of servers and messages. The session and the claim on lists of fetches know a
--- code by these laws alone.
+-- What a retrieval code promises, at given numbers of servers and messages (`Laws`). The session and the claim on lists of fetches know
+-- a code by these laws alone.
 use mathlib.Core.Path.{_≡_}
 use mathlib.Core.Bool.{true}
 use mathlib.Core.List.{List}
@@ -15,6 +15,9 @@ pub record Laws (servers messages : ℕ) (scheme : Scheme) : Type 0 where
   pub servers-fit : servers ≤ mostServers
   pub key-fits : scheme .sizes .key ≤ keyPlaces
   pub store-whole : scheme .sizes .store ≡ messages * scheme .sizes .message
+  -- there is a valid key: what is promised of every key is not empty
+  pub some-key : List ℕ
+  pub some-key-valid : Valid scheme some-key
   -- queries
   pub query-length : (wanted server : ℕ) (key : List ℕ) → wanted < messages → server < servers → Valid scheme key
       → length (scheme .query wanted server key) ≡ scheme .sizes .query

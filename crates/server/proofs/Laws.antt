@@ -46,12 +46,19 @@ module _ (schemeOf : Catalogue → Scheme) where
       → Answers c server stored query room → answerVerdict schemeOf c server stored query room ≡ Accepted
   unfolding answerVerdict
   answer-accepted c server stored query room a =
-      call-accepted c _ (a .admitted)
-      (lt-leb (c .servers) server (a .below),
-      (ap not (a .admits),
-      (ap not (eq-eqb stored (schemeOf c .sizes .store) (a .store-long)),
-      (le-ltb room (schemeOf c .answerLength query) (a .roomy),
-      tt))))
+      call-accepted c _ (a .admitted) (
+        lt-leb (c .servers) server (a .below),
+        (
+          ap not (a .admits),
+          (
+            ap not (eq-eqb stored (schemeOf c .sizes .store) (a .store-long)),
+            (
+              le-ltb room (schemeOf c .answerLength query) (a .roomy),
+              tt,
+            ),
+          ),
+        ),
+      )
 
   -- an empty answer needs no room
   pub answer-empty : (c : Catalogue) (server stored : ℕ) (query : List ℕ) (room : ℕ) → schemeOf c .answerLength query ≡ 0

@@ -1,65 +1,102 @@
--- The symbols that the digits of a row name: whole symbols of the store, and those of a row with one digit inserted.
-use mathlib.Core.Path.{_≡_, ap, _∙_}
+-- The symbols that the digits of a row name: whole symbols, if the row is stored (`named-symbols`), and those of a row with one digit
+-- inserted (`named-none`, `named-one`). The rows of a whole store of the short code are stored: `query-stored`.
+use mathlib.Core.Path.{_≡_, sym, ap, _∙_}
 use mathlib.Core.List.{List, [], _∷_, _++_}
 use Prim.Native.Nat.{ℕ, zero, suc, _+_, _-_, _*_, _≤_, _<_}
+use native.Mathlib.Nat.{suc-mul, add-mul, le-of-eq, le-trans}
 use native.Mathlib.Omega.{arith}
-use lib.ListN.{length, take, drop}
+use lib.ListN.{length, getD, take, drop}
 use lib.Seq.{length-take-le}
 use Rattle.lists.specs.Below.{Below}
 use Rattle.lists.specs.Inserts.{insertAt}
-use Rattle.lists.proofs.Below.{below-take, below-drop}
-use Rattle.symbol.specs.Sum.{Symbol}
+use Rattle.lists.proofs.Below.{allBelow-below, below-take, below-drop}
+use Rattle.symbol.specs.Sum.{Symbol, symbolAt}
 use Rattle.symbol.specs.Group.{Symbols, none, more}
-use Rattle.short_code.specs.Short.{symbolAt, named}
-use Rattle.short_code.proofs.Offsets.{symbol-length}
+use Rattle.short_code.specs.Short.{named}
+use Rattle.short_code.specs.Steps.{DigitRow, RowStored}
+use Rattle.short_code.proofs.Offsets.{digit-within, symbol-length}
+
+-- one message further
+next-message : (first stride n : ℕ) → first + stride + n * stride ≡ first + suc n * stride
+next-message first stride n = omega (arith, suc-mul n stride)
 
 -- joined rows
-named-append : (N S : ℕ) (store : List ℕ) (p : ℕ) (row next : List ℕ)
-    → named N S store p (row ++ next) ≡ named N S store p row ++ named N S store (p + length row) next
+named-append : (first stride S : ℕ) (store row next : List ℕ)
+    → named first stride S store (row ++ next) ≡ named first stride S store row ++ named (first + length row * stride) stride S store next
 unfolding named
-named-append N S store p [] next = ap (λ (n : ℕ). named N S store n next) (let e : p ≡ p + 0 = omega arith in e)
-named-append N S store p (zero ∷ row) next =
-    named-append N S store (suc p) row next
-    ∙ ap (λ (n : ℕ). named N S store (suc p) row ++ named N S store n next) (let e : suc p + length row ≡ p + suc (length row) = omega arith in e)
-named-append N S store p (suc d ∷ row) next =
-    ap (λ (xs : List (List ℕ)). symbolAt N S store p d ∷ xs)
-    (named-append N S store (suc p) row next
-    ∙ ap (λ (n : ℕ). named N S store (suc p) row ++ named N S store n next) (let e : suc p + length row ≡ p + suc (length row) = omega arith in e))
+named-append first stride S store [] next =
+    ap (λ (n : ℕ). named n stride S store next) (let e : first ≡ first + 0 * stride = omega arith in e)
+named-append first stride S store (zero ∷ row) next =
+    named-append (first + stride) stride S store row next
+    ∙ ap (λ (n : ℕ). named (first + stride) stride S store row ++ named n stride S store next) (next-message first stride (length row))
+named-append first stride S store (suc d ∷ row) next =
+    ap (λ (xs : List (List ℕ)). symbolAt S store (first + d) ∷ xs)
+    (named-append (first + stride) stride S store row next
+    ∙ ap (λ (n : ℕ). named (first + stride) stride S store row ++ named n stride S store next) (next-message first stride (length row)))
 
 -- what the digits before the inserted one name, and those behind it
-abbrev pub namedBefore : ℕ → ℕ → List ℕ → ℕ → List ℕ → List (List ℕ)
-namedBefore N S store at key = named N S store 0 (take at key)
+abbrev pub namedBefore : ℕ → ℕ → ℕ → List ℕ → ℕ → List ℕ → List (List ℕ)
+namedBefore first stride S store at key = named first stride S store (take at key)
 
-abbrev pub namedBehind : ℕ → ℕ → List ℕ → ℕ → List ℕ → List (List ℕ)
-namedBehind N S store at key = named N S store (suc at) (drop at key)
+abbrev pub namedBehind : ℕ → ℕ → ℕ → List ℕ → ℕ → List ℕ → List (List ℕ)
+namedBehind first stride S store at key = named (first + at * stride + stride) stride S store (drop at key)
 
-module _ (N S : ℕ) (store : List ℕ) (at : ℕ) (key : List ℕ) (within : at ≤ length key) where
-  split : (d : ℕ) → named N S store 0 (insertAt at d key) ≡ namedBefore N S store at key ++ named N S store at (d ∷ drop at key)
+module _ (first stride S : ℕ) (store : List ℕ) (at : ℕ) (key : List ℕ) (within : at ≤ length key) where
+  split : (d : ℕ) → named first stride S store (insertAt at d key)
+      ≡ namedBefore first stride S store at key ++ named (first + at * stride) stride S store (d ∷ drop at key)
   split d =
-      named-append N S store 0 (take at key) (d ∷ drop at key)
-      ∙ ap (λ (n : ℕ). namedBefore N S store at key ++ named N S store n (d ∷ drop at key))
-      (let e = length-take-le at key within in (let f : 0 + length (take at key) ≡ at = omega arith in f))
+      named-append first stride S store (take at key) (d ∷ drop at key)
+      ∙ ap (λ (n : ℕ). namedBefore first stride S store at key ++ named (first + n * stride) stride S store (d ∷ drop at key))
+      (length-take-le at key within)
 
   -- digit 0 adds nothing, another digit its symbol
-  pub named-none : named N S store 0 (insertAt at 0 key) ≡ namedBefore N S store at key ++ namedBehind N S store at key
+  pub named-none : named first stride S store (insertAt at 0 key)
+      ≡ namedBefore first stride S store at key ++ namedBehind first stride S store at key
   unfolding named
   named-none = split 0
 
-  pub named-one : (d : ℕ)
-      → named N S store 0 (insertAt at (suc d) key) ≡ namedBefore N S store at key ++ (symbolAt N S store at d ∷ namedBehind N S store at key)
+  pub named-one : (d : ℕ) → named first stride S store (insertAt at (suc d) key)
+      ≡ namedBefore first stride S store at key
+      ++ (symbolAt S store (first + at * stride + d) ∷ namedBehind first stride S store at key)
   unfolding named
   named-one d = split (suc d)
 
-module _ (N K S : ℕ) (store : List ℕ) (whole : length store ≡ K * ((N - 1) * S)) (some : 0 < S) (bytes : Below 256 store) where
-  pub symbol-whole : (p j : ℕ) → p < K → suc j < N → Symbol S (symbolAt N S store p j)
-  symbol-whole p j h k = record {
-    long = symbol-length N K S store p j whole some h k;
-    bytes = below-take 256 S (drop ((p * (N - 1) + j) * S) store) (below-drop 256 ((p * (N - 1) + j) * S) store bytes);
+module _ (stride S : ℕ) (store : List ℕ) where
+  -- the first digit of a stored row, and the others
+  pub stored-first : (first d : ℕ) (row : List ℕ) → RowStored first stride S store (d ∷ row) → (first + d) * S ≤ length store
+  stored-first first d row r =
+      le-trans (le-of-eq (ap (λ (n : ℕ). (n + d) * S) (let e : first ≡ first + 0 * stride = omega arith in e))) (r .stored 0 (omega arith))
+
+  pub stored-rest : (first d : ℕ) (row : List ℕ) → RowStored first stride S store (d ∷ row) → RowStored (first + stride) stride S store row
+  stored-rest first d row r = record {
+    stored = λ p h.
+        le-trans (le-of-eq (ap (λ (n : ℕ). (n + getD row p 0) * S) (next-message first stride p))) (r .stored (suc p) (omega arith));
   }
 
-  pub named-symbols : (p : ℕ) (row : List ℕ) → p + length row ≤ K → Below N row → Symbols S (named N S store p row)
+  pub symbol-whole : Below 256 store → (first d : ℕ) → (first + suc d) * S ≤ length store → Symbol S (symbolAt S store (first + d))
+  symbol-whole bytes first d h = record {
+    long = symbol-length S store first d h;
+    bytes = below-take 256 S (drop ((first + d) * S) store) (below-drop 256 ((first + d) * S) store bytes);
+  }
+
+  pub named-symbols : Below 256 store → (first : ℕ) (row : List ℕ) → RowStored first stride S store row → Symbols S (named first stride S store row)
   unfolding named
-  named-symbols p [] h b = none
-  named-symbols p (zero ∷ row) h b = named-symbols (suc p) row (omega arith) (λ i l. b (suc i) (omega arith))
-  named-symbols p (suc d ∷ row) h b =
-      more (symbol-whole p d (omega arith) (b 0 (omega arith))) (named-symbols (suc p) row (omega arith) (λ i l. b (suc i) (omega arith)))
+  named-symbols bytes first [] r = none
+  named-symbols bytes first (zero ∷ row) r = named-symbols bytes (first + stride) row (stored-rest first 0 row r)
+  named-symbols bytes first (suc d ∷ row) r =
+      more (symbol-whole bytes first d (stored-first first (suc d) row r))
+      (named-symbols bytes (first + stride) row (stored-rest first (suc d) row r))
+
+-- digits below N of the messages from p on, of K messages of N - 1 symbols
+pub digits-stored : (N K S : ℕ) (store : List ℕ) → length store ≡ K * ((N - 1) * S) → (first p : ℕ) → first ≡ p * (N - 1) → (row : List ℕ)
+    → p + length row ≤ K → Below N row → RowStored first (N - 1) S store row
+digits-stored N K S store whole first p e row h b = record {
+  stored = λ q l.
+      let at : first + q * (N - 1) ≡ (p + q) * (N - 1) = ap (λ (n : ℕ). n + q * (N - 1)) e ∙ sym (add-mul p q (N - 1)) in
+      le-trans (le-of-eq (ap (λ (n : ℕ). (n + getD row q 0) * S) at))
+      (le-trans (digit-within N K S (p + q) (getD row q 0) (omega arith) (b q l)) (le-of-eq (sym whole)));
+}
+
+pub query-stored : (N K S : ℕ) (store query : List ℕ) → length store ≡ K * ((N - 1) * S) → DigitRow N K query → RowStored 0 (N - 1) S store query
+query-stored N K S store query whole row =
+    digits-stored N K S store whole 0 0 (omega arith) query (omega (arith, row .long)) (allBelow-below N query (row .digits))

@@ -1,4 +1,4 @@
--- Where symbols lie in a store, a message and an answer buffer: each within its bounds.
+-- Where symbols lie in a store: each within its bounds. `symbol-length`: what a digit names is a whole symbol.
 use mathlib.Core.Path.{_≡_, sym, ap, _∙_}
 use mathlib.Core.List.{List}
 use Prim.Native.Nat.{ℕ, suc, _+_, _-_, _*_, _≤_, _<_}
@@ -6,7 +6,7 @@ use native.Mathlib.Nat.{suc-mul, mul-assoc, mul-le-mul-right, le-mul-of-pos-righ
 use native.Mathlib.Omega.{arith}
 use lib.ListN.{length}
 use Rattle.lists.proofs.Cuts.{cut-length}
-use Rattle.short_code.specs.Short.{symbolAt}
+use Rattle.symbol.specs.Sum.{symbolAt}
 
 -- the symbol that ends at a + d, and how large the numbers are that lead there
 pub part-within : (a d S long : ℕ) → 0 < d → 0 < S → (a + d) * S ≤ long → ((a + (d - 1)) * S + S ≤ long) × (a + d ≤ long)
@@ -23,10 +23,9 @@ digit-within N K S p d h k =
     let here : p * (N - 1) + d ≤ K * (N - 1) = omega (arith, suc-mul p (N - 1)) in
     le-trans (mul-le-mul-right S here) (le-of-eq (mul-assoc K (N - 1) S))
 
--- symbol j of message p is a whole one
-pub symbol-length : (N K S : ℕ) (store : List ℕ) (p j : ℕ) → length store ≡ K * ((N - 1) * S) → 0 < S → p < K → suc j < N
-    → length (symbolAt N S store p j) ≡ S
-symbol-length N K S store p j whole s h k =
-    let last : j ≡ suc j - 1 = omega arith in
-    let within = part-within (p * (N - 1)) (suc j) S (length store) (omega arith) s (omega (arith, digit-within N K S p (suc j) h k)) .0 in
-    cut-length ((p * (N - 1) + j) * S) S store (le-trans (le-of-eq (ap (λ (n : ℕ). (p * (N - 1) + n) * S + S) last)) within)
+-- the symbol that digit d names is a whole one
+pub symbol-length : (S : ℕ) (store : List ℕ) (at d : ℕ) → (at + suc d) * S ≤ length store → length (symbolAt S store (at + d)) ≡ S
+symbol-length S store at d h =
+    let next : at + suc d ≡ suc (at + d) = omega arith in
+    let last : (at + suc d) * S ≡ (at + d) * S + S = ap (λ (n : ℕ). n * S) next ∙ suc-mul (at + d) S in
+    cut-length ((at + d) * S) S store (omega arith)

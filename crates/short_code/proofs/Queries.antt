@@ -13,11 +13,11 @@ use Rattle.lists.specs.Inserts.{insertAt, removeAt}
 use Rattle.lists.proofs.Below.{allBelow-below, below-allBelow}
 use Rattle.lists.proofs.Inserts.{insert-length, insert-below, remove-length, remove-below, remove-insert, insert-remove}
 use Rattle.short_code.specs.Short.{allZero, digitSum, balancing, shortQuery, shortAdmits}
-use Rattle.short_code.specs.Steps.{Row}
+use Rattle.short_code.specs.Steps.{DigitRow}
 use Rattle.short_code.proofs.Digits.{sum-insert, sum-zeros, balanced, balance-only, balance-below}
 
 -- the three tests of admission, as facts and back
-pub admits-row : (N K n : ℕ) (query : List ℕ) → shortAdmits N K n query ≡ true → Row N K query
+pub admits-row : (N K n : ℕ) (query : List ℕ) → shortAdmits N K n query ≡ true → DigitRow N K query
 unfolding shortAdmits
 admits-row N K n query e =
     let p = and-eq-true-iff (eqb (length query) K) (allBelow N query && eqb (digitSum query % N) n) .0 e in
@@ -29,7 +29,7 @@ admits-sum N K n query e =
     let p = and-eq-true-iff (eqb (length query) K) (allBelow N query && eqb (digitSum query % N) n) .0 e in
     eqb-true (digitSum query % N) n (and-eq-true-iff (allBelow N query) (eqb (digitSum query % N) n) .0 (p .1) .1)
 
-admitted : (N K n : ℕ) (query : List ℕ) → Row N K query → digitSum query % N ≡ n → shortAdmits N K n query ≡ true
+admitted : (N K n : ℕ) (query : List ℕ) → DigitRow N K query → digitSum query % N ≡ n → shortAdmits N K n query ≡ true
 unfolding shortAdmits
 admitted N K n query row e = rw (eq-eqb (length query) K (row .long), row .digits, eq-eqb (digitSum query % N) n e)
 

@@ -1,4 +1,5 @@
--- Recovery from the slots of the answer buffer: what is written of each symbol, and that the symbols are those of the rule.
+-- Recovery from the answer buffer: what is written of each symbol (`from-length`, `write-more`), and that the symbols are those of the rule:
+-- `recovered-placed` of answers that lie anywhere in the buffer, and `recover-slots` of those in the slots of the short code.
 use mathlib.Core.Path.{_≡_, refl, sym, ap, ap₂, _∙_}
 use mathlib.Core.Bool.{Bool, true, false, cond}
 use mathlib.Core.List.{List, [], _∷_, map, flatMap}
@@ -6,7 +7,10 @@ use Prim.Native.Nat.{ℕ, zero, suc, _+_, _-_, _*_, _%_, _≤_, _<_}
 use native.Mathlib.Nat.{not-suc-le-zero, mod-lt, suc-mul, add-sub-cancel-left}
 use native.Mathlib.Numerals.{add-one}
 use native.Mathlib.Omega.{arith}
-use lib.ListN.{length, getD, take, drop}
+use borrow.Author.Tests.{eqb-true, eqb-false}
+use lib.Dec.{eqb}
+use lib.ListN.{length, getD, set, take, drop}
+use lib.Seq.{getD-set-same, getD-set-other}
 use Rattle.lists.specs.Parts.{cut, put}
 use Rattle.lists.specs.Ranges.{range}
 use Rattle.lists.specs.Below.{Below}
@@ -17,13 +21,12 @@ use Rattle.lists.proofs.Puts.{put-put, put-nil}
 use Rattle.lists.proofs.Mapped.{mapped-at}
 use Rattle.lists.proofs.Joined.{joined-equal}
 use Rattle.parameters.specs.Measures.{shortSizes}
-use Rattle.symbol.specs.Sum.{Symbol}
-use Rattle.symbol.specs.Xor.{xor}
-use Rattle.symbol.proofs.Totals.{zeros-symbol}
-use Rattle.symbol.proofs.XorGroup.{xor-group}
+use Rattle.symbol.specs.Sum.{Sum}
+use Rattle.symbol.specs.Group.{KeepsLength, AbelianGroup}
+use Rattle.symbol.proofs.Totals.{minus-zeros}
 use Rattle.scheme.specs.Scheme.{answersIn}
 use Rattle.short_code.specs.Short.{allZero, digitSum, keySum, balancing, shortQuery, shortAnswerLength, orZeros, recovered, shortRecover, shortScheme}
-use Rattle.short_code.specs.Steps.{fromSlots}
+use Rattle.short_code.specs.Steps.{Placed, InSlots, difference, fromPlaces}
 use Rattle.short_code.proofs.Digits.{balance-turn, balance-none}
 use Rattle.short_code.proofs.ZeroRow.{zeros-more, zeros-broken, length-some}
 
@@ -33,72 +36,100 @@ unfolding orZeros
 or-zeros-some S [] h = absurd (not-suc-le-zero h)
 or-zeros-some S (x ∷ answer) h = refl
 
-pub slot-length : (N S i : ℕ) (answers : List ℕ) → i < N → N * S ≤ length answers → length (cut (i * S) S answers) ≡ S
-slot-length N S i answers h room = cut-length (i * S) S answers (omega (arith, slot-end i N S h))
+-- a symbol that was copied from its part of the buffer
+pub copied : (from S : ℕ) (answers : List ℕ) {last : List ℕ} → last ≡ take (from + S - from) (drop from answers) → last ≡ cut from S answers
+copied from S answers made = made ∙ ap (λ (n : ℕ). take n (drop from answers)) (add-sub-cancel-left from S)
 
--- the slot of the server that answers for digit d ends inside the slots
-pub turn-end : (N S T d i : ℕ) → T < N → i ≡ (d + T) % N → i * S + S ≤ N * S
-turn-end N S T d i h e = let m : (d + T) % N < N = mod-lt (d + T) (omega arith) in slot-end i N S (omega arith)
+-- the difference of two symbols is as long as they are
+pub difference-length : (sum : Sum) (S : ℕ) → KeepsLength (sum .minus) S → (empty : Bool) (answers : List ℕ) (from other : ℕ)
+    → from + S ≤ length answers → other + S ≤ length answers → length (difference sum S empty answers from other) ≡ S
+unfolding difference
+difference-length sum S keeps true answers from other h k = cut-length from S answers h
+difference-length sum S keeps false answers from other h k =
+    keeps (cut from S answers) (cut other S answers) (cut-length from S answers h) (cut-length other S answers k)
 
--- a slot that was copied from its part of the buffer
-pub slot-copied : (i j S : ℕ) (answers : List ℕ) {last : List ℕ} → i ≡ j → last ≡ take (i * S + S - i * S) (drop (i * S) answers)
-    → last ≡ cut (j * S) S answers
-slot-copied i j S answers e made =
-    made ∙ ap (λ (n : ℕ). take n (drop (i * S) answers)) (add-sub-cancel-left (i * S) S) ∙ ap (λ (n : ℕ). cut (n * S) S answers) e
+module _ (sum : Sum) (N S T : ℕ) (group : AbelianGroup sum S) (starts answers : List ℕ) (placed : Placed N S starts answers) (known : T < N) where
+  turned : (d : ℕ) → (d + T) % N < N
+  turned d = mod-lt (d + T) (omega arith)
 
--- the part of the message that is digit d's own
-pub part-fits : (S d : ℕ) (message : List ℕ) → 0 < d → d * S ≤ length message → (d - 1) * S + S ≤ length message
-part-fits S d message low fits = omega (arith, slot-end (d - 1) d S (omega arith))
+  pub from-length : (empty : Bool) (d : ℕ) → length (fromPlaces sum N S T empty starts answers d) ≡ S
+  from-length empty d =
+      difference-length sum S (group .minus-length) empty answers (getD starts ((d + T) % N) 0) (getD starts T 0)
+      (placed .inside ((d + T) % N) (turned d)) (placed .inside T known)
 
-module _ (N S T d : ℕ) (answers : List ℕ) (known : T < N) (some : 0 < S) (room : N * S ≤ length answers) (bytes : Below 256 answers) where
-  slot-symbol : (i : ℕ) → i < N → Symbol S (cut (i * S) S answers)
-  slot-symbol i h =
-      record { long = slot-length N S i answers h room; bytes = below-take 256 S (drop (i * S) answers) (below-drop 256 (i * S) answers bytes) }
+  -- an empty answer of server T counts as zeros
+  taken-away : Below 256 answers → (empty : Bool) (from : ℕ) → length (cut from S answers) ≡ S
+      → sum .minus (cut from S answers) (orZeros S (cut (getD starts T 0) (cond empty 0 S) answers))
+      ≡ difference sum S empty answers from (getD starts T 0)
+  unfolding difference orZeros
+  taken-away bytes true from long =
+      minus-zeros sum S group (record { long = long; bytes = below-take 256 S (drop from answers) (below-drop 256 from answers bytes) })
+  taken-away bytes false from long =
+      let other = cut-length (getD starts T 0) S answers (placed .inside T known) in
+      ap (sum .minus (cut from S answers)) (or-zeros-some S (cut (getD starts T 0) S answers) (omega (arith, placed .some)))
 
-  pub first-symbol : Symbol S (cut ((d + T) % N * S) S answers)
-  first-symbol = slot-symbol ((d + T) % N) (mod-lt (d + T) (omega arith))
+  -- the symbol of digit d by the rule, if the two servers' answers lie where `starts` says
+  pub recovered-placed : Below 256 answers → (parts : List (List ℕ)) (empty : Bool) (d : ℕ)
+      → getD parts ((d + T) % N) [] ≡ cut (getD starts ((d + T) % N) 0) S answers
+      → getD parts T [] ≡ cut (getD starts T 0) (cond empty 0 S) answers
+      → recovered sum N S T parts d ≡ fromPlaces sum N S T empty starts answers d
+  unfolding recovered
+  recovered-placed bytes parts empty d e f =
+      let from = getD starts ((d + T) % N) 0 in
+      let long : length (cut from S answers) ≡ S = cut-length from S answers (placed .inside ((d + T) % N) (turned d)) in
+      ap₂ (sum .minus) (ap (orZeros S) e ∙ or-zeros-some S (cut from S answers) (omega (arith, placed .some))) (ap (orZeros S) f)
+      ∙ taken-away bytes empty from long
 
-  pub from-one : cut ((d + T) % N * S) S answers ≡ fromSlots N S T true answers d
-  unfolding fromSlots orZeros
-  from-one = sym (xor-group S .plus-comm first-symbol (zeros-symbol S) ∙ xor-group S .zero-plus first-symbol)
+-- one start more is written
+pub slots-more : (S i : ℕ) (starts : List ℕ) → i < length starts → InSlots i S starts → InSlots (i + 1) S (set starts i (i * S))
+slots-more S i starts h w = record { at-slot = λ j k. go j k (eqb j i) refl }
+  where
+    go : (j : ℕ) → j < i + 1 → (t : Bool) → eqb j i ≡ t → getD (set starts i (i * S)) j 0 ≡ j * S
+    go j k true e = let same = eqb-true j i e in rw same (getD-set-same starts i (i * S) 0 h)
+    go j k false e = getD-set-other starts i j (i * S) 0 (λ q. eqb-false j i e q) ∙ w .at-slot j (let n : j ≡ i → ⊥ = eqb-false j i e in omega arith)
 
-  pub from-two : xor .plus (cut ((d + T) % N * S) S answers) (cut (T * S) S answers) ≡ fromSlots N S T false answers d
-  unfolding fromSlots
-  from-two =
-      let long = slot-length N S T answers known room in
-      ap (xor .minus (cut ((d + T) % N * S) S answers)) (sym (or-zeros-some S (cut (T * S) S answers) (omega arith)))
+-- starts of slots that all lie in the answer buffer
+pub slots-placed : (N S : ℕ) (starts answers : List ℕ) → N ≤ 16 → 0 < S → length starts ≡ 16 → InSlots N S starts → N * S ≤ length answers
+    → Placed N S starts answers
+slots-placed N S starts answers few some long slots room = record {
+  few = few;
+  some = some;
+  known = omega arith;
+  inside = λ i h. omega (arith, slots .at-slot i h, slot-end i N S h);
+}
 
-  pub from-length : (empty : Bool) → length (fromSlots N S T empty answers d) ≡ S
-  from-length true = ap length (sym from-one) ∙ first-symbol .long
-  from-length false = ap length (sym from-two) ∙ xor-group S .plus-symbol first-symbol (slot-symbol T known) .long
+-- the answers of the short code in their slots
+module _ (sum : Sum) (N K S wanted : ℕ) (group : AbelianGroup sum S) (key starts answers : List ℕ) (placed : Placed N S starts answers)
+    (slots : InSlots N S starts) (bytes : Below 256 answers) where
+  abbrev parts : List (List ℕ)
+  parts = answersIn (shortScheme sum N K S) N wanted key answers
 
--- the symbol of digit d by the rule, from the answers in the slots
-recovered-slots : (N K S wanted d : ℕ) (key answers : List ℕ) → 0 < d → d < N → 0 < S → N * S ≤ length answers
-    → recovered xor N S key (answersIn (shortScheme xor N K S) N wanted key answers) d ≡ fromSlots N S (keySum N key) (allZero key) answers d
-unfolding recovered answersIn shortSizes shortQuery shortAnswerLength fromSlots
-recovered-slots N K S wanted zero key answers low h s room = absurd (not-suc-le-zero low)
-recovered-slots N K S wanted (suc d) key answers low h s room =
-    let T = keySum N key in
-    let i = (suc d + T) % N in
-    let known : i < N = mod-lt (suc d + T) (omega arith) in
-    let slot : ℕ → ℕ → List ℕ = λ n digit. cut (n * S) (shortAnswerLength S (insertAt wanted digit key)) answers in
-    let asked : ℕ → List ℕ = λ n. slot n (balancing N n key) in
-    let one : orZeros S (getD (map asked (range 0 N)) i []) ≡ cut (i * S) S answers =
-    ap (orZeros S) (mapped-at asked [] N i known ∙ ap (slot i) (balance-turn N (suc d) key h)
-    ∙ ap (λ (n : ℕ). cut (i * S) n answers) (length-some S (insertAt wanted (suc d) key) (zeros-broken wanted d key)))
-    ∙ or-zeros-some S (cut (i * S) S answers) (let long = slot-length N S i answers known room in omega arith) in
-    let other : getD (map asked (range 0 N)) T [] ≡ cut (T * S) (cond (allZero key) 0 S) answers =
-    mapped-at asked [] N T (mod-lt (digitSum key) (omega arith)) ∙ ap (slot T) (balance-none N key (omega arith))
-    ∙ ap (λ (t : Bool). cut (T * S) (cond t 0 S) answers) (zeros-more wanted key) in
-    ap₂ (xor .minus) one (ap (orZeros S) other)
+  -- the answer of a server that is asked for digit d
+  part : (n d : ℕ) → n < N → balancing N n key ≡ d → getD parts n [] ≡ cut (getD starts n 0) (shortAnswerLength S (insertAt wanted d key)) answers
+  unfolding answersIn shortSizes shortQuery
+  part n d h e =
+      let slot : ℕ → ℕ → List ℕ = λ i digit. cut (i * S) (shortAnswerLength S (insertAt wanted digit key)) answers in
+      mapped-at (λ i. slot i (balancing N i key)) [] N n h ∙ ap (slot n) e
+      ∙ ap (λ (at : ℕ). cut at (shortAnswerLength S (insertAt wanted d key)) answers) (sym (slots .at-slot n h))
 
--- and all of them
-pub recover-slots : (N K S wanted : ℕ) (key answers : List ℕ) → 0 < S → N * S ≤ length answers
-    → shortRecover xor N S key (answersIn (shortScheme xor N K S) N wanted key answers) ≡ flatMap (fromSlots N S (keySum N key) (allZero key) answers) (range 1 (N - 1))
-unfolding shortRecover
-recover-slots N K S wanted key answers s room =
-    joined-equal (recovered xor N S key (answersIn (shortScheme xor N K S) N wanted key answers)) (fromSlots N S (keySum N key) (allZero key) answers) 1 1 (N - 1)
-    (λ i h. recovered-slots N K S wanted (i + 1) key answers (omega arith) (omega arith) s room)
+  recovered-slots : (d : ℕ) → suc d < N
+      → recovered sum N S (keySum N key) parts (suc d) ≡ fromPlaces sum N S (keySum N key) (allZero key) starts answers (suc d)
+  unfolding shortAnswerLength
+  recovered-slots d h =
+      let T = keySum N key in
+      let i = (suc d + T) % N in
+      let known : T < N = mod-lt (digitSum key) (omega arith) in
+      recovered-placed sum N S T group starts answers placed known bytes parts (allZero key) (suc d)
+      (part i (suc d) (mod-lt (suc d + T) (omega arith)) (balance-turn N (suc d) key h)
+      ∙ ap (λ (n : ℕ). cut (getD starts i 0) n answers) (length-some S (insertAt wanted (suc d) key) (zeros-broken wanted d key)))
+      (part T 0 known (balance-none N key (omega arith))
+      ∙ ap (λ (t : Bool). cut (getD starts T 0) (cond t 0 S) answers) (zeros-more wanted key))
+
+  pub recover-slots : shortRecover sum N S key parts ≡ flatMap (fromPlaces sum N S (keySum N key) (allZero key) starts answers) (range 1 (N - 1))
+  unfolding shortRecover
+  recover-slots =
+      joined-equal (recovered sum N S (keySum N key) parts) (fromPlaces sum N S (keySum N key) (allZero key) starts answers) 1 1 (N - 1)
+      (λ i h. rw (add-one i) (recovered-slots i (omega arith)))
 
 -- nothing is left to write
 pub write-done : (f : ℕ → List ℕ) (N S d : ℕ) (message : List ℕ) → N ≤ d → put ((d - 1) * S) (flatMap f (range d (N - d))) message ≡ message

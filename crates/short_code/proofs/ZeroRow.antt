@@ -1,4 +1,5 @@
--- The row of zeros: which rows are it, and what is answered to it and to any other row.
+-- The row of zeros: which rows are it, which servers are asked for it (`query-zeros`, `query-some`), and what is answered to it and to
+-- any other row (`answer-none`, `answer-some`).
 use mathlib.Core.Path.{_≡_, refl, sym, ap, _∙_}
 use mathlib.Core.Bool.{Bool, true, false, cond}
 use mathlib.Core.List.{List, [], _∷_}
@@ -11,7 +12,7 @@ use Rattle.lists.specs.Below.{allBelow}
 use Rattle.lists.specs.Inserts.{insertAt}
 use Rattle.lists.proofs.Below.{allBelow-below, below-joined}
 use Rattle.symbol.specs.Sum.{Sum, total}
-use Rattle.short_code.specs.Short.{allZero, digitSum, balancing, named, shortQuery, shortAnswerLength, shortAnswer}
+use Rattle.short_code.specs.Short.{allZero, digitSum, balancing, named, shortQuery, shortAnswerLength, stridedAnswer}
 use Rattle.short_code.proofs.Digits.{sum-insert, sum-zeros, balanced, balance-only}
 
 -- digit 0 more does not change it
@@ -75,18 +76,17 @@ module _ (S : ℕ) (query : List ℕ) where
   pub room-some : (room : ℕ) → allZero query ≡ false → shortAnswerLength S query ≤ room → S ≤ room
   room-some room e h = let l = length-some e in omega arith
 
-module _ (sum : Sum) (N S : ℕ) (store query : List ℕ) where
-  pub answer-none : allZero query ≡ true → shortAnswer sum N S store query ≡ []
-  unfolding shortAnswer
-  answer-none e = ap (λ (t : Bool). cond t [] (total sum S (named N S store 0 query))) e
+module _ (sum : Sum) (first stride S : ℕ) (store row : List ℕ) where
+  pub answer-none : allZero row ≡ true → stridedAnswer sum first stride S store row ≡ []
+  answer-none e = ap (λ (t : Bool). cond t [] (total sum S (named first stride S store row))) e
 
-  pub answer-some : allZero query ≡ false → shortAnswer sum N S store query ≡ total sum S (named N S store 0 query)
-  unfolding shortAnswer
-  answer-some e = ap (λ (t : Bool). cond t [] (total sum S (named N S store 0 query))) e
+  pub answer-some : allZero row ≡ false → stridedAnswer sum first stride S store row ≡ total sum S (named first stride S store row)
+  answer-some e = ap (λ (t : Bool). cond t [] (total sum S (named first stride S store row))) e
 
 -- the row of zeros names nothing
-pub named-zeros : (N S : ℕ) (store : List ℕ) (p : ℕ) (row : List ℕ) → allZero row ≡ true → named N S store p row ≡ []
+pub named-zeros : (first stride S : ℕ) (store row : List ℕ) → allZero row ≡ true → named first stride S store row ≡ []
 unfolding allBelow named
-named-zeros N S store p [] e = refl
-named-zeros N S store p (zero ∷ row) e = named-zeros N S store (suc p) row e
-named-zeros N S store p (suc d ∷ row) e = let h = allBelow-below 1 (suc d ∷ row) e 0 (omega arith) in absurd (let w : ⊥ = omega arith in w)
+named-zeros first stride S store [] e = refl
+named-zeros first stride S store (zero ∷ row) e = named-zeros (first + stride) stride S store row e
+named-zeros first stride S store (suc d ∷ row) e =
+    let h = allBelow-below 1 (suc d ∷ row) e 0 (omega arith) in absurd (let w : ⊥ = omega arith in w)

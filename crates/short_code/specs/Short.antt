@@ -6,12 +6,11 @@ use mathlib.Core.List.{List, [], _∷_, flatMap}
 use Prim.Native.Nat.{ℕ, zero, suc, _+_, _-_, _*_, _%_}
 use lib.Dec.{eqb}
 use lib.ListN.{length, getD}
-use Rattle.lists.specs.Parts.{cut}
 use Rattle.lists.specs.Ranges.{range}
 use Rattle.lists.specs.Below.{allBelow}
 use Rattle.lists.specs.Inserts.{insertAt}
 use Rattle.parameters.specs.Measures.{shortSizes}
-use Rattle.symbol.specs.Sum.{Sum, zeros, total}
+use Rattle.symbol.specs.Sum.{Sum, zeros, symbolAt, total}
 use Rattle.scheme.specs.Scheme.{Scheme}
 
 unfoldable pub digitSum : List ℕ → ℕ
@@ -42,19 +41,20 @@ shortAdmits N K server query = eqb (length query) K && (allBelow N query && eqb 
 unfoldable pub shortAnswerLength : ℕ → List ℕ → ℕ
 shortAnswerLength S query = cond (allZero query) 0 S
 
--- symbol j of message p in the store
-abbrev pub symbolAt : ℕ → ℕ → List ℕ → ℕ → ℕ → List ℕ
-symbolAt N S store p j = cut ((p * (N - 1) + j) * S) S store
+-- What the digits of a row name, (21): of its message, digit d names symbol d - 1, and digit 0 the zeros, which are not stored. The symbols of
+-- the row's first message are those from number `first` of the store on, and each next message's lie `stride` symbols later
+unfoldable pub named : ℕ → ℕ → ℕ → List ℕ → List ℕ → List (List ℕ)
+named first stride S store [] = []
+named first stride S store (zero ∷ row) = named (first + stride) stride S store row
+named first stride S store (suc d ∷ row) = symbolAt S store (first + d) ∷ named (first + stride) stride S store row
 
--- What the digits of messages p, p + 1, .. name, (21): digit d names symbol d - 1; digit 0 the zeros, which are not stored
-unfoldable pub named : ℕ → ℕ → List ℕ → ℕ → List ℕ → List (List ℕ)
-named N S store p [] = []
-named N S store p (zero ∷ row) = named N S store (suc p) row
-named N S store p (suc d ∷ row) = symbolAt N S store p d ∷ named N S store (suc p) row
+-- the named symbols combined; the row of zeros is answered with no bytes
+abbrev pub stridedAnswer : Sum → ℕ → ℕ → ℕ → List ℕ → List ℕ → List ℕ
+stridedAnswer sum first stride S store row = cond (allZero row) [] (total sum S (named first stride S store row))
 
--- The answer function, (24): the named symbols combined; the row of zeros is answered with no bytes
+-- The answer function, (24): message p's symbols are those from number p × (N - 1) of the store on
 unfoldable pub shortAnswer : Sum → ℕ → ℕ → List ℕ → List ℕ → List ℕ
-shortAnswer sum N S store query = cond (allZero query) [] (total sum S (named N S store 0 query))
+shortAnswer sum N S store query = stridedAnswer sum 0 (N - 1) S store query
 
 -- an empty answer counts as zeros
 unfoldable pub orZeros : ℕ → List ℕ → List ℕ
@@ -66,12 +66,12 @@ abbrev pub counted : ℕ → List (List ℕ) → ℕ → List ℕ
 counted S answers n = orZeros S (getD answers n [])
 
 -- The symbol that digit d names, (27): the answer of server (d + T) modulo N, less that of server T
-unfoldable pub recovered : Sum → ℕ → ℕ → List ℕ → List (List ℕ) → ℕ → List ℕ
-recovered sum N S key answers d = sum .minus (counted S answers ((d + keySum N key) % N)) (counted S answers (keySum N key))
+unfoldable pub recovered : Sum → ℕ → ℕ → ℕ → List (List ℕ) → ℕ → List ℕ
+recovered sum N S T answers d = sum .minus (counted S answers ((d + T) % N)) (counted S answers T)
 
 -- The reconstruction function: the symbols of digits 1 to N - 1
 unfoldable pub shortRecover : Sum → ℕ → ℕ → List ℕ → List (List ℕ) → List ℕ
-shortRecover sum N S key answers = flatMap (recovered sum N S key answers) (range 1 (N - 1))
+shortRecover sum N S key answers = flatMap (recovered sum N S (keySum N key) answers) (range 1 (N - 1))
 
 -- The code as a scheme. Recovery needs the key and not the number of the wanted message
 abbrev pub shortScheme : Sum → ℕ → ℕ → ℕ → Scheme

@@ -1,31 +1,48 @@
--- What the code's steps leave behind, where the rule of Short.antt has no name for it.
+-- What the code's steps are given and what they leave behind, where the rule of Short.antt has no name for it.
 use mathlib.Core.Path.{_≡_}
 use mathlib.Core.Bool.{Bool, true, false, cond}
 use mathlib.Core.List.{List, [], _∷_}
-use Prim.Native.Nat.{ℕ, zero, suc, _+_, _*_, _%_}
-use lib.ListN.{length}
+use Prim.Native.Nat.{ℕ, zero, suc, _+_, _*_, _%_, _≤_, _<_}
+use lib.ListN.{length, getD}
 use Rattle.lists.specs.Below.{allBelow}
 use Rattle.lists.specs.Parts.{cut}
-use Rattle.symbol.specs.Sum.{totalFrom}
-use Rattle.symbol.specs.Xor.{xor}
-use Rattle.short_code.specs.Short.{orZeros}
+use Rattle.symbol.specs.Sum.{Sum, totalFrom}
 
 -- A row that an answer can be made to, whichever server admits it: K digits below N
-pub record Row (N K : ℕ) (query : List ℕ) : Type 0 where
+pub record DigitRow (N K : ℕ) (query : List ℕ) : Type 0 where
   pub long : length query ≡ K
   pub digits : allBelow N query ≡ true
 
+-- all that the digits of a row name lies in the store
+pub record RowStored (first stride S : ℕ) (store row : List ℕ) : Type 0 where
+  pub stored : (p : ℕ) → p < length row → (first + p * stride + getD row p 0) * S ≤ length store
+
 -- `out` after the symbols are gathered in it: the first is copied, unless one has `begun` it, and the others are combined with it
-unfoldable pub gathered : Bool → List ℕ → List (List ℕ) → List ℕ
-gathered begun out [] = out
-gathered true out (x ∷ symbols) = totalFrom xor (xor .plus out x) symbols
-gathered false out (x ∷ symbols) = totalFrom xor x symbols
+unfoldable pub gathered : Sum → Bool → List ℕ → List (List ℕ) → List ℕ
+gathered sum begun out [] = out
+gathered sum true out (x ∷ symbols) = totalFrom sum (sum .plus out x) symbols
+gathered sum false out (x ∷ symbols) = totalFrom sum x symbols
 
 -- whether a symbol has begun it, after one digit more
 unfoldable pub begunBy : Bool → ℕ → Bool
 begunBy begun zero = begun
 begunBy begun (suc d) = true
 
--- the symbol that digit d names, from the slots of the answer buffer; `empty`: server T's answer is
-unfoldable pub fromSlots : ℕ → ℕ → ℕ → Bool → List ℕ → ℕ → List ℕ
-fromSlots N S T empty answers d = xor .minus (cut ((d + T) % N * S) S answers) (orZeros S (cut (T * S) (cond empty 0 S) answers))
+-- the answers of N servers begin in the answer buffer where `starts` says, and it has room for a symbol at each
+pub record Placed (N S : ℕ) (starts answers : List ℕ) : Type 0 where
+  pub few : N ≤ 16
+  pub some : 0 < S
+  pub known : N ≤ length starts
+  pub inside : (i : ℕ) → i < N → getD starts i 0 + S ≤ length answers
+
+-- each answer begins where its slot of S bytes does
+pub record InSlots (N S : ℕ) (starts : List ℕ) : Type 0 where
+  pub at-slot : (i : ℕ) → i < N → getD starts i 0 ≡ i * S
+
+-- the symbol at one place of the answer buffer, less that at another; `empty`: nothing is taken away
+unfoldable pub difference : Sum → ℕ → Bool → List ℕ → ℕ → ℕ → List ℕ
+difference sum S empty answers from other = cond empty (cut from S answers) (sum .minus (cut from S answers) (cut other S answers))
+
+-- the symbol that digit d names, from the answer buffer; `empty`: server T's answer is
+abbrev pub fromPlaces : Sum → ℕ → ℕ → ℕ → Bool → List ℕ → List ℕ → ℕ → List ℕ
+fromPlaces sum N S T empty starts answers d = difference sum S empty answers (getD starts ((d + T) % N) 0) (getD starts T 0)

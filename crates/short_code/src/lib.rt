@@ -1,19 +1,22 @@
 // The short code of Tian, Sun and Chen: keys, queries, admission, answers and recovery, for n servers and k messages of n - 1
-// symbols of s bytes. The rule is specs/Short.antt.
+// symbols of s bytes. The rule is specs/Short.antt. Rows are answered in rows.rt and recovered from in recovering.rt.
+use symbol::Operation;
 ghost use mathlib.Core.Path.{_≡_};
-ghost use mathlib.Core.Bool.{true, false};
-ghost use mathlib.Core.List.{[], _∷_};
-ghost use Prim.Native.Nat.{_+_, _-_, _*_, _%_, _≤_, _<_};
+ghost use mathlib.Core.Bool.{true};
+ghost use Prim.Native.Nat.{_+_, _*_, _%_, _≤_, _<_};
 ghost use lib.ListN.{length, getD};
 ghost use Rattle.lists.specs.Parts.{put};
 ghost use Rattle.lists.specs.Below.{allBelow};
 ghost use Rattle.lists.specs.Inserts.{insertAt};
 ghost use Rattle.parameters.specs.Bounds.{shortFits};
 ghost use Rattle.parameters.specs.Measures.{shortSizes};
-ghost use Rattle.symbol.specs.Xor.{xor};
+ghost use Rattle.symbol.specs.Operations.{sumOf};
 ghost use Rattle.scheme.specs.Scheme.{Valid, recoverIn};
-ghost use Rattle.short_code.specs.Short.{digitSum, balancing, named, shortQuery, shortAdmits, shortAnswerLength, shortAnswer, shortScheme};
-ghost use Rattle.short_code.specs.Steps.{Row, gathered, begunBy, fromSlots};
+ghost use Rattle.short_code.specs.Short.{digitSum, balancing, shortQuery, shortAdmits, shortAnswerLength, shortAnswer, shortScheme};
+ghost use Rattle.short_code.specs.Steps.{DigitRow};
+
+pub mod recovering;
+pub mod rows;
 
 // Whether every digit is below n.
 fn all_below(n: usize, digits: &[u8]) -> bool
@@ -148,95 +151,28 @@ pub fn expected_length(n: usize, s: usize, wanted: usize, server: usize, key: &[
     s
 }
 
-// Gathers the symbol that digit d of message p names in `out`, and says whether one has begun it now. Digit 0 names none.
-fn gather_digit(
+// Writes the answer to a row that a server admits: nothing for the row of zeros.
+pub fn answer(
+    op: Operation,
     n: usize,
+    k: usize,
     s: usize,
     store: &[u8],
-    p: usize,
-    d: usize,
-    begun: bool,
+    query: &[u8],
     out: &mut [u8],
-) -> bool
-    requires { ⌜ (0 < n) × (0 < s) × ((p * (n - 1) + d) * s ≤ length (now store)) ⌝ }
-    requires { ⌜ length (now out) ≡ s ⌝ }
-    ensures { λ r. ⌜ r ≡ begunBy begun d ⌝ }
-    ensures { λ _. ⌜ now (out .exit) ≡ gathered begun (now (out .entry)) (named n s (now (store .entry)) p (d ∷ [])) ⌝ }
-{
-    if d == 0 {
-        return begun;
-    }
-    let at = (p * (n - 1) + (d - 1)) * s;
-    let end = at + s;
-    if begun {
-        symbol::combine(out, &store[at..end]);
-        return true;
-    }
-    symbol::copy(out, &store[at..end]);
-    true
-}
-
-// Gathers the symbols that the query names in `out`: one pass over its digits.
-fn gather(n: usize, k: usize, s: usize, store: &[u8], query: &[u8], out: &mut [u8])
-    requires { ⌜ shortFits n k s ≡ true ⌝ }
-    requires { ⌜ length (now store) ≡ shortSizes n k s .store ⌝ }
-    requires { ⌜ Row n k (now query) ⌝ }
-    requires { ⌜ length (now out) ≡ s ⌝ }
-    ensures { λ _. ⌜ now (out .exit) ≡ gathered false (now (out .entry)) (named n s (now (store .entry)) 0 (now (query .entry))) ⌝ }
-{
-    let mut begun = false;
-    let mut p = 0;
-    while p < k {
-        begun = gather_digit(n, s, store, p, query[p] as usize, begun, out);
-        p += 1;
-    }
-}
-
-// Writes the answer to a row that a server admits: nothing for the row of zeros.
-pub fn answer(n: usize, k: usize, s: usize, store: &[u8], query: &[u8], out: &mut [u8])
-    requires { ⌜ shortFits n k s ≡ true ⌝ }
-    requires { ⌜ length (now store) ≡ shortSizes n k s .store ⌝ }
-    requires { ⌜ Row n k (now query) ⌝ }
-    requires { ⌜ shortAnswerLength s (now query) ≤ length (now out) ⌝ }
-    ensures { λ _. ⌜ now (out .exit) ≡ put 0 (shortAnswer xor n s (now (store .entry)) (now (query .entry))) (now (out .entry)) ⌝ }
-{
-    let empty = all_below(1, query);
-    if empty {
-        return;
-    }
-    gather(n, k, s, store, query, &mut out[..s]);
-}
-
-// Writes the symbol that digit d names into its own part of the message. `empty`: server t's answer is, and its slot is not read.
-fn recover_symbol(
-    n: usize,
-    s: usize,
-    t: usize,
-    empty: bool,
-    answers: &[u8],
-    d: usize,
-    message: &mut [u8],
 )
-    requires { ⌜ (t < n) × (0 < d) × (d < n) × (0 < s) ⌝ }
-    requires { ⌜ n * s ≤ length (now answers) ⌝ }
-    requires { ⌜ d * s ≤ length (now message) ⌝ }
-    ensures { λ _. ⌜ now (message .exit) ≡ put ((d - 1) * s) (fromSlots n s t empty (now (answers .entry)) d) (now (message .entry)) ⌝ }
+    requires { ⌜ shortFits n k s ≡ true ⌝ }
+    requires { ⌜ length (now store) ≡ shortSizes n k s .store ⌝ }
+    requires { ⌜ DigitRow n k (now query) ⌝ }
+    requires { ⌜ shortAnswerLength s (now query) ≤ length (now out) ⌝ }
+    ensures { λ _. ⌜ now (out .exit) ≡ put 0 (shortAnswer (sumOf op) n s (now (store .entry)) (now (query .entry))) (now (out .entry)) ⌝ }
 {
-    let from = add_modulo(n, d, t) * s;
-    let from_end = from + s;
-    let at = (d - 1) * s;
-    let end = at + s;
-    symbol::copy(&mut message[at..end], &answers[from..from_end]);
-    if empty {
-        return;
-    }
-    let other = t * s;
-    let other_end = other + s;
-    symbol::combine(&mut message[at..end], &answers[other..other_end]);
+    rows::answer(op, 0, n - 1, s, store, query, out);
 }
 
 // Writes the wanted message, from the slots of the answer buffer. The key is enough: k and `wanted` say which fetch it is.
 pub fn recover(
+    op: Operation,
     n: usize,
     k: usize,
     s: usize,
@@ -246,16 +182,13 @@ pub fn recover(
     message: &mut [u8],
 )
     requires { ⌜ shortFits n k s ≡ true ⌝ }
-    requires { ⌜ Valid (shortScheme xor n k s) (now key) ⌝ }
+    requires { ⌜ Valid (shortScheme (sumOf op) n k s) (now key) ⌝ }
     requires { ⌜ n * shortSizes n k s .slot ≤ length (now answers) ⌝ }
     requires { ⌜ shortSizes n k s .message ≤ length (now message) ⌝ }
-    ensures { λ _. ⌜ now (message .exit) ≡ put 0 (recoverIn (shortScheme xor n k s) n wanted (now (key .entry)) (now (answers .entry))) (now (message .entry)) ⌝ }
+    ensures { λ _. ⌜ now (message .exit) ≡ put 0 (recoverIn (shortScheme (sumOf op) n k s) n wanted (now (key .entry)) (now (answers .entry))) (now (message .entry)) ⌝ }
 {
+    let starts = recovering::slot_starts(n, s);
     let t = digit_sum(n, key);
     let empty = all_below(1, key);
-    let mut d = 1;
-    while d < n {
-        recover_symbol(n, s, t, empty, answers, d, message);
-        d += 1;
-    }
+    recovering::recover_row(op, n, s, t, empty, &starts, answers, message);
 }

@@ -1,4 +1,5 @@
 pub mod Bits
 pub mod XorBytes
 pub mod XorGroup
+pub mod Operations
 pub mod Totals

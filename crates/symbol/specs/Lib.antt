@@ -1,3 +1,4 @@
 pub mod Sum
 pub mod Group
 pub mod Xor
+pub mod Operations

@@ -1,17 +1,44 @@
-// Symbols of bytes (01: pieces): copied and combined. All combining of both codes goes through `combine`.
+// Symbols of bytes (01: pieces): copied, combined and taken away again. All combining of the codes goes through `combine` and
+// `subtract`, which are told the operation; no code asks which it is.
 ghost use mathlib.Core.Path.{_≡_};
 ghost use lib.ListN.{length};
-ghost use Rattle.symbol.specs.Xor.{xor};
+ghost use Rattle.symbol.specs.Xor.{xorBytes};
+ghost use Rattle.symbol.specs.Operations.{sumOf};
 
-// Combines `src` into `dst`.
-pub fn combine(dst: &mut [u8], src: &[u8])
+// What symbols are combined by.
+pub enum Operation {
+    ExclusiveOr,
+}
+
+// Combines `src` into `dst` by exclusive or, byte by byte.
+fn exclusive_or(dst: &mut [u8], src: &[u8])
     requires { ⌜ length (now src) ≡ length (now dst) ⌝ }
-    ensures { λ _. ⌜ now (dst .exit) ≡ xor .plus (now (dst .entry)) (now (src .entry)) ⌝ }
+    ensures { λ _. ⌜ now (dst .exit) ≡ xorBytes (now (dst .entry)) (now (src .entry)) ⌝ }
 {
     let mut i = 0;
     while i < src.len() {
         dst[i] = dst[i] ^ src[i];
         i += 1;
+    }
+}
+
+// Combines `src` into `dst`.
+pub fn combine(op: Operation, dst: &mut [u8], src: &[u8])
+    requires { ⌜ length (now src) ≡ length (now dst) ⌝ }
+    ensures { λ _. ⌜ now (dst .exit) ≡ sumOf op .plus (now (dst .entry)) (now (src .entry)) ⌝ }
+{
+    match op {
+        Operation::ExclusiveOr => exclusive_or(dst, src),
+    }
+}
+
+// Takes `taken` away from `from`.
+pub fn subtract(op: Operation, from: &mut [u8], taken: &[u8])
+    requires { ⌜ length (now taken) ≡ length (now from) ⌝ }
+    ensures { λ _. ⌜ now (from .exit) ≡ sumOf op .minus (now (from .entry)) (now (taken .entry)) ⌝ }
+{
+    match op {
+        Operation::ExclusiveOr => exclusive_or(from, taken),
     }
 }
 

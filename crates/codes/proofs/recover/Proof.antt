@@ -1,7 +1,10 @@
 -- `codes::recover` meets its contract: what the catalogue's code recovers stands at the start of the message.
 use mathlib.Core.Path.{_∙_}
 use Rattle.parameters.specs.Measures.{evenSizes}
+use Rattle.symbol.specs.Operations.{sumOf}
+use Rattle.symbol.proofs.Operations.{group-of}
 use Rattle.even_scheme.proofs.Promises.{even-written}
+use Rattle.codes.specs.Codes.{operation}
 use Rattle.codes.proofs.Promises.{admitted-short, admitted-even, scheme-short, scheme-even}
 use borrow.Author.Needs.{needs}
 use Rattle.codes.proofs.recover.Statement.{statement}
@@ -47,7 +50,7 @@ returns-2 c =
     let p = rw (scheme-even (a .c) e) at (start .pre) in
     rw (scheme-even (a .c) e)
     (c .before .before .recover2 .ensures
-    ∙ even-written (a .c .servers) (a .c .messages) (a .c .symbol) (admitted-even (a .c) (start .pre .0) e) (a .wanted) (p .1 .0) (a .key .now)
+    ∙ even-written (sumOf operation) (a .c .servers) (a .c .messages) (a .c .symbol) (group-of operation (a .c .symbol)) (admitted-even (a .c) (start .pre .0) e) (a .wanted) (p .1 .0) (a .key .now)
     (p .1 .1 .0) (a .answers .now) (p .1 .1 .1 .0) (a .message .now) (p .1 .1 .1 .1))
 
 pub recover-spec : {M : Type 1} → statement M

@@ -3,7 +3,7 @@ use mathlib.Core.Path.{ap, _∙_}
 use Prim.Native.Nat.{ℕ}
 use native.Mathlib.Nat.{add-sub-cancel-left}
 use lib.ListN.{length, take, drop}
-use Rattle.symbol.specs.Xor.{xor}
+use Rattle.symbol.specs.Operations.{sumOf}
 use borrow.Author.Needs.{needs}
 use Rattle.even_answer.proofs.add_symbol.Statement.{statement}
 use Rattle.even_answer.proofs.add_symbol.Tie as tie
@@ -55,7 +55,7 @@ returns-2 c =
     let from = start .args .start in
     let store = start .args .store .now in
     rw (c .before .before .before .before .before .if1 .left)
-    (c .before .before .combine .ensures ∙ ap (λ (n : ℕ). xor .plus (start .args .out .now) (take n (drop from store))) (add-sub-cancel-left from (length (start .args .out .now))))
+    (c .before .before .combine .ensures ∙ ap (λ (n : ℕ). (sumOf (start .args .op)) .plus (start .args .out .now) (take n (drop from store))) (add-sub-cancel-left from (length (start .args .out .now))))
 
 pub add-symbol-spec : {M : Type 1} → statement M
 add-symbol-spec =

@@ -13,7 +13,8 @@ use Rattle.lists.proofs.Cuts.{to-end}
 use Rattle.lists.proofs.Puts.{rest-written}
 use Rattle.parameters.specs.Measures.{evenSizes}
 use Rattle.parameters.proofs.Bounds.{even-bounds}
-use Rattle.symbol.specs.Xor.{xor}
+use Rattle.symbol.specs.Operations.{sumOf}
+use Rattle.symbol.proofs.Operations.{group-of}
 use Rattle.even_places.specs.Sets.{allSets}
 use Rattle.even_places.specs.Rule.{layout}
 use Rattle.even_places.proofs.AllSets.{layout-long}
@@ -30,13 +31,13 @@ use Rattle.even_answer.proofs.answer.Statement.{statement}
 use Rattle.even_answer.proofs.answer.Tie as tie
 
 abbrev Inv-loop : tie.InvT-loop
-Inv-loop n k s store query out₀ symbols sets count at₀ end₀ i₀ out at end i =
+Inv-loop op n k s store query out₀ symbols sets count at₀ end₀ i₀ out at end i =
     (i ≤ count)
     × (at + length (positionsFrom n k i) ≡ length query)
-    × Pending 0 (evenAnswer xor n k s store query) out₀ end (rowAnswers xor n k s store (rowsFrom n k i) (drop at query)) out
+    × Pending 0 (evenAnswer (sumOf op) n k s store query) out₀ end (rowAnswers (sumOf op) n k s store (rowsFrom n k i) (drop at query)) out
 
 abbrev μ-loop : tie.MeasureT-loop
-μ-loop n k s store query out₀ symbols sets count at₀ end₀ i₀ out at end i = count - i
+μ-loop op n k s store query out₀ symbols sets count at₀ end₀ i₀ out at end i = count - i
 
 power-requires : tie.Need-power-requires Inv-loop μ-loop
 power-requires c κs =
@@ -69,8 +70,8 @@ loop-holds c =
     let given = start .pre in
     let bounds = layout-fits n k s (given .fits) in
     let bytes : Below 256 store = λ j l. c .before .before .before .before .before .shared-slice-known .given j .fits in
-    let long = answers-length n k s store (given .whole) bytes query (layout-long n k) (given .named) in
-    let room : 0 + length (rowAnswers xor n k s store (layout n k) query) ≤ length (start .args .out .now) =
+    let long = answers-length (sumOf (start .args .op)) n k s store (given .whole) (group-of (start .args .op) s) bytes query (layout-long n k) (given .named) in
+    let room : 0 + length (rowAnswers (sumOf (start .args .op)) n k s store (layout n k) query) ≤ length (start .args .out .now) =
     omega (arith, ap (λ (m : ℕ). m * s) (layout-length n k (bounds .servers-low) (bounds .messages-low)), given .room) in (
       omega arith,
       zero-add (length (positionsFrom n k 0)) ∙ numbers-all n k bounds ∙ sym (given .long),
@@ -99,13 +100,13 @@ rows-of-requires c κs =
 turn-of : (c : tie.After-rows-of Inv-loop μ-loop)
     → let at = c .before .before in
     let args = at .before .before .before .before .before .before .before .args in
-    SetTurn (args .n) (args .k) (args .s) (args .store .now) (args .query .now) (args .out .now)
+    SetTurn (sumOf (args .op)) (args .n) (args .k) (args .s) (args .store .now) (args .query .now) (args .out .now)
     (at .loop .i) (at .loop .at) (at .loop .end) (getD (at .before .before .ordered-sets .result) (at .loop .i) 0) (c .rows-of .result) (at .loop .out)
 turn-of c =
     let at = c .before .before in
     let start = at .before .before .before .before .before .before .before in
     let inside : at .loop .i < length (allSets (start .args .k)) = omega (arith, at .before .power2 .ensures, all-length (start .args .k)) in
-    set-turn (at .loop .i) (at .loop .at) (start .pre) (λ j l. at .before .before .before .before .before .before .shared-slice-known .given j .fits)
+    set-turn (at .loop .i) (at .loop .at) (group-of (start .args .op) (start .args .s)) (start .pre) (λ j l. at .before .before .before .before .before .before .shared-slice-known .given j .fits)
     (at .before .before .ordered-sets .ensures) inside (c .rows-of .ensures) (at .loop .inv .1) (at .loop .inv .2)
 
 sub-answer-set : tie.Need-sub-answer-set Inv-loop μ-loop
@@ -169,7 +170,7 @@ loop-again c =
     let end = at .loop .end in
     let out = at .loop .out in
     let numbers = drop (at .loop .at) (start .args .query .now) in
-    let answered = rowAnswers xor (start .args .n) (start .args .k) (start .args .s) (start .args .store .now)
+    let answered = rowAnswers (sumOf (start .args .op)) (start .args .n) (start .args .k) (start .args .s) (start .args .store .now)
     (replicate (c .before .before .before .before .before .rows-of .result) (setIn (start .args .k) (getD (at .before .before .ordered-sets .result) (at .loop .i) 0))) in
     let made = c .before .before .answer-set .ensures ∙ ap₂ (λ (l m : List ℕ). put 0 (answered l) m) (to-end (start .args .query .now) (at .loop .at)) (to-end out end) in (
       omega arith,

@@ -12,9 +12,10 @@ use lib.ListN.{length, getD, drop}
 use Rattle.lists.specs.Below.{Below}
 use Rattle.parameters.proofs.Bounds.{even-bounds}
 use Rattle.symbol.specs.Sum.{totalFrom}
-use Rattle.symbol.specs.Xor.{xor}
+use Rattle.symbol.specs.Operations.{sumOf}
+use Rattle.symbol.proofs.Operations.{group-of}
 use Rattle.even_places.specs.Sets.{members}
-use Rattle.even_scheme.specs.Even.{symbolAt, rowAnswer}
+use Rattle.even_scheme.specs.Even.{symbolOf, rowAnswer}
 use Rattle.even_layout.specs.Layout.{setIn}
 use Rattle.even_layout.proofs.Bytes.{membersFrom, members-kept, members-skipped}
 use Rattle.even_answer.specs.Answering.{added}
@@ -24,14 +25,14 @@ use Rattle.even_answer.proofs.answer_row.Statement.{statement}
 use Rattle.even_answer.proofs.answer_row.Tie as tie
 
 abbrev Inv-loop : tie.InvT-loop
-Inv-loop n k s symbols store set numbers out₀ rest₀ taken₀ p₀ out rest taken p =
+Inv-loop op n k s symbols store set numbers out₀ rest₀ taken₀ p₀ out rest taken p =
     (p ≤ k)
     × (length out ≡ s)
     × (taken + length (membersFrom k p rest) ≡ count set)
-    × (resumed (eqb taken 0) s out (zipWith (symbolAt xor n k s store) (membersFrom k p rest) (drop taken numbers)) ≡ rowAnswer xor n k s store (setIn k set) numbers)
+    × (resumed (sumOf op) (eqb taken 0) s out (zipWith (symbolOf (sumOf op) n k s store) (membersFrom k p rest) (drop taken numbers)) ≡ rowAnswer (sumOf op) n k s store (setIn k set) numbers)
 
 abbrev μ-loop : tie.MeasureT-loop
-μ-loop n k s symbols store set numbers out₀ rest₀ taken₀ p₀ out rest taken p = k - p
+μ-loop op n k s symbols store set numbers out₀ rest₀ taken₀ p₀ out rest taken p = k - p
 
 loop-holds : tie.Need-loop-holds Inv-loop μ-loop
 unfolding rowAnswer
@@ -119,14 +120,14 @@ loop-again c =
     (λ t.
     let turn = symbol-turn p taken rest given (start .pre .2) (omega arith) (t .0 .taken) (at .loop .inv .2) in
     let number = getD numbers taken 0 in
-    let x = symbolAt xor n k s store p number in
-    let place = symbol-place n k s store (given .whole) symbols p number (length out) (start .pre .2) (at .loop .inv .1) in
-    let made : c .if1 .out ≡ added (eqb taken 0) out x = t .6 ∙ t .3 .ensures ∙ ap (added (eqb taken 0) out) place in
+    let x = symbolOf (sumOf (start .args .op)) n k s store p number in
+    let place = symbol-place (sumOf (start .args .op)) n k s store (given .whole) symbols p number (length out) (start .pre .2) (at .loop .inv .1) in
+    let made : c .if1 .out ≡ added (sumOf (start .args .op)) (eqb taken 0) out x = t .6 ∙ t .3 .ensures ∙ ap (added (sumOf (start .args .op)) (eqb taken 0) out) place in
     rw (made, t .7) (
       omega arith,
-      added-length (eqb taken 0) s out x (at .loop .inv .1) (symbol-is n k s store (given .whole) bytes p number (omega arith) (turn .number) .long),
+      added-length (sumOf (start .args .op)) s (group-of (start .args .op) s .plus-length) (eqb taken 0) out x (at .loop .inv .1) (symbol-is (sumOf (start .args .op)) n k s store (given .whole) (group-of (start .args .op) s) bytes p number (omega arith) (turn .number) .long),
       turn .left,
-      sym (row-more n k s store (given .whole) bytes p taken (membersFrom k (p + 1) (rest / 2)) numbers out (omega arith) (turn .inside) (given .named))
+      sym (row-more (sumOf (start .args .op)) n k s store (given .whole) (group-of (start .args .op) s) bytes p taken (membersFrom k (p + 1) (rest / 2)) numbers out (omega arith) (turn .inside) (given .named))
           ∙ rw (members-kept k p rest (omega arith) (t .0 .taken)) at (at .loop .inv .3),
     ))
     (λ t.

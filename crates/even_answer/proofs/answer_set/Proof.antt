@@ -12,7 +12,8 @@ use Rattle.lists.proofs.Cuts.{cut-length, to-end}
 use Rattle.lists.proofs.Puts.{put-part}
 use Rattle.lists.proofs.Each.{All-replicate}
 use Rattle.lists.proofs.Writing.{Pending, pending-start, pending-as, pending-done}
-use Rattle.symbol.specs.Xor.{xor}
+use Rattle.symbol.specs.Operations.{sumOf}
+use Rattle.symbol.proofs.Operations.{group-of}
 use Rattle.even_scheme.specs.Even.{rowAnswer, rowAnswers}
 use Rattle.even_layout.specs.Layout.{setIn}
 use Rattle.even_layout.proofs.Firsts.{setIn-length}
@@ -22,13 +23,13 @@ use Rattle.even_answer.proofs.answer_set.Statement.{statement}
 use Rattle.even_answer.proofs.answer_set.Tie as tie
 
 abbrev Inv-loop : tie.InvT-loop
-Inv-loop n k s symbols store set rows numbers out₀ size row₀ out row =
+Inv-loop op n k s symbols store set rows numbers out₀ size row₀ out row =
     (row ≤ rows)
-    × Pending 0 (rowAnswers xor n k s store (replicate rows (setIn k set)) numbers) out₀ (row * s)
-    (rowAnswers xor n k s store (replicate (rows - row) (setIn k set)) (drop (row * size) numbers)) out
+    × Pending 0 (rowAnswers (sumOf op) n k s store (replicate rows (setIn k set)) numbers) out₀ (row * s)
+    (rowAnswers (sumOf op) n k s store (replicate (rows - row) (setIn k set)) (drop (row * size) numbers)) out
 
 abbrev μ-loop : tie.MeasureT-loop
-μ-loop n k s symbols store set rows numbers out₀ size row₀ out row = rows - row
+μ-loop op n k s symbols store set rows numbers out₀ size row₀ out row = rows - row
 
 cast-size : tie.Need-cast-size Inv-loop μ-loop
 cast-size c = omega (arith, ones-le 8 (c .before .before .before .args .set) (search needs))
@@ -45,8 +46,8 @@ loop-holds c =
     let numbers = start .args .numbers .now in
     let given = start .pre .0 in
     let bytes : Below 256 store = λ i l. c .before .before .shared-slice-known .given i .fits in
-    let long = answers-length n k s store (given .whole) bytes numbers (All-replicate rows A (setIn-length k (start .args .set))) (given .named) in
-    let room : 0 + length (rowAnswers xor n k s store (replicate rows A) numbers) ≤ length (start .args .out .now) =
+    let long = answers-length (sumOf (start .args .op)) n k s store (given .whole) (group-of (start .args .op) s) bytes numbers (All-replicate rows A (setIn-length k (start .args .set))) (given .named) in
+    let room : 0 + length (rowAnswers (sumOf (start .args .op)) n k s store (replicate rows A) numbers) ≤ length (start .args .out .now) =
     omega (arith, ap (λ (m : ℕ). m * s) (length-replicate rows A), start .pre .1) in
     (omega arith, pending-as (zero-mul s) (rw (sub-zero rows, zero-mul (count (start .args .set))) refl) refl (pending-start room))
 
@@ -135,14 +136,14 @@ loop-again c =
     let out = at .loop .out in
     let numbers = start .args .numbers .now in
     let read = at .loop .row * count (start .args .set) in
-    let answered = rowAnswer xor (start .args .n) (start .args .k) s (start .args .store .now) (setIn (start .args .k) (start .args .set)) in
+    let answered = rowAnswer (sumOf (start .args .op)) (start .args .n) (start .args .k) s (start .args .store .now) (setIn (start .args .k) (start .args .set)) in
     let bytes : Below 256 (start .args .store .now) = λ i l. at .before .before .before .shared-slice-known .given i .fits in
     let made = c .before .before .answer-row .ensures ∙ ap answered (to-end numbers read) in (
       omega arith,
       pending-as refl refl
           (ap (λ (l : List ℕ). take from out ++ (l ++ drop (from + s - from) (drop from out))) made
-          ∙ put-part from s (answered (drop read numbers)) out (row-long (start .pre .0) bytes (at .loop .row)))
-          (row-done (start .pre .0) bytes (at .loop .row) (omega arith) (at .loop .inv .1)),
+          ∙ put-part from s (answered (drop read numbers)) out (row-long (group-of (start .args .op) s) (start .pre .0) bytes (at .loop .row)))
+          (row-done (group-of (start .args .op) s) (start .pre .0) bytes (at .loop .row) (omega arith) (at .loop .inv .1)),
     )
 
 same-length : tie.Need-same-length Inv-loop μ-loop

@@ -28,7 +28,8 @@ returns : tie.Need-returns
 unfolding evenKeyGood permutation
 returns c =
     let args = c .before .before .before .args in
-    c .permutations-good .ensures ∙ ap (λ (size : ℕ). every (args .k) (λ p. isPermutation size (cut (p * size) size (args .key .now)))) (c .before .power .ensures)
+    c .permutations-good .ensures
+    ∙ ap (λ (size : ℕ). every (args .k) (λ p. isPermutation size (cut (p * size) size (args .key .now)))) (c .before .power .ensures)
 
 pub key-good-spec : {M : Type 1} → statement M
 key-good-spec = tie.close (tie.spec power-requires permutations-good-requires returns)

@@ -55,7 +55,9 @@ loop-again c =
     let at = c .before .before .before .before in (
       omega arith,
       simp length-set (at .loop .inv .1),
-      at .loop .inv .2 ∙ passes-more (at .before .args .size) (at .loop .seen) (at .before .args .bytes .now) (at .loop .i) (omega arith) (omega arith) (omega (arith, c .before .before .shared-slice-known .given (at .loop .i))) (c .if2 .left),
+      at .loop .inv .2
+          ∙ passes-more (at .before .args .size) (at .loop .seen) (at .before .args .bytes .now) (at .loop .i) (omega arith) (omega arith)
+          (omega (arith, c .before .before .shared-slice-known .given (at .loop .i))) (c .if2 .left),
     )
 
 returns-3 : tie.Need-returns-3 Inv-loop μ-loop

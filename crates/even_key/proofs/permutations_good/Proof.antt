@@ -30,29 +30,35 @@ unfolding every
 loop-holds c = (omega arith, refl)
 
 mul-permutation-good : tie.Need-mul-permutation-good Inv-loop μ-loop
-mul-permutation-good c = let at = c .before in omega (arith, slot-end (at .loop .p) (at .before .before .args .k) (at .before .before .args .size) (omega arith))
+mul-permutation-good c =
+    let at = c .before in omega (arith, slot-end (at .loop .p) (at .before .before .args .k) (at .before .before .args .size) (omega arith))
 
 mul-permutation-good-2 : tie.Need-mul-permutation-good-2 Inv-loop μ-loop
-mul-permutation-good-2 c = let at = c .before in omega (arith, slot-end (at .loop .p) (at .before .before .args .k) (at .before .before .args .size) (omega arith))
+mul-permutation-good-2 c =
+    let at = c .before in omega (arith, slot-end (at .loop .p) (at .before .before .args .k) (at .before .before .args .size) (omega arith))
 
 add-permutation-good : tie.Need-add-permutation-good Inv-loop μ-loop
-add-permutation-good c = let at = c .before in omega (arith, slot-end (at .loop .p) (at .before .before .args .k) (at .before .before .args .size) (omega arith))
+add-permutation-good c =
+    let at = c .before in omega (arith, slot-end (at .loop .p) (at .before .before .args .k) (at .before .before .args .size) (omega arith))
 
 sub-permutation-good : tie.Need-sub-permutation-good Inv-loop μ-loop
 sub-permutation-good c = omega arith
 
 part-permutation-good-start : tie.Need-part-permutation-good-start Inv-loop μ-loop
-part-permutation-good-start c = let at = c .before in omega (arith, slot-end (at .loop .p) (at .before .before .args .k) (at .before .before .args .size) (omega arith))
+part-permutation-good-start c =
+    let at = c .before in omega (arith, slot-end (at .loop .p) (at .before .before .args .k) (at .before .before .args .size) (omega arith))
 
 part-permutation-good-end : tie.Need-part-permutation-good-end Inv-loop μ-loop
-part-permutation-good-end c = let at = c .before in omega (arith, slot-end (at .loop .p) (at .before .before .args .k) (at .before .before .args .size) (omega arith))
+part-permutation-good-end c =
+    let at = c .before in omega (arith, slot-end (at .loop .p) (at .before .before .args .k) (at .before .before .args .size) (omega arith))
 
 permutation-good-requires : tie.Need-permutation-good-requires Inv-loop μ-loop
 permutation-good-requires c κs =
     let at = c .before .before in
     let args = at .before .before .args in
     let p = at .loop .p in
-    ap length (lent (args .size) p (args .key .now)) ∙ cut-length (p * args .size) (args .size) (args .key .now) (omega (arith, slot-end p (args .k) (args .size) (omega arith)))
+    ap length (lent (args .size) p (args .key .now))
+    ∙ cut-length (p * args .size) (args .size) (args .key .now) (omega (arith, slot-end p (args .k) (args .size) (omega arith)))
 
 returns : tie.Need-returns Inv-loop μ-loop
 returns c =

@@ -1,7 +1,7 @@
 -- `even_layout::listed_sets` meets its contract: the table is the sets of each number of messages, by one computed test.
 use mathlib.Core.Path.{refl}
 use Rattle.lists.specs.Sums.{bit}
-use Rattle.even_places.specs.Sets.{byteOf, allSets}
+use Rattle.even_places.specs.Rule.{byteOf, allSets}
 use Rattle.even_layout.specs.Layout.{listedSets, listedRows}
 use Rattle.even_layout.proofs.listed_sets.Statement.{statement}
 use Rattle.even_layout.proofs.listed_sets.Tie as tie

@@ -8,7 +8,7 @@ use lib.ListN.{length, getD, drop, set, replicate, length-map, drop-of-length-le
 use lib.Seq.{drop-cons}
 use Rattle.lists.proofs.Writing.{Pending, pending-start, pending-byte, pending-as, pending-done}
 use Rattle.lists.proofs.Puts.{put-padded}
-use Rattle.even_places.specs.Sets.{byteOf, allSets}
+use Rattle.even_places.specs.Rule.{byteOf, allSets}
 use Rattle.even_layout.proofs.Blocks.{subsets-few, all-length, listed-entry}
 use Rattle.even_layout.proofs.ordered_sets.Statement.{statement}
 use Rattle.even_layout.proofs.ordered_sets.Tie as tie
@@ -76,7 +76,8 @@ loop-again c =
     let inside : i < length (allSets k) = omega (arith, first .ensures, all-length k) in
     let next : drop i bytes ≡ getD bytes i 0 ∷ drop (i + 1) bytes = rw (add-one i) (drop-cons bytes i 0 (omega (arith, length-map (allSets k) byteOf))) in
     let read =
-    ap₂ (λ (rows : List (List ℕ)) (n : ℕ). getD (getD rows ((n + i) / 8) []) ((n + i) % 8) 0) (table .ensures) (first .ensures) ∙ listed-entry k i [] (start .pre) inside in
+    ap₂ (λ (rows : List (List ℕ)) (n : ℕ). getD (getD rows ((n + i) / 8) []) ((n + i) % 8) 0) (table .ensures) (first .ensures)
+    ∙ listed-entry k i [] (start .pre) inside in
     (omega arith, pending-as refl refl (ap (set (at .loop .sets) i) read) (pending-byte (rw next at (at .loop .inv .1))))
 
 returns : tie.Need-returns Inv-loop μ-loop

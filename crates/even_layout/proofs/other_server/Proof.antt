@@ -1,7 +1,7 @@
 -- `other_server` meets its contract: the other servers are those below `server`, then those above it.
 use mathlib.Core.Path.{sym, _∙_}
 use native.Mathlib.Numerals.{add-one}
-use Rattle.even_places.proofs.Positions.{others-low, others-high}
+use Rattle.even_places.proofs.Others.{others-low, others-high}
 use borrow.Author.Needs.{needs}
 use Rattle.even_layout.proofs.other_server.Statement.{statement}
 use Rattle.even_layout.proofs.other_server.Tie as tie

@@ -6,10 +6,9 @@ use native.Mathlib.Omega.{arith}
 use lib.ListN.{length, getD, replicate, length-append}
 use Rattle.lists.proofs.Writing.{Pending, pending-start, pending-part, pending-as, pending-done}
 use Rattle.lists.proofs.Puts.{put-padded}
-use Rattle.even_places.specs.Sets.{allSets}
-use Rattle.even_places.specs.Rule.{positions}
+use Rattle.even_places.specs.Rule.{allSets, positions}
 use Rattle.even_layout.proofs.Blocks.{subsets-few, all-length}
-use Rattle.even_layout.proofs.Tables.{byte-at, set-positions, setPositions, positionsFrom, positions-all, positions-none, positions-more, positions-room}
+use Rattle.even_layout.proofs.Tables.{SetByte, byte-at, set-positions, setPositions, positionsFrom, positions-all, positions-none, positions-more, positions-room}
 use Rattle.even_layout.proofs.positions.Statement.{statement}
 use Rattle.even_layout.proofs.positions.Tie as tie
 
@@ -18,6 +17,20 @@ Inv-loop n k sets count out₀ at₀ i₀ out at i = (i ≤ count) × Pending 0 
 
 abbrev μ-loop : tie.MeasureT-loop
 μ-loop n k sets count out₀ at₀ i₀ out at i = count - i
+
+-- a turn is of one of the sets, and its byte is that set's
+inside : (c : tie.In-loop Inv-loop μ-loop) → c .before .loop .i < length (allSets (c .before .before .before .before .args .k))
+inside c = omega (arith, c .before .before .power .ensures, all-length (c .before .before .before .before .args .k))
+
+set-here : (c : tie.In-loop Inv-loop μ-loop)
+    → let a = c .before .before .before .before .args in
+    let i = c .before .loop .i in
+    SetByte (a .n) (a .k) (getD (c .before .before .before .ordered-sets .result) i 0) (getD (allSets (a .k)) i [])
+set-here c =
+    let start = c .before .before .before .before in
+    let k = start .args .k in
+    let sets = c .before .before .before .ordered-sets in
+    byte-at (start .args .n) k (c .before .loop .i) (sets .result) (replicate (256 - length (allSets k)) 0) (start .pre) (sets .ensures) (inside c)
 
 ordered-sets-requires : tie.Need-ordered-sets-requires Inv-loop μ-loop
 ordered-sets-requires c κs = c .pre .messages-high
@@ -42,14 +55,8 @@ array-read-set c =
 
 rows-of-requires : tie.Need-rows-of-requires Inv-loop μ-loop
 rows-of-requires c κs =
-    let at = c .before in
-    let start = at .before .before .before in
-    let n = start .args .n in
-    let k = start .args .k in
-    let i = at .loop .i in
-    let inside : i < length (allSets k) = omega (arith, at .before .power .ensures, all-length k) in
-    let s = byte-at n k i (at .before .before .ordered-sets .result) (replicate (256 - length (allSets k)) 0) (start .pre) (at .before .before .ordered-sets .ensures) inside in
-    (omega (arith, start .pre .servers-low), s .some, omega (arith, s .rows, s .high))
+    let s = set-here c in
+    (omega (arith, c .before .before .before .before .pre .servers-low), s .some, omega (arith, s .rows, s .high))
 
 slice-aggregate-write-rows : tie.Need-slice-aggregate-write-rows Inv-loop μ-loop
 slice-aggregate-write-rows c = sym (c .before .before .before .loop .inv .1 .long)
@@ -61,10 +68,11 @@ write-rows-requires c κs =
     let n = start .args .n in
     let k = start .args .k in
     let i = at .loop .i in
-    let inside : i < length (allSets k) = omega (arith, at .before .power .ensures, all-length k) in
-    let s = byte-at n k i (at .before .before .ordered-sets .result) (replicate (256 - length (allSets k)) 0) (start .pre) (at .before .before .ordered-sets .ensures) inside in
-    let rows = set-positions n k (getD (at .before .before .ordered-sets .result) i 0) (c .before .rows-of .result) (getD (allSets k) i []) s (c .before .rows-of .ensures) in
-    let p = rw (positions-more n k i inside) at (at .loop .inv .1) in
+    let s = set-here (c .before .before) in
+    let rows =
+    set-positions n k (getD (at .before .before .ordered-sets .result) i 0) (c .before .rows-of .result) (getD (allSets k) i []) s
+    (c .before .rows-of .ensures) in
+    let p = rw (positions-more n k i (inside (c .before .before))) at (at .loop .inv .1) in
     let many = length-append (setPositions n (getD (allSets k) i [])) (positionsFrom n k (i + 1)) in
     (start .pre .messages-high, omega (arith, p .room, ap length rows))
 
@@ -77,18 +85,19 @@ loop-less c = omega arith
 loop-again : tie.Need-loop-again Inv-loop μ-loop
 loop-again c =
     let at = c .before .before .before .before .before in
-    let start = at .before .before .before in
-    let n = start .args .n in
-    let k = start .args .k in
+    let n = at .before .before .before .args .n in
+    let k = at .before .before .before .args .k in
     let i = at .loop .i in
-    let inside : i < length (allSets k) = omega (arith, at .before .power .ensures, all-length k) in
-    let s = byte-at n k i (at .before .before .ordered-sets .result) (replicate (256 - length (allSets k)) 0) (start .pre) (at .before .before .ordered-sets .ensures) inside in
+    let from = c .before .before .before .before in
+    let s = set-here from in
     let called = c .before .before .before .rows-of in
     let A = getD (allSets k) i [] in
     let rows = set-positions n k (getD (at .before .before .ordered-sets .result) i 0) (called .result) A s (called .ensures) in
-    let p = rw (positions-more n k i inside) at (at .loop .inv .1) in
-    let written = c .before .write-rows in
-    (omega arith, pending-as (rw rows at (written .ensures .0)) refl (rw rows at (written .ensures .1)) (pending-part (setPositions n A) (positionsFrom n k (i + 1)) p))
+    let p = rw (positions-more n k i (inside from)) at (at .loop .inv .1) in
+    let written = c .before .write-rows in (
+      omega arith,
+      pending-as (rw rows at (written .ensures .0)) refl (rw rows at (written .ensures .1)) (pending-part (setPositions n A) (positionsFrom n k (i + 1)) p),
+    )
 
 returns : tie.Need-returns Inv-loop μ-loop
 returns c =

@@ -71,8 +71,11 @@ loop-again : tie.Need-loop-again Inv-loop μ-loop
 loop-again c =
     let at = c .before .before .before .before in
     let a = at .before .args in
-    let i = at .loop .i in
-    (omega arith, pending-byte (rw (entries-more (a .symbols) i (a .key .now) (a .messages .now) (a .places .now) (at .before .pre .0 .even) (omega arith)) at (at .loop .inv .1)))
+    let i = at .loop .i in (
+      omega arith,
+      pending-byte
+          (rw (entries-more (a .symbols) i (a .key .now) (a .messages .now) (a .places .now) (at .before .pre .0 .even) (omega arith)) at (at .loop .inv .1)),
+    )
 
 same-length : tie.Need-same-length Inv-loop μ-loop
 same-length c = c .before .loop .inv .1 .long

@@ -18,8 +18,11 @@ PartsAt s T =
 small : (s : tie.Start) → PartsAt s (takers (s .args .wanted) (s .args .totals .now) (s .args .block) (s .args .p))
 small s =
     let a = s .args in
-    let read = place-read (a .n) (a .wanted) (a .block) (a .p) (a .rows) (a .turn) (a .rank) (a .number) (a .totals .now) (a .taken .now) (s .pre .0) (s .pre .1) (s .pre .2) in
-    parts (a .n) (getD (a .taken .now) (a .block * 8 + a .p) 0) (a .rows) (a .turn) (takers (a .wanted) (a .totals .now) (a .block) (a .p)) (a .rank) (a .number) (s .pre .3) (omega (arith, read, s .pre .4))
+    let read =
+    place-read (a .n) (a .wanted) (a .block) (a .p) (a .rows) (a .turn) (a .rank) (a .number) (a .totals .now) (a .taken .now) (s .pre .0) (s .pre .1)
+    (s .pre .2) in
+    parts (a .n) (getD (a .taken .now) (a .block * 8 + a .p) 0) (a .rows) (a .turn) (takers (a .wanted) (a .totals .now) (a .block) (a .p)) (a .rank)
+    (a .number) (s .pre .3) (omega (arith, read, s .pre .4))
 
 after : (c : tie.After-takers) → PartsAt (c .before .before .before .before) (c .takers .result)
 after c = rw (c .takers .ensures) (small (c .before .before .before .before))
@@ -65,7 +68,8 @@ returns c =
     let s = c .before .before .before .before in
     let a = s .args in
     ap (λ (t : ℕ). a .n * getD (a .taken .now) (a .block * 8 + a .p) 0 + a .rows * (a .turn * t + a .rank) + a .number) (c .takers .ensures)
-    ∙ place-read (a .n) (a .wanted) (a .block) (a .p) (a .rows) (a .turn) (a .rank) (a .number) (a .totals .now) (a .taken .now) (s .pre .0) (s .pre .1) (s .pre .2)
+    ∙ place-read (a .n) (a .wanted) (a .block) (a .p) (a .rows) (a .turn) (a .rank) (a .number) (a .totals .now) (a .taken .now) (s .pre .0) (s .pre .1)
+    (s .pre .2)
 
 pub place-in-spec : {M : Type 1} → statement M
 place-in-spec =

@@ -8,8 +8,7 @@ use lib.ListN.{length, take, replicate}
 use Rattle.lists.specs.Parts.{put}
 use Rattle.lists.proofs.Puts.{put-padded}
 use Rattle.lists.proofs.Cuts.{front-is, front-fits}
-use Rattle.even_places.specs.Sets.{byteOf, allSets}
-use Rattle.even_places.specs.Rule.{queryCells}
+use Rattle.even_places.specs.Rule.{byteOf, queryCells, allSets}
 use Rattle.even_layout.proofs.Blocks.{all-length, subsets-few, all-bytes}
 use Rattle.even_ranks.proofs.Steps.{totals-length, totals-below}
 use Rattle.even_query.proofs.Whole.{places-are, places-below, places-length, query-room}
@@ -42,7 +41,8 @@ sub-count c = omega (arith, c .power .ensures, all-length (c .before .before .ar
 
 array-share-prefix-table : tie.Need-array-share-prefix-table
 unfolding bytesOf moreOf
-array-share-prefix-table c = front-fits (c .power .result - 1) (c .before .ordered-sets .result) (bytesOf c) (moreOf c) (c .before .ordered-sets .ensures) (sets-many c)
+array-share-prefix-table c =
+    front-fits (c .power .result - 1) (c .before .ordered-sets .result) (bytesOf c) (moreOf c) (c .before .ordered-sets .ensures) (sets-many c)
 
 slice-aggregate-sets : tie.Need-slice-aggregate-sets
 unfolding bytesOf
@@ -61,8 +61,13 @@ takings-requires c κs =
     let start = c .before .before .before .before .before in
     let a = start .args in
     let p = start .pre in
-    let e = c .before .totals .ensures in
-    (omega (arith, p .bounds .servers-low), p .servers-high, ap length e ∙ totals-length (a .k) (a .wanted) (p .bounds .messages-high), rw e (totals-below (a .k) (a .wanted) (p .bounds .messages-high)))
+    let e = c .before .totals .ensures in (
+      omega (arith, p .bounds .servers-low),
+      p .servers-high,
+      ap length e
+          ∙ totals-length (a .k) (a .wanted) (p .bounds .messages-high),
+      rw e (totals-below (a .k) (a .wanted) (p .bounds .messages-high)),
+    )
 
 slice-aggregate-write-sets : tie.Need-slice-aggregate-write-sets
 slice-aggregate-write-sets c = search needs
@@ -81,7 +86,10 @@ write-sets-requires c κs =
     let p = power .before .before .pre in
     let are = places-are (a .n) (a .k) (a .wanted) (a .server) p (totals .result) (totals .ensures) in (
       p,
-      record { long = ap length (totals .ensures) ∙ totals-length (a .k) (a .wanted) (p .bounds .messages-high); filled = c .before .before .before .takings .ensures },
+      record {
+        long = ap length (totals .ensures) ∙ totals-length (a .k) (a .wanted) (p .bounds .messages-high);
+        filled = c .before .before .before .takings .ensures;
+      },
       sets-front power,
       rw are (places-below (a .n) (a .k) (a .wanted) (a .server) p),
       rw are (omega (arith, places-length (a .n) (a .k) (a .wanted) (a .server) p, query-room (a .n) (a .k) (a .wanted) (a .server) p)),

@@ -93,7 +93,8 @@ look-up-requires c κs =
     let p = c .before .before .before .before in
     let start = begin p in
     let a = start .args in (
-      rw (c .before .before .before .power2 .ensures, messages-front p, places-front p) (keyed (a .n) (a .k) (a .wanted) (a .server) (start .pre .0) (a .key .now) (start .pre .1)),
+      rw (c .before .before .before .power2 .ensures, messages-front p, places-front p)
+          (keyed (a .n) (a .k) (a .wanted) (a .server) (start .pre .0) (a .key .now) (start .pre .1)),
       rw (places-front p) (omega (arith, places-many p, count-is p, start .pre .2)),
     )
 
@@ -104,7 +105,8 @@ returns : tie.Need-returns
 returns c =
     let p = c .before .before .before .before .before .before .before in
     let a = begin p .args in
-    let found = rw (c .before .before .before .before .before .before .power2 .ensures, messages-front p, places-front p) at (c .before .before .look-up .ensures) in
+    let found =
+    rw (c .before .before .before .before .before .before .power2 .ensures, messages-front p, places-front p) at (c .before .before .look-up .ensures) in
     found ∙ ap (λ (l : List ℕ). put 0 l (a .out .now)) (entries-are (a .n) (a .k) (a .wanted) (a .server) (begin p .pre .0) (a .key .now))
 
 pub query-spec : {M : Type 1} → statement M

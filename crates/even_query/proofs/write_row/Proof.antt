@@ -8,7 +8,7 @@ use native.Mathlib.Omega.{arith}
 use lib.ListN.{set, length-map}
 use Rattle.lists.specs.Below.{Below}
 use Rattle.lists.proofs.Writing.{Pending, pending-start, pending-byte, pending-as, pending-ends, pending-done}
-use Rattle.even_places.specs.Sets.{members}
+use Rattle.even_places.specs.Rule.{members}
 use Rattle.even_layout.specs.Layout.{setIn}
 use Rattle.even_layout.proofs.Bytes.{membersFrom, members-kept, members-skipped}
 use Rattle.even_ranks.specs.declared.Origin.{Origin}
@@ -93,8 +93,11 @@ loop-again c =
     (λ w.
     let kept = members-kept (a .k) p rest (omega arith) (w .0 .taken) in
     let small = rw kept at (at .loop .inv .1) in
-    let left = rw kept at (at .loop .inv .2) in
-    (omega arith, (λ i h. small (suc i) (omega arith)), pending-as (w .3) refl (w .2 ∙ ap (set (at .loop .out) (at .loop .end)) (w .1 .ensures)) (pending-byte left)))
+    let left = rw kept at (at .loop .inv .2) in (
+      omega arith,
+      (λ i h. small (suc i) (omega arith)),
+      pending-as (w .3) refl (w .2 ∙ ap (set (at .loop .out) (at .loop .end)) (w .1 .ensures)) (pending-byte left),
+    ))
     (λ w.
     let skipped = members-skipped (a .k) p rest (omega arith) (w .0 .left) in
     (omega arith, rw skipped at (at .loop .inv .1), pending-as (w .2) refl (w .1) (rw skipped at (at .loop .inv .2))))

@@ -7,7 +7,7 @@ use lib.Count.{ones as count, ones-le}
 use lib.Dec.{eqb}
 use Rattle.lists.specs.Below.{Below}
 use Rattle.lists.proofs.Writing.{Pending, pending-start, pending-as, pending-ends, pending-done}
-use Rattle.even_places.specs.Sets.{ones}
+use Rattle.even_places.specs.Rule.{onesIn}
 use Rattle.even_layout.specs.Layout.{setIn}
 use Rattle.even_ranks.specs.Walk.{setPlaces}
 use Rattle.even_ranks.proofs.Steps.{stands-count}
@@ -17,18 +17,18 @@ use Rattle.even_query.proofs.write_set.Statement.{statement}
 use Rattle.even_query.proofs.write_set.Tie as tie
 
 abbrev Inv-loop : tie.InvT-loop
-Inv-loop n k wanted server totals taken ranks set out₀ at ones joins rows end₀ i₀ out end i =
+Inv-loop n k wanted server totals taken ranks set out₀ at onesIn joins rows end₀ i₀ out end i =
     (i ≤ rows)
     × Below 256 (rowsFrom n wanted server totals ranks (setIn k set) i)
     × Pending at (setPlaces n wanted server totals ranks (setIn k set)) out₀ end (rowsFrom n wanted server totals ranks (setIn k set) i) out
 
 abbrev μ-loop : tie.MeasureT-loop
-μ-loop n k wanted server totals taken ranks set out₀ at ones joins rows end₀ i₀ out end i = rows - i
+μ-loop n k wanted server totals taken ranks set out₀ at onesIn joins rows end₀ i₀ out end i = rows - i
 
 -- as many turns as the set has rows
 rows-at : (c : tie.At-loop Inv-loop μ-loop)
     → let a = c .before .before .before .before .before .before .before .args in
-    c .before .rows-of .result ≡ (a .n - 1) ^ (ones (setIn (a .k) (a .set)) - 1)
+    c .before .rows-of .result ≡ (a .n - 1) ^ (onesIn (setIn (a .k) (a .set)) - 1)
 rows-at c =
     let start = c .before .before .before .before .before .before .before in
     let a = start .args in
@@ -44,7 +44,8 @@ turn-at c =
     let joined = at .before .before .is-joined in
     let start = at .before .before .before .before .before .before .before in
     let asks = start .pre .0 in
-    row-turn (start .pre .2) (asks .bounds .servers-low) (asks .bounds .messages-high) (omega (arith, rows-at at)) (joined .ensures) (c .origin .ensures) (at .loop .inv .1) (at .loop .inv .2)
+    row-turn (start .pre .2) (asks .bounds .servers-low) (asks .bounds .messages-high) (omega (arith, rows-at at)) (joined .ensures) (c .origin .ensures)
+    (at .loop .inv .1) (at .loop .inv .2)
 
 cast-ones : tie.Need-cast-ones Inv-loop μ-loop
 cast-ones c = omega (arith, ones-le 8 (c .before .before .before .before .args .set) (search needs))

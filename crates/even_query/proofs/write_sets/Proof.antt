@@ -8,7 +8,7 @@ use lib.ListN.{length, getD, drop, length-map}
 use Rattle.lists.specs.Below.{Below}
 use Rattle.lists.proofs.Below.{below-zeros}
 use Rattle.lists.proofs.Writing.{Pending, pending-start, pending-as, pending-done}
-use Rattle.even_places.specs.Sets.{byteOf, allSets}
+use Rattle.even_places.specs.Rule.{byteOf, allSets}
 use Rattle.even_layout.specs.Layout.{setIn}
 use Rattle.even_layout.proofs.Blocks.{all-length, subsets-few}
 use Rattle.even_ranks.specs.Counts.{noCounts, Stands}
@@ -52,7 +52,8 @@ lent-here : (c : tie.After-counters-of Inv-loop μ-loop)
 lent-here c =
     let start = c .before .before .before .before .before .before .before .before in
     let a = start .args in
-    lent (a .k) (a .wanted) (getD (a .sets .now) (c .before .before .before .loop .i) 0) (c .counters-of .result) (start .pre .0 .bounds .messages-high) (stands-here (c .before .before) .0) (c .counters-of .ensures)
+    lent (a .k) (a .wanted) (getD (a .sets .now) (c .before .before .before .loop .i) 0) (c .counters-of .result) (start .pre .0 .bounds .messages-high)
+    (stands-here (c .before .before) .0) (c .counters-of .ensures)
 
 turn-here : (c : tie.After-counters-of Inv-loop μ-loop)
     → let a = c .before .before .before .before .before .before .before .before .args in
@@ -77,8 +78,10 @@ counters-of-requires c κs =
     let start = c .before .before .before .before .before .before .before in
     let a = start .args in
     let asks = start .pre .0 in
-    let stands = stands-here (c .before) .0 in
-    (omega (arith, asks .message, asks .bounds .messages-high), omega (arith, stands-count (a .k) (getD (a .sets .now) (c .before .before .loop .i) 0) stands, stands .some))
+    let stands = stands-here (c .before) .0 in (
+      omega (arith, asks .message, asks .bounds .messages-high),
+      omega (arith, stands-count (a .k) (getD (a .sets .now) (c .before .before .loop .i) 0) stands, stands .some),
+    )
 
 add-write-set : tie.Need-add-write-set Inv-loop μ-loop
 add-write-set c = omega (arith, lent-here c .fits)
@@ -133,10 +136,13 @@ loop-again c =
     let next = c .before .count-set .ensures in
     let written = c .before .before .before .before .before .write-set .ensures in (
       omega arith,
-      ap length next ∙ counted-length (a .k) (a .wanted) (start .pre .0 .bounds .messages-high) A (loop .counts) (stands-set (a .k) byte (stands-here (from .before .before) .0)) (loop .inv .1),
+      ap length next
+          ∙ counted-length (a .k) (a .wanted) (start .pre .0 .bounds .messages-high) A (loop .counts)
+          (stands-set (a .k) byte (stands-here (from .before .before) .0)) (loop .inv .1),
       rw (next, add-one (loop .i)) (counted-below (suc (loop .i)) (a .wanted) A (loop .counts) (loop .inv .2)),
       rw next (t .rest-small),
-      pending-as (written .0) (ap (λ (d : List ℕ). setsPlaces (a .n) (a .wanted) (a .server) (a .totals .now) d (drop (loop .i + 1) (allSets (a .k)))) next) (written .1) (t .rest),
+      pending-as (written .0)
+          (ap (λ (d : List ℕ). setsPlaces (a .n) (a .wanted) (a .server) (a .totals .now) d (drop (loop .i + 1) (allSets (a .k)))) next) (written .1) (t .rest),
     )
 
 same-length : tie.Need-same-length Inv-loop μ-loop

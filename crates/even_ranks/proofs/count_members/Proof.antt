@@ -65,7 +65,8 @@ returns c =
     let at = c .before in
     let counts = at .loop .counts in
     let all : at .loop .p ≡ at .before .args .k = omega arith in
-    sym (ap (λ (p : ℕ). countsFrom (at .before .args .k) p (at .loop .rest) counts) all ∙ counts-done (at .before .args .k) (at .loop .rest) counts (at .loop .inv .1))
+    sym (ap (λ (p : ℕ). countsFrom (at .before .args .k) p (at .loop .rest) counts) all
+    ∙ counts-done (at .before .args .k) (at .loop .rest) counts (at .loop .inv .1))
     ∙ at .loop .inv .3
 
 pub count-members-spec : {M : Type 1} → statement M

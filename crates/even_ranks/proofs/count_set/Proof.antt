@@ -53,8 +53,11 @@ count-members-requires c κs =
     let counts = a .counts .now in
     let l = lent (a .k) (a .wanted) (a .set) (c .before .counters-of .result) (start .pre .0) (start .pre .2) (c .before .counters-of .ensures) in
     let size : at + a .k - at ≡ a .k = add-sub-cancel-left at (a .k) in
-    let room : at + a .k ≤ length counts = omega (arith, l .fits, start .pre .3) in
-    (ap (λ (n : ℕ). length (take n (drop at counts))) size ∙ cut-length at (a .k) counts room, below-take 65536 (at + a .k - at) (drop at counts) (below-drop 65536 at counts (start .pre .4)))
+    let room : at + a .k ≤ length counts = omega (arith, l .fits, start .pre .3) in (
+      ap (λ (n : ℕ). length (take n (drop at counts))) size
+          ∙ cut-length at (a .k) counts room,
+      below-take 65536 (at + a .k - at) (drop at counts) (below-drop 65536 at counts (start .pre .4)),
+    )
 
 same-length : tie.Need-same-length
 same-length c = search needs
@@ -66,7 +69,8 @@ returns c =
     let a = start .args in
     let at = called .before .before .counters-of .result in
     let counts = a .counts .now in
-    let l = lent (a .k) (a .wanted) (a .set) (called .before .before .counters-of .result) (start .pre .0) (start .pre .2) (called .before .before .counters-of .ensures) in
+    let l = lent (a .k) (a .wanted) (a .set) (called .before .before .counters-of .result) (start .pre .0) (start .pre .2)
+    (called .before .before .counters-of .ensures) in
     ap (λ (l : List ℕ). take at counts ++ (l ++ drop (at + a .k - at) (drop at counts))) (called .count-members .ensures)
     ∙ counted-part (a .k) (a .wanted) (a .set) at counts (start .pre .3) l
 

@@ -16,7 +16,11 @@ abbrev μ-loop : tie.MeasureT-loop
 μ-loop n wanted totals block p sum₀ rows₀ j₀ sum rows j = block - j
 
 loop-holds : tie.Need-loop-holds Inv-loop μ-loop
-loop-holds c = (omega arith, sym (taken-none (c .before .args .n) (c .before .args .wanted) (c .before .args .totals .now) (c .before .args .p)), sym (pow-zero (c .before .args .n - 1)))
+loop-holds c = (
+  omega arith,
+  sym (taken-none (c .before .args .n) (c .before .args .wanted) (c .before .args .totals .now) (c .before .args .p)),
+  sym (pow-zero (c .before .args .n - 1)),
+)
 
 takers-requires : tie.Need-takers-requires Inv-loop μ-loop
 takers-requires c κs =

@@ -8,10 +8,10 @@ use native.Mathlib.Omega.{arith}
 use lib.ListN.{length, getD, drop, length-map, drop-of-length-le}
 use Rattle.lists.specs.Below.{Below}
 use Rattle.lists.proofs.Below.{below-zeros}
-use Rattle.even_places.specs.Sets.{byteOf, allSets}
+use Rattle.even_places.specs.Rule.{byteOf, allSets}
 use Rattle.even_layout.specs.Layout.{setIn}
 use Rattle.even_layout.proofs.Blocks.{all-length, subsets-few}
-use Rattle.even_ranks.specs.Counts.{noCounts, counted, countedAll, totalsOf}
+use Rattle.even_ranks.specs.Counts.{noCounts, setCounted, countedAll, totalsOf}
 use Rattle.even_ranks.proofs.Counters.{counted-length}
 use Rattle.even_ranks.proofs.Steps.{stands-at, stands-set, counted-below, counted-more}
 use Rattle.even_ranks.proofs.totals.Statement.{statement}
@@ -39,7 +39,8 @@ count-set-requires c κs =
     let at = c .before .before .before in
     let start = at .before .before in
     let a = start .args in
-    let few : length (a .sets .now) ≤ 255 = omega (arith, ap length (start .pre .2), length-map (allSets (a .k)) byteOf, all-length (a .k), subsets-few (a .k) (start .pre .0)) in (
+    let few : length (a .sets .now) ≤ 255 =
+    omega (arith, ap length (start .pre .2), length-map (allSets (a .k)) byteOf, all-length (a .k), subsets-few (a .k) (start .pre .0)) in (
       start .pre .0,
       start .pre .1,
       stands-at (a .k) (at .loop .i) (a .sets .now) (omega (arith, start .pre .1)) (start .pre .0) (start .pre .2) (omega arith) .0,
@@ -64,9 +65,10 @@ loop-again c =
     let next = c .before .count-set .ensures in
     let inside : i < length (allSets (a .k)) = omega (arith, ap length (start .pre .2), length-map (allSets (a .k)) byteOf) in (
       omega arith,
-      ap length next ∙ counted-length (a .k) (a .wanted) (start .pre .0) A (at .loop .counts) (stands-set (a .k) (getD (a .sets .now) i 0) (here .0)) (at .loop .inv .1),
+      ap length next
+          ∙ counted-length (a .k) (a .wanted) (start .pre .0) A (at .loop .counts) (stands-set (a .k) (getD (a .sets .now) i 0) (here .0)) (at .loop .inv .1),
       rw (next, add-one i) (counted-below (suc i) (a .wanted) A (at .loop .counts) (at .loop .inv .2)),
-      ap (countedAll (a .wanted) (drop (i + 1) (allSets (a .k)))) (next ∙ ap (λ (B : List Bool). counted (a .wanted) B (at .loop .counts)) (here .1))
+      ap (countedAll (a .wanted) (drop (i + 1) (allSets (a .k)))) (next ∙ ap (λ (B : List Bool). setCounted (a .wanted) B (at .loop .counts)) (here .1))
           ∙ sym (counted-more (a .wanted) i (allSets (a .k)) (at .loop .counts) inside) ∙ at .loop .inv .3,
     )
 

@@ -7,6 +7,7 @@ use native.Mathlib.Omega.{arith}
 use lib.ListN.{length, getD}
 use Rattle.lists.specs.Parts.{put}
 use Rattle.lists.specs.Ranges.{range}
+use Rattle.symbol.specs.Operations.{sumOf}
 use Rattle.even_scheme.specs.Even.{assemble}
 use Rattle.even_recover.specs.Rows.{groupSymbol, groupPart, groupParts}
 use Rattle.even_recover.proofs.Written.{assemble-none, assemble-part}
@@ -14,33 +15,44 @@ use Rattle.even_recover.proofs.from_group.Statement.{statement}
 use Rattle.even_recover.proofs.from_group.Tie as tie
 
 abbrev Inv-loop : tie.InvT-loop
-Inv-loop here group query answers message₀ count cell₀ i₀ message cell i =
+Inv-loop op here group query answers message₀ count cell₀ i₀ message cell i =
     (i ≤ group .count)
     × (length message ≡ length message₀)
     × (cell ≡ group .cell + i * group .messages)
-    × (message ≡ assemble (map (groupPart here group query answers) (range 0 i)) message₀)
+    × (message ≡ assemble (map (groupPart (sumOf op) here group query answers) (range 0 i)) message₀)
 
 abbrev μ-loop : tie.MeasureT-loop
-μ-loop here group query answers message₀ count cell₀ i₀ message cell i = group .count - i
+μ-loop op here group query answers message₀ count cell₀ i₀ message cell i = group .count - i
 
 loop-holds : tie.Need-loop-holds Inv-loop μ-loop
 loop-holds c =
-    let at = c .before .before .before .args in
-    (omega arith, refl, omega (arith, zero-mul (at .group .messages)), assemble-none (groupPart (at .here) (at .group) (at .query .now) (at .answers .now)) (at .message .now))
+    let at = c .before .before .before .args in (
+      omega arith,
+      refl,
+      omega (arith, zero-mul (at .group .messages)),
+      assemble-none (groupPart (sumOf (at .op)) (at .here) (at .group) (at .query .now) (at .answers .now)) (at .message .now),
+    )
 
 shared-slice-read-number : tie.Need-shared-slice-read-number Inv-loop μ-loop
-shared-slice-read-number c = rw (c .before .before .loop .inv .2) (c .before .before .before .before .before .before .pre .1 .1 .cells (c .before .before .loop .i) (omega arith))
+shared-slice-read-number c =
+    let at = c .before .before in
+    rw (at .loop .inv .2) (at .before .before .before .before .pre .1 .1 .cells (at .loop .i) (omega arith))
 
 cast-number : tie.Need-cast-number Inv-loop μ-loop
 cast-number c = omega (arith, c .shared-slice-known3 .given (c .before .before .loop .cell))
 
 from-row-requires : tie.Need-from-row-requires Inv-loop μ-loop
-from-row-requires c κs = (c .before .before .before .before .before .before .before .pre .0, (c .before .before .before .before .before .before .before .pre .1 .0, (omega arith, rw (c .before .before .before .loop .inv .1, c .before .before .before .loop .inv .2) (c .before .before .before .before .before .before .before .pre .1 .1 .symbols (c .before .before .before .loop .i) (omega arith)))))
+from-row-requires c κs =
+    let at = c .before .before .before in
+    let pre = at .before .before .before .before .pre in
+    (pre .0, (pre .1 .0, (omega arith, rw (at .loop .inv .1, at .loop .inv .2) (pre .1 .1 .symbols (at .loop .i) (omega arith)))))
 
 add-cell : tie.Need-add-cell Inv-loop μ-loop
 add-cell c =
-    let at = c .before .before .before .before .before .before .before .before .before .before .before .args in
-    omega (arith, c .before .before .before .before .before .before .before .loop .inv .2, c .before .before .before .before .before .before .before .before .before .before .before .pre .1 .0 .small, c .before .before .before .before .before .before .before .before .before .before .before .pre .1 .1 .cells (c .before .before .before .before .before .before .before .loop .i) (omega arith))
+    let at = c .before .before .before .before .before .before .before in
+    let start = at .before .before .before .before in
+    let group = start .args .group in
+    omega (arith, at .loop .inv .2, start .pre .1 .0 .small, start .pre .1 .1 .cells (at .loop .i) (omega arith))
 
 add-i : tie.Need-add-i Inv-loop μ-loop
 add-i c = omega arith
@@ -51,15 +63,17 @@ loop-less c = omega arith
 loop-again : tie.Need-loop-again Inv-loop μ-loop
 unfolding groupPart
 loop-again c =
+    let turn = c .before .before .before .before .before .before .before .loop in
+    let done = c .before .before .before .from-row in
     let at = c .before .before .before .before .before .before .before .before .before .before .before .args in
-    let i = c .before .before .before .before .before .before .before .loop .i in
-    let part = groupPart (at .here) (at .group) (at .query .now) (at .answers .now) in (
+    let part = groupPart (sumOf (at .op)) (at .here) (at .group) (at .query .now) (at .answers .now) in
+    let symbol = groupSymbol (sumOf (at .op)) (at .here) (at .group) (at .answers .now) (turn .i) in (
       omega arith,
-      c .before .before .before .from-row .kept .1 .1 .1 .1 .1 .0 ∙ c .before .before .before .before .before .before .before .loop .inv .1,
-      omega (arith, c .before .before .before .before .before .before .before .loop .inv .2, add-mul i 1 (at .group .messages), one-mul (at .group .messages)),
-      c .before .before .before .from-row .ensures
-          ∙ ap₂ (λ (cell : ℕ) (l : List ℕ). put (getD (at .query .now) cell 0 * at .here .symbol) (groupSymbol (at .here) (at .group) (at .answers .now) i) l) (c .before .before .before .before .before .before .before .loop .inv .2) (c .before .before .before .before .before .before .before .loop .inv .3)
-          ∙ sym (assemble-part part i (at .message .now)),
+      done .kept .1 .1 .1 .1 .1 .1 .0 ∙ turn .inv .1,
+      omega (arith, turn .inv .2, add-mul (turn .i) 1 (at .group .messages), one-mul (at .group .messages)),
+      done .ensures
+          ∙ ap₂ (λ (cell : ℕ) (l : List ℕ). put (getD (at .query .now) cell 0 * at .here .symbol) symbol l) (turn .inv .2) (turn .inv .3)
+          ∙ sym (assemble-part part (turn .i) (at .message .now)),
     )
 
 same-length : tie.Need-same-length Inv-loop μ-loop
@@ -70,7 +84,8 @@ unfolding groupParts
 returns c =
     let at = c .before .before .before .before .before .args in
     let done : c .before .loop .i ≡ at .group .count = omega arith in
-    c .before .loop .inv .3 ∙ ap (λ (i : ℕ). assemble (map (groupPart (at .here) (at .group) (at .query .now) (at .answers .now)) (range 0 i)) (at .message .now)) done
+    let part = groupPart (sumOf (at .op)) (at .here) (at .group) (at .query .now) (at .answers .now) in
+    c .before .loop .inv .3 ∙ ap (λ (i : ℕ). assemble (map part (range 0 i)) (at .message .now)) done
 
 pub from-group-spec : {M : Type 1} → statement M
 from-group-spec =

@@ -4,6 +4,7 @@ use Prim.Native.Nat.{ℕ, _+_, _-_, _*_}
 use native.Mathlib.Omega.{arith}
 use lib.Count.{ones, ones-le}
 use lib.ListN.{length, getD, replicate}
+use Rattle.symbol.specs.Operations.{sumOf}
 use Rattle.even_recover.proofs.Fetched.{Fetched, set-near, bit-some, set-is, cells-near, set-ready, fetched-more, fetched-done}
 use Rattle.parameters.proofs.Bounds.{even-bounds}
 use Rattle.even_layout.proofs.Fits.{layout-bounds}
@@ -14,13 +15,14 @@ use Rattle.even_recover.proofs.from_server.Statement.{statement}
 use Rattle.even_recover.proofs.from_server.Tie as tie
 
 abbrev Inv-loop : tie.InvT-loop
-Inv-loop n k s wanted server key sets firsts answers message₀ here asked cell₀ j₀ message cell j = Fetched n k s wanted server key sets firsts answers message₀ here asked message cell j
+Inv-loop op n k s wanted server key sets firsts answers message₀ here asked cell₀ j₀ message cell j =
+    Fetched (sumOf op) n k s wanted server key sets firsts answers message₀ here asked message cell j
 
 abbrev μ-loop : tie.MeasureT-loop
-μ-loop n k s wanted server key sets firsts answers message₀ here asked cell₀ j₀ message cell j = length sets - j
+μ-loop op n k s wanted server key sets firsts answers message₀ here asked cell₀ j₀ message cell j = length sets - j
 
-reading-of-requires : tie.Need-reading-of-requires Inv-loop μ-loop
-reading-of-requires c κs = (c .before .before .before .before .before .pre .0, c .before .before .before .before .before .pre .1 .0 .0)
+server-rows-of-requires : tie.Need-server-rows-of-requires Inv-loop μ-loop
+server-rows-of-requires c κs = (c .before .before .before .before .before .pre .0, c .before .before .before .before .before .pre .1 .0 .0)
 
 slice-aggregate-query : tie.Need-slice-aggregate-query Inv-loop μ-loop
 slice-aggregate-query c = refl
@@ -36,11 +38,12 @@ query-requires c κs =
 
 loop-holds : tie.Need-loop-holds Inv-loop μ-loop
 loop-holds c =
-    let at = c .before .before .before .before .before .before .before .before .before .args in
-    let pre = c .before .before .before .before .before .before .before .before .before .pre .1 in
-    fetched-none (at .n) (at .k) (at .s) (at .wanted) (at .server) (c .before .before .before .before .before .before .before .before .before .pre .0) (pre .0 .0) (pre .0 .1)
-    (at .key .now) (at .sets .now) (at .firsts .now) (at .answers .now) (at .message .now) (c .before .before .before .reading-of .result) _ (replicate 1024 0)
-    (pre .1 .0 .1) (pre .1 .1 .0 .0) (pre .1 .1 .0 .1) (pre .1 .1 .1 .0) (pre .1 .1 .1 .1) (c .before .before .before .reading-of .ensures) (c .before .query .ensures)
+    let start = c .before .before .before .before .before .before .before .before .before in
+    let at = start .args in
+    let pre = start .pre .1 in
+    fetched-none (at .n) (at .k) (at .s) (at .wanted) (at .server) (start .pre .0) (pre .0 .0) (pre .0 .1) (sumOf (at .op))
+    (at .key .now) (at .sets .now) (at .firsts .now) (at .answers .now) (at .message .now) (c .before .before .before .server-rows-of .result) _ (replicate 1024 0)
+    (pre .1 .0 .1) (pre .1 .1 .0 .0) (pre .1 .1 .0 .1) (pre .1 .1 .1 .0) (pre .1 .1 .1 .1) (c .before .before .before .server-rows-of .ensures) (c .before .query .ensures)
 
 shared-slice-read-set : tie.Need-shared-slice-read-set Inv-loop μ-loop
 shared-slice-read-set c = omega arith
@@ -62,25 +65,37 @@ rows-of-requires c κs =
 
 cast-cell : tie.Need-cast-cell Inv-loop μ-loop
 cast-cell c =
-    let set = set-is (c .before .before .before .before .before .before .before .before .loop .inv) (c .before .before .before .before .before .before .before .loop-test .taken) in
-    omega (arith, ones-le 8 (getD (c .before .before .before .before .before .before .before .before .before .before .before .before .before .before .before .before .before .before .args .sets .now) (c .before .before .before .before .before .before .before .before .loop .j) 0) (set .small))
+    let test = c .before .before .before .before .before .before .before in
+    let turn = test .before in
+    let sets = turn .before .before .before .before .before .before .before .before .before .before .args .sets .now in
+    omega (arith, ones-le 8 (getD sets (turn .loop .j) 0) (set-is (turn .loop .inv) (test .loop-test .taken) .small))
 
 mul-cell : tie.Need-mul-cell Inv-loop μ-loop
-mul-cell c = rw (c .rows-of .ensures) (omega (arith, cells-near (c .before .before .before .before .before .before .before .before .loop .inv) (c .before .before .before .before .before .before .before .loop-test .taken)))
+mul-cell c =
+    let test = c .before .before .before .before .before .before .before in
+    rw (c .rows-of .ensures) (omega (arith, cells-near (test .before .loop .inv) (test .loop-test .taken)))
 
 add-cell : tie.Need-add-cell Inv-loop μ-loop
-add-cell c = rw (c .rows-of .ensures) (omega (arith, cells-near (c .before .before .before .before .before .before .before .before .loop .inv) (c .before .before .before .before .before .before .before .loop-test .taken)))
+add-cell c =
+    let test = c .before .before .before .before .before .before .before in
+    rw (c .rows-of .ensures) (omega (arith, cells-near (test .before .loop .inv) (test .loop-test .taken)))
 
 add-j : tie.Need-add-j Inv-loop μ-loop
-add-j c = omega (arith, set-near (c .before .before .before .before .before .before .before .before .loop .inv) (c .before .before .before .before .before .before .before .loop-test .taken))
+add-j c =
+    let test = c .before .before .before .before .before .before .before in
+    omega (arith, set-near (test .before .loop .inv) (test .loop-test .taken))
 
 loop-less : tie.Need-loop-less Inv-loop μ-loop
 loop-less c = omega (arith, c .before .before .before .before .before .before .before .loop-test .taken)
 
 loop-again : tie.Need-loop-again Inv-loop μ-loop
 loop-again c =
-    fetched-more (c .before .before .before .before .before .before .before .before .loop .inv) (c .before .before .before .before .before .before .before .loop-test .taken) _ _ (c .before .before .before .from-set .kept .1 .1 .1 .1 .1 .1 .0) (c .before .before .before .from-set .ensures)
-    (ap (λ (r : ℕ). c .before .before .before .before .before .before .before .before .loop .cell + r * ones (getD (c .before .before .before .before .before .before .before .before .before .before .before .before .before .before .before .before .before .before .args .sets .now) (c .before .before .before .before .before .before .before .before .loop .j) 0)) (c .rows-of .ensures))
+    let done = c .before .before .before .from-set in
+    let test = c .before .before .before .before .before .before .before in
+    let turn = test .before in
+    let sets = turn .before .before .before .before .before .before .before .before .before .before .args .sets .now in
+    fetched-more (turn .loop .inv) (test .loop-test .taken) _ _ (done .kept .1 .1 .1 .1 .1 .1 .1 .0) (done .ensures)
+    (ap (λ (r : ℕ). turn .loop .cell + r * ones (getD sets (turn .loop .j) 0)) (c .rows-of .ensures))
 
 same-length : tie.Need-same-length Inv-loop μ-loop
 same-length c = c .before .loop .inv .long
@@ -94,7 +109,7 @@ from-server-spec =
     (tie.spec
     Inv-loop
     μ-loop
-    reading-of-requires
+    server-rows-of-requires
     slice-aggregate-query
     query-requires
     loop-holds

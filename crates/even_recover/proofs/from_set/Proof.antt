@@ -2,6 +2,7 @@
 use mathlib.Core.Path.{ap, _∙_}
 use Prim.Native.Nat.{_/_, _%_}
 use borrow.Author.Tests.{eq-eqb, ne-eqb}
+use Rattle.symbol.specs.Operations.{sumOf}
 use Rattle.even_scheme.specs.Even.{assemble}
 use Rattle.even_recover.specs.declared.Group.{Group}
 use Rattle.even_recover.specs.Rows.{groupParts, setParts}
@@ -17,8 +18,9 @@ group-of-requires c κs = c .before .before .before .before .before .before .pre
 
 from-group-requires : tie.Need-from-group-requires
 from-group-requires c κs =
-    let ready = c .before .before .before .before .before .before .before .before .pre .1 .1 (c .before .before .if1 .taken) in
-    (c .before .before .before .before .before .before .before .before .pre .1 .0, (rw (c .before .group-of .ensures) (ready .grouped), rw (c .before .group-of .ensures) (ready .named)))
+    let pre = c .before .before .before .before .before .before .before .before .pre in
+    let ready = pre .1 .1 (c .before .before .if1 .taken) in
+    (pre .1 .0, (rw (c .before .group-of .ensures) (ready .grouped), rw (c .before .group-of .ensures) (ready .named)))
 
 same-length : tie.Need-same-length
 same-length c = search needs
@@ -28,7 +30,8 @@ unfolding setParts
 returns c =
     let at = c .before .before .before .before .before .before .before .before .before .before .before .args in
     c .before .before .from-group .ensures
-    ∙ ap (λ (g : Group). assemble (groupParts (at .here) g (at .query .now) (at .answers .now)) (at .message .now)) (c .before .before .before .before .group-of .ensures)
+    ∙ ap (λ (g : Group). assemble (groupParts (sumOf (at .op)) (at .here) g (at .query .now) (at .answers .now)) (at .message .now))
+    (c .before .before .before .before .group-of .ensures)
     ∙ rw (eq-eqb (at .set / at .here .bit % 2) 1 (c .before .before .before .before .before .if1 .taken))
 
 returns-2 : tie.Need-returns-2

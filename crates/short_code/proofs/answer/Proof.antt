@@ -1,79 +1,33 @@
--- `short_code::answer` meets its contract: the row of zeros is left alone, and of any other row the total is gathered.
-use mathlib.Core.Path.{_≡_, sym, ap, _∙_}
-use mathlib.Core.Bool.{false}
-use mathlib.Core.List.{List}
-use Prim.Native.Nat.{ℕ, _≤_}
+-- `short_code::answer` meets its contract: the digits of a query name symbols of the store, n - 1 for each message.
 use native.Mathlib.Omega.{arith}
-use lib.ListN.{length, take}
-use lib.Seq.{length-take-le}
-use Rattle.lists.specs.Parts.{put}
-use Rattle.lists.specs.Below.{Below}
 use Rattle.parameters.specs.Measures.{shortSizes}
 use Rattle.parameters.proofs.Bounds.{short-bounds}
-use Rattle.symbol.specs.Xor.{xor}
-use Rattle.short_code.specs.Short.{allZero}
-use Rattle.short_code.proofs.ZeroRow.{room-some, answer-none}
-use Rattle.short_code.proofs.Gathering.{gathered-answer}
+use Rattle.short_code.specs.Short.{shortAnswer}
+use Rattle.short_code.proofs.Named.{query-stored}
 use borrow.Author.Needs.{needs}
 use Rattle.short_code.proofs.answer.Statement.{statement}
 use Rattle.short_code.proofs.answer.Tie as tie
 
-all-below-requires : tie.Need-all-below-requires
-all-below-requires c κs = search needs
+sub-answer : tie.Need-sub-answer
+sub-answer c =
+    let start = c .before .before .before in
+    let b = short-bounds (start .args .n) (start .args .k) (start .args .s) (start .pre .0) in
+    omega arith
 
-returns : tie.Need-returns
-returns c =
-    let a = c .before .before .before .before .before .args in
-    ap (λ (l : List ℕ). put 0 l (a .out .now))
-    (sym (answer-none xor (a .n) (a .s) (a .store .now) (a .query .now) (sym (c .before .all-below .ensures) ∙ c .if1 .taken)))
-
-bytes : (c : tie.After-shared-slice-known) → Below 256 (c .before .args .store .now)
-bytes c i h = omega (arith, c .shared-slice-known .given i)
-
--- a row that is not all zeros has room for a symbol
-roomy : (c : tie.Else1) → c .before .before .before .before .before .args .s ≤ length (c .before .before .before .before .before .args .out .now)
-roomy c =
-    let start = c .before .before .before .before .before in
+answer-requires : tie.Need-answer-requires
+unfolding shortSizes
+answer-requires c κs =
+    let start = c .before .before .before .before in
     let a = start .args in
-    room-some (a .s) (a .query .now) (length (a .out .now)) (sym (c .before .all-below .ensures) ∙ c .if1 .left) (start .pre .1 .1 .1)
-
-slice-relend-prefix-gather : tie.Need-slice-relend-prefix-gather
-slice-relend-prefix-gather c = roomy c
-
-slice-aggregate-gather : tie.Need-slice-aggregate-gather
-slice-aggregate-gather c =
-    let a = c .before .before .before .before .before .before .args in
-    sym (length-take-le (a .s) (a .out .now) (roomy (c .before)))
-
-gather-requires : tie.Need-gather-requires
-gather-requires c κs =
-    let start = c .before .before .before .before .before .before in
-    let a = start .args in
-    (start .pre .0, (start .pre .1 .0, (start .pre .1 .1 .0, length-take-le (a .s) (a .out .now) (roomy (c .before)))))
+    let b = short-bounds (a .n) (a .k) (a .s) (start .pre .0) in
+    (b .symbol-low, (query-stored (a .n) (a .k) (a .s) (a .store .now) (a .query .now) (start .pre .1 .0) (start .pre .1 .1 .0), start .pre .1 .1 .1))
 
 same-length : tie.Need-same-length
 same-length c = search needs
 
-returns-2 : tie.Need-returns-2
-unfolding shortSizes
-returns-2 c =
-    let g = c .before .before in
-    let start = g .before .before .before .before .before .before .before in
-    let a = start .args in
-    let b = short-bounds (a .n) (a .k) (a .s) (start .pre .0) in
-    let some : allZero (a .query .now) ≡ false = sym (g .before .before .before .all-below .ensures) ∙ g .before .before .if1 .left in
-    gathered-answer (a .n) (a .s) (a .store .now) (a .k) (a .query .now) (take (a .s) (a .out .now)) (a .out .now)
-    (start .pre .1 .0) (b .symbol-low) (bytes (g .before .before .before .before .before .before)) (start .pre .1 .1 .0) some (g .gather .ensures)
-    (g .gather .kept .1 .1 .1 .1 .1 .0 ∙ length-take-le (a .s) (a .out .now) (roomy (g .before .before)))
+returns : tie.Need-returns
+unfolding shortAnswer
+returns c = c .before .before .answer .ensures
 
 pub answer-spec : {M : Type 1} → statement M
-answer-spec =
-    tie.close
-    (tie.spec
-    all-below-requires
-    returns
-    slice-relend-prefix-gather
-    slice-aggregate-gather
-    gather-requires
-    same-length
-    returns-2)
+answer-spec = tie.close (tie.spec sub-answer answer-requires same-length returns)

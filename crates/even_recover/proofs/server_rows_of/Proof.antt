@@ -1,11 +1,11 @@
--- `reading_of` meets its contract: its powers are small.
+-- `server_rows_of` meets its contract: its powers are small.
 use native.Mathlib.Omega.{arith}
 use Rattle.parameters.specs.Measures.{evenRows}
 use Rattle.parameters.proofs.Bounds.{even-bounds}
 use Rattle.even_recover.proofs.Sized.{sized}
 use borrow.Author.Needs.{needs}
-use Rattle.even_recover.proofs.reading_of.Statement.{statement}
-use Rattle.even_recover.proofs.reading_of.Tie as tie
+use Rattle.even_recover.proofs.server_rows_of.Statement.{statement}
+use Rattle.even_recover.proofs.server_rows_of.Tie as tie
 
 sub-power : tie.Need-sub-power
 sub-power c = search needs
@@ -49,8 +49,8 @@ returns : tie.Need-returns
 unfolding evenRows
 returns c = rw (c .before .power .ensures, c .power2 .ensures)
 
-pub reading-of-spec : {M : Type 1} → statement M
-reading-of-spec =
+pub server-rows-of-spec : {M : Type 1} → statement M
+server-rows-of-spec =
     tie.close
     (tie.spec
     sub-power

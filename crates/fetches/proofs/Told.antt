@@ -1,0 +1,119 @@
+-- Issue and take say what the calls made before them call for (`all-told`): a fetch's session stays sound, so only its marks are left to ask, and these
+-- agree with the calls (`Kept`).
+use mathlib.Core.Path.{_≡_, refl, sym, _∙_}
+use mathlib.Core.Bool.{Bool, true, false, not}
+use mathlib.Core.List.{List, [], _∷_}
+use Prim.Native.Nat.{ℕ, _<_}
+use native.Mathlib.Omega.{arith}
+use borrow.Author.Tests.{leb-false}
+use lib.Dec.{leb, ltb, eqb}
+use lib.ListN.{length}
+use Rattle.lists.specs.Parts.{put}
+use Rattle.refusal.specs.declared.Verdict.the-variants.{Accepted}
+use Rattle.refusal.specs.Chain.{refuseIf}
+use Rattle.scheme.specs.Scheme.{Scheme, Valid}
+use Rattle.scheme.specs.Laws.{Laws}
+use Rattle.catalogue.specs.declared.Catalogue.{Catalogue}
+use Rattle.catalogue.specs.Catalogue.{Admitted}
+use Rattle.session.specs.declared.Session.{Session}
+use Rattle.session_parts.specs.Marks.{marked}
+use Rattle.session.specs.Calls.{queryOf, slotsOf, takeVerdict}
+use Rattle.session.proofs.Issue.{issue-by, issue-goes, issue-sound}
+use Rattle.session.proofs.Take.{take-goes, take-sound}
+use Rattle.session.proofs.Sound.{Sound}
+use Rattle.fetches.specs.Fetches.{Call, issuing, taking, recovering, Made, make, run}
+use Rattle.fetches.specs.Past.{Past, Throughout, end, step}
+use Rattle.fetches.specs.Told.{issueSays, takeSays, Told}
+use Rattle.fetches.proofs.Throughout.{from-state}
+use Rattle.fetches.proofs.Steps.{sessionOf, stateOf, Kept, kept-query, sound, next}
+
+-- a call is one of its kind
+module _ {A : Type 0} where
+  not-take : {server other : ℕ} {query answer own : List ℕ} → issuing server query answer ≡ taking other own → A
+  not-take {server} {other} {query} {answer} {own} e = absurd (let z : _≡_ {A = ℕ} 0 1 = cc in let w : ⊥ = omega arith in w)
+
+  not-issue : {server other : ℕ} {query answer own : List ℕ} → taking other own ≡ issuing server query answer → A
+  not-issue {server} {other} {query} {answer} {own} e = absurd (let z : _≡_ {A = ℕ} 0 1 = cc in let w : ⊥ = omega arith in w)
+
+  recover-no-issue : {server : ℕ} {query answer message : List ℕ} → recovering message ≡ issuing server query answer → A
+  recover-no-issue {server} {query} {answer} {message} e = absurd (let z : _≡_ {A = ℕ} 0 1 = cc in let w : ⊥ = omega arith in w)
+
+  recover-no-take : {server : ℕ} {answer message : List ℕ} → recovering message ≡ taking server answer → A
+  recover-no-take {server} {answer} {message} e = absurd (let z : _≡_ {A = ℕ} 0 1 = cc in let w : ⊥ = omega arith in w)
+
+same-issue : {server other : ℕ} {query answer query′ answer′ : List ℕ} → issuing server query answer ≡ issuing other query′ answer′
+    → (server ≡ other) × (query ≡ query′)
+same-issue {server} {other} {query} {answer} {query′} {answer′} e = (cc, cc)
+
+same-take : {server other : ℕ} {answer answer′ : List ℕ} → taking server answer ≡ taking other answer′ → (server ≡ other) × (answer ≡ answer′)
+same-take {server} {other} {answer} {answer′} e = (cc, cc)
+
+module _ (schemeOf : Catalogue → Scheme) (c : Catalogue) (admitted : Admitted c) (laws : Laws (c .servers) (c .messages) (schemeOf c))
+    (wanted : ℕ) (inside : wanted < c .messages) (key : List ℕ) (valid : Valid (schemeOf c) key) where
+  module _ (room : ℕ) (past : Past) (issued taken : List Bool) (answers : List ℕ) (k : Kept schemeOf c room past issued taken answers) where
+    abbrev s : Session
+    s = sessionOf c wanted key issued taken
+
+    good : Sound schemeOf s
+    good = sound schemeOf c admitted laws wanted inside key valid issued taken (k .marks)
+
+    abbrev made : Call → Made
+    made call = make schemeOf (stateOf c wanted key issued taken answers) call
+
+    issue-told : (server : ℕ) (query answer : List ℕ) → made (issuing server query answer) .verdict ≡ issueSays schemeOf c server (length query)
+    issue-told server query answer = issue-goes schemeOf s server query .says ∙ issue-sound schemeOf s server good (length query)
+
+    query-told : (server : ℕ) (query answer : List ℕ) → made (issuing server query answer) .verdict ≡ Accepted
+        → made (issuing server query answer) .left ≡ put 0 (schemeOf c .query wanted server key) query
+    query-told server query answer e =
+        rw (
+          issue-by schemeOf s server query Accepted (sym e ∙ issue-goes schemeOf s server query .says),
+          kept-query schemeOf c admitted laws wanted inside key valid issued taken server,
+        )
+
+    take-told : (server size : ℕ) → takeVerdict schemeOf s server size (length answers) ≡ takeSays schemeOf c wanted key room past server size
+    take-told server size = take-sound schemeOf s server good size (length answers) ∙ go (leb (c .servers) server) refl
+      where
+        go : (t : Bool) → leb (c .servers) server ≡ t
+            → refuseIf (leb (c .servers) server) 3
+            (refuseIf (ltb (length answers) (slotsOf schemeOf c)) 9
+            (refuseIf (not (eqb size (schemeOf c .answerLength (queryOf schemeOf s server)))) 10
+            (refuseIf (not (marked issued server)) 11 (refuseIf (marked taken server) 11 Accepted))))
+            ≡ takeSays schemeOf c wanted key room past server size
+        go true e = rw e
+        go false e =
+            let below = leb-false (c .servers) server e in
+            rw (
+              e,
+              k .room-kept,
+              kept-query schemeOf c admitted laws wanted inside key valid issued taken server,
+              k .agree-issued server below,
+              k .agree server below,
+            )
+
+    told : (call : Call) → Told schemeOf c wanted key room past (made call)
+    told (issuing server query answer) = record {
+      issues = λ other query′ answer′ e. let same = same-issue e in rw (← same .0, ← same .1) (issue-told server query answer);
+      queries = λ other query′ answer′ e v. let same = same-issue e in rw (← same .0, ← same .1) (query-told server query answer v);
+      takes = λ other own e. not-take e;
+    }
+    told (taking server answer) = record {
+      issues = λ other query answer′ e. not-issue e;
+      queries = λ other query answer′ e v. not-issue e;
+      takes = λ other answer′ e.
+          let same = same-take e in
+          rw (← same .0, ← same .1) (take-goes schemeOf s server answer answers .says ∙ take-told server (length answer));
+    }
+    told (recovering message) = record {
+      issues = λ other query answer e. recover-no-issue e;
+      queries = λ other query answer e v. recover-no-issue e;
+      takes = λ other answer e. recover-no-take e;
+    }
+
+  pub all-told : (calls : List Call) (room : ℕ) (past : Past) (issued taken : List Bool) (answers : List ℕ) → Kept schemeOf c room past issued taken answers
+      → Throughout (Told schemeOf c wanted key room) past (run schemeOf (stateOf c wanted key issued taken answers) calls)
+  all-told [] room past issued taken answers k = end
+  all-told (call ∷ calls) room past issued taken answers k =
+      let x = next schemeOf c admitted laws wanted inside key valid room past issued taken answers k call in
+      step (told room past issued taken answers k call)
+      (from-state schemeOf calls (x .is) (all-told calls room _ (x .issued) (x .taken) (x .answers) (x .kept)))
