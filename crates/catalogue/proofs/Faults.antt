@@ -1,7 +1,7 @@
 -- A catalogue's faults in front of a call's own: the catalogue's verdict decides, and else the chain of the others (`after-catalogue`), and the call
 -- is accepted exactly if the catalogue is and none of the others is there (`call-passed`, `call-accepted`).
 use mathlib.Core.Path.{_≡_, refl}
-use mathlib.Core.Bool.{Bool, true, not}
+use mathlib.Core.Bool.{true, not}
 use mathlib.Core.List.{List, _++_}
 use Rattle.lists.specs.Distinct.{stands}
 use Rattle.refusal.specs.declared.Verdict.{Verdict}

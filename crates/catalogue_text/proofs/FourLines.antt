@@ -1,4 +1,5 @@
--- The four lines of a catalogue: what is written reads back, whatever follows it, and what is read is a catalogue's text.
+-- The four lines of a catalogue: what is written reads back, whatever follows it (`four-lines-written`), and what is read is a catalogue's text
+-- (`four-lines-cases`).
 use mathlib.Core.Path.{_≡_, refl, ap, _∙_}
 use mathlib.Core.Bool.{Bool, true, false, cond}
 use mathlib.Core.List.{List, _++_, append-assoc}

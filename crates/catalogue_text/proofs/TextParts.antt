@@ -1,4 +1,4 @@
--- The lines of a catalogue's text: their lengths, and how they come to stand side by side in a buffer.
+-- The lines of a catalogue's text: their lengths (`text-length`), and how they come to stand side by side in a buffer (`put-four`).
 use mathlib.Core.Path.{_≡_, ap, _∙_}
 use mathlib.Core.List.{List, _++_, append-assoc}
 use Prim.Native.Nat.{ℕ, _+_, _≤_}
@@ -20,7 +20,8 @@ code-most Even = omega arith
 
 pub text-length : (c : Catalogue)
     → length (textOf c)
-    ≡ length (codeText (c .code)) + length (numberText serversName (c .servers)) + length (numberText messagesName (c .messages)) + length (numberText symbolName (c .symbol))
+    ≡ length (codeText (c .code)) + length (numberText serversName (c .servers))
+    + length (numberText messagesName (c .messages)) + length (numberText symbolName (c .symbol))
 unfolding textOf
 text-length c =
     let servers = numberText serversName (c .servers) in

@@ -10,4 +10,3 @@ pub mod Served
 pub mod Received
 pub mod Reached
 pub mod Closed
-pub mod Runs

@@ -43,7 +43,8 @@ module _ (text : List ℕ) where
           let admitted = none-accepted (catalogueFaults c) (accepted-none (readFaults text) (sym e) .1 .1) in
           ap (answerBy schemeOf c store query buffer)
           (sym (after-catalogue c _ refl Accepted _ (sym admitted) refl) ∙ after-first (readFaults text) _ refl refl Accepted _ e refl)
-      go (Refused refusal) e = ap (answerBy schemeOf c store query buffer) (after-first (readFaults text) _ refl refl (Refused refusal) (Refused refusal) e refl)
+      go (Refused refusal) e =
+          ap (answerBy schemeOf c store query buffer) (after-first (readFaults text) _ refl refl (Refused refusal) (Refused refusal) e refl)
 
   pub longest-foremost : longestAnswer text ≡ longestBy (foremost (readFaults text)) c
   unfolding longestAnswer readOf

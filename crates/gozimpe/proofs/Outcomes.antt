@@ -1,4 +1,5 @@
--- The outcome of a call from C by the verdict on the catalogue's text, and that every length it gives is small.
+-- The outcome of a call from C by the verdict on the catalogue's text (`text-refused`, `text-answered`, `longest-given`), and that every length it
+-- gives is small (`answer-small`).
 use mathlib.Core.Path.{_≡_, refl, sym, ap, _∙_}
 use mathlib.Core.List.{List}
 use Prim.Native.Nat.{ℕ, _^_, _<_}

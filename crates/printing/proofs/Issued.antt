@@ -8,15 +8,15 @@ use lib.ListN.{length}
 use Rattle.lists.specs.Parts.{put}
 use Rattle.refusal.specs.declared.Verdict.{Verdict}
 use Rattle.refusal.specs.declared.Verdict.the-variants.{Accepted}
-use Rattle.refusal.proofs.Chain.{both-accepted}
+use Rattle.refusal.proofs.Accepted.{first-accepted}
 use Rattle.scheme.specs.Scheme.{Scheme}
 use Rattle.catalogue.specs.declared.Catalogue.{Catalogue}
 use Rattle.session.specs.declared.Session.{Session}
 use Rattle.session.specs.declared.Handed.{Handed}
 use Rattle.session.specs.Fields.{newSession}
-use Rattle.session.specs.Calls.{queryOf, beginVerdict, begin, issue}
+use Rattle.session.specs.Calls.{queryOf, beginFaults, beginVerdict, begin, issue}
 use Rattle.session.proofs.Begin.{Begins, begin-passed, begin-says, begin-done, key-kept, new-sound}
-use Rattle.session.proofs.Issue.{issue-accepted, issue-done}
+use Rattle.session.proofs.Issue.{issue-accepted, issue-goes}
 use Rattle.printing.specs.Input.{Asked, inputAsks}
 use Rattle.printing.specs.Output.{askedVerdict, askedQuery, queryLines, linesBy, answerTo, outputBy, printed}
 
@@ -55,15 +55,15 @@ module _ (schemeOf : Catalogue → Scheme) where
         let accepted =
         issue-accepted schemeOf new server (length buffer)
         (record { sound = new-sound schemeOf (a .catalogue) (a .wanted) (a .key) b; below = below; roomy = roomy }) in
-        let did = issue-done schemeOf new server buffer Accepted (put 0 (queryOf schemeOf new server) buffer) (sym accepted) refl refl in (
+        let did = issue-goes schemeOf new server buffer .done Accepted (put 0 (queryOf schemeOf new server) buffer) (sym accepted) refl refl in (
           sym (ap (λ (h : Handed). h .verdict) (did .handed)),
           sym (did .buffer) ∙ ap (λ (q : List ℕ). put 0 q buffer) (new-query server),
         )
 
   pub printed-as-issued : (input : List ℕ) (a : Asked) → inputAsks input ≡ some a → askedVerdict schemeOf a ≡ Accepted → AsIssued input a
-  unfolding printed answerTo askedVerdict
+  unfolding printed answerTo askedVerdict beginVerdict
   printed-as-issued input a asks accepted =
-      let e = both-accepted (beginVerdict schemeOf (a .catalogue) (a .wanted) (a .key)) _ accepted .0 in
+      let e = first-accepted (beginFaults schemeOf (a .catalogue) (a .wanted) (a .key)) _ accepted .0 in
       record {
         output = ap (outputBy schemeOf) asks ∙ ap (λ (v : Verdict). linesBy schemeOf v a) accepted;
         begun = begin-says schemeOf (a .catalogue) (a .wanted) (a .key) ∙ e;

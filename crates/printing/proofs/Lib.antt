@@ -7,5 +7,4 @@ pub mod Room
 pub mod Issued
 pub mod RoundTrip
 pub mod InForm
-pub mod Faults
 pub mod Numbers

@@ -1,5 +1,4 @@
 pub mod Input
 pub mod Output
 pub mod Steps
-pub mod Faults
 pub mod Numbers

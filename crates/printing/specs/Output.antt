@@ -2,7 +2,7 @@
 -- query (01: request) in decimal, or one line with the number of the refusal.
 use Prim.Native.Nat.{ℕ}
 use mathlib.Core.Bool.{not}
-use mathlib.Core.List.{List, _++_, flatMap}
+use mathlib.Core.List.{List, [], _∷_, _++_, flatMap}
 use mathlib.Core.Option.{Option, none, some}
 use lib.ListN.{length, replicate}
 use Rattle.lists.specs.Ascii.{ascii}
@@ -10,14 +10,13 @@ use Rattle.lists.specs.Below.{allBelow}
 use Rattle.lists.specs.Padded.{padded}
 use Rattle.lists.specs.Ranges.{range}
 use Rattle.refusal.specs.declared.Refusal.{Refusal}
-use Rattle.refusal.specs.declared.Refusal.the-variants.{Text, KeyEntry}
 use Rattle.refusal.specs.declared.Verdict.{Verdict}
 use Rattle.refusal.specs.declared.Verdict.the-variants.{Accepted, Refused}
-use Rattle.refusal.specs.Chain.{refuseIf, andThen}
-use Rattle.refusal.specs.Numbers.{numberOf}
+use Rattle.refusal.specs.Numbers.{numberOf, refusalOf}
+use Rattle.refusal.specs.Foremost.{Fault, fault, foremost}
 use Rattle.scheme.specs.Scheme.{Scheme}
 use Rattle.catalogue.specs.declared.Catalogue.{Catalogue}
-use Rattle.session.specs.Calls.{beginVerdict}
+use Rattle.session.specs.Calls.{beginFaults}
 use Rattle.text_lines.specs.Decimal.{decimal}
 use Rattle.text_lines.specs.Lines.{numberText}
 use Rattle.printing.specs.declared.Page.{Page}
@@ -37,10 +36,12 @@ unfoldable pub refusalLine : Refusal → List ℕ
 refusalLine refusal = numberText (ascii "refused=") (numberOf refusal)
 
 module _ (schemeOf : Catalogue → Scheme) where
-  -- refusals 2, 4, 5 and 6 as at begin; a number above 255 is no key's either, 6
+  -- as at begin; a number above 255 is no key's either
+  abbrev pub askedFaults : Asked → List Fault
+  askedFaults a = beginFaults schemeOf (a .catalogue) (a .wanted) (a .key) ++ (fault 6 (not (allBelow 256 (a .key))) ∷ [])
+
   unfoldable pub askedVerdict : Asked → Verdict
-  askedVerdict a =
-      andThen (beginVerdict schemeOf (a .catalogue) (a .wanted) (a .key)) (refuseIf (not (allBelow 256 (a .key))) KeyEntry Accepted)
+  askedVerdict a = foremost (askedFaults a)
 
   -- the query that is asked for at a server
   abbrev pub askedQuery : Asked → ℕ → List ℕ
@@ -58,7 +59,7 @@ module _ (schemeOf : Catalogue → Scheme) where
   answerTo a = linesBy (askedVerdict a) a
 
   abbrev pub outputBy : Option Asked → List ℕ
-  outputBy none = refusalLine Text
+  outputBy none = refusalLine (refusalOf 1)
   outputBy (some a) = answerTo a
 
   -- the whole output for an input

@@ -2,29 +2,29 @@
 -- or a query.
 use Prim.Native.Nat.{ℕ}
 use mathlib.Core.Bool.{Bool, not}
-use mathlib.Core.List.{List}
+use mathlib.Core.List.{List, [], _∷_, _++_}
 use lib.Dec.{leb, eqb}
 use lib.ListN.{replicate}
-use Rattle.refusal.specs.declared.Refusal.the-variants.{Wanted, KeyLength, KeyEntry}
 use Rattle.refusal.specs.declared.Verdict.{Verdict}
 use Rattle.refusal.specs.declared.Verdict.the-variants.{Accepted, Refused}
 use Rattle.refusal.specs.declared.Outcome.{Outcome}
 use Rattle.refusal.specs.declared.Outcome.the-variants.{Value, Refused as NoValue}
-use Rattle.refusal.specs.Chain.{refuseIf, andThen}
+use Rattle.refusal.specs.Foremost.{Fault, fault, foremost}
 use Rattle.parameters.specs.Measures.{keyPlaces}
 use Rattle.scheme.specs.Scheme.{Scheme}
 use Rattle.catalogue.specs.declared.Catalogue.{Catalogue}
-use Rattle.catalogue.specs.Catalogue.{catalogueVerdict}
+use Rattle.catalogue.specs.Catalogue.{catalogueFaults}
 
--- keyVerdict messages wanted due count bytes: refusals 4, 5, and 6 for a number above 255
-abbrev pub keyVerdict : ℕ → ℕ → ℕ → ℕ → Bool → Verdict
-keyVerdict messages wanted due count bytes =
-    refuseIf (leb messages wanted) Wanted (refuseIf (not (eqb count due)) KeyLength (refuseIf (not bytes) KeyEntry Accepted))
+-- keyFaults messages wanted due count bytes; a number above 255 is no key's
+abbrev pub keyFaults : ℕ → ℕ → ℕ → ℕ → Bool → List Fault
+keyFaults messages wanted due count bytes = fault 4 (leb messages wanted) ∷ fault 5 (not (eqb count due)) ∷ fault 6 (not bytes) ∷ []
 
 module _ (schemeOf : Catalogue → Scheme) where
-  -- refusal 2 before them
+  abbrev pub checkFaults : Catalogue → ℕ → ℕ → Bool → List Fault
+  checkFaults c wanted count bytes = catalogueFaults c ++ keyFaults (c .messages) wanted (schemeOf c .sizes .key) count bytes
+
   unfoldable pub checkVerdict : Catalogue → ℕ → ℕ → Bool → Verdict
-  checkVerdict c wanted count bytes = andThen (catalogueVerdict c) (keyVerdict (c .messages) wanted (schemeOf c .sizes .key) count bytes)
+  checkVerdict c wanted count bytes = foremost (checkFaults c wanted count bytes)
 
 abbrev pub valueBy : Verdict → ℕ → Outcome
 valueBy Accepted value = Value value

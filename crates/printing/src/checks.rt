@@ -5,10 +5,11 @@ use number_lists::Scanned;
 use refusal::Outcome;
 use refusal::Refusal;
 ghost use mathlib.Core.Path.{_≡_};
+ghost use Rattle.refusal.specs.Chain.{chain};
 ghost use Rattle.codes.specs.Codes.{schemeOf};
 ghost use Rattle.number_lists.specs.NumberLists.{scanOf};
 ghost use Rattle.printing.specs.Input.{keyLine};
-ghost use Rattle.printing.specs.Steps.{keyVerdict, checkVerdict, valueBy};
+ghost use Rattle.printing.specs.Steps.{keyFaults, checkVerdict, valueBy};
 
 // What the key's line at place `at` says, which is the last.
 pub fn scan_key(text: &[u8], at: usize) -> Scanned
@@ -23,7 +24,7 @@ pub fn scan_key(text: &[u8], at: usize) -> Scanned
     number_lists::scan(text, at + 4)
 }
 
-// Whether the wanted message is there, and the key is due that has so many numbers, all bytes or not: refused 4, 5 or 6.
+// Whether the wanted message is there, and the key is due that has so many numbers, all bytes or not.
 // If so, the query's length.
 fn check_key(
     messages: usize,
@@ -33,7 +34,7 @@ fn check_key(
     bytes: bool,
     query: usize,
 ) -> Outcome
-    ensures { λ r. ⌜ r ≡ valueBy (keyVerdict messages wanted due count bytes) query ⌝ }
+    ensures { λ r. ⌜ r ≡ valueBy (chain (keyFaults messages wanted due count bytes)) query ⌝ }
 {
     if messages <= wanted {
         return Outcome::Refused(Refusal::Wanted);
@@ -47,7 +48,7 @@ fn check_key(
     Outcome::Value(query)
 }
 
-// What can be said of an input without the key's entries: refused 2, 4, 5 or 6, or the length of a query.
+// What can be said of an input without the key's entries: a refusal, or the length of a query.
 pub fn check(c: Catalogue, wanted: usize, count: usize, bytes: bool) -> Outcome
     ensures { λ r. ⌜ r ≡ valueBy (checkVerdict schemeOf c wanted count bytes) (schemeOf c .sizes .query) ⌝ }
 {

@@ -108,7 +108,7 @@ fn put_queries(c: Catalogue, wanted: usize, key: &[u8], size: usize, out: &mut [
     at
 }
 
-// Writes the output for a key of bytes that has the right length: refused 6, or the queries.
+// Writes the output for a key of bytes that has the right length: a refusal of its entries, or the queries.
 fn put_keyed(c: Catalogue, wanted: usize, key: &[u8], size: usize, out: &mut [u8]) -> usize
     requires { ⌜ (Admitted c) × (wanted < c .messages) ⌝ }
     requires { ⌜ (length (now key) ≡ schemeOf c .sizes .key) × (allBelow 256 (now key) ≡ true) ⌝ }
@@ -143,7 +143,7 @@ fn put_checked(
     put_keyed(c, wanted, &places[..count], size, out)
 }
 
-// Writes the output for what is asked for, where the key's numbers are at place `at` of the text: refused 2, 4, 5 or 6, or the queries.
+// Writes the output for what is asked for, where the key's numbers are at place `at` of the text: a refusal, or the queries.
 fn put_asked(
     c: Catalogue,
     wanted: usize,

@@ -1,9 +1,9 @@
 -- Number and refusal turn into each other (`refusal-kept`, `number-kept`), and among the numbers 1 to 12 the rank goes by the number
 -- (`rank-by-number`), which is document 01's rule of the smallest number. Each is one computed test over the table.
 use Prim.Native.Nat.{ℕ, _≤_}
-use mathlib.Core.Path.{_≡_, refl, sym, ap, _∙_}
-use mathlib.Core.Bool.{Bool, true, false, cond, _&&_}
-use mathlib.Core.List.{List, [], _∷_, map}
+use mathlib.Core.Path.{_≡_, refl, ap}
+use mathlib.Core.Bool.{Bool, true, cond, _&&_}
+use mathlib.Core.List.{List, map}
 use lib.Dec.{leb}
 use lib.ListN.{getD}
 use borrow.Author.Tests.{le-leb}

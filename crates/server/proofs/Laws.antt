@@ -1,4 +1,5 @@
--- Laws of answering: refused it changes nothing, done it writes the answer and returns its length, and what an accepted verdict says.
+-- Laws of answering: refused it changes nothing (`answer-refused`), done it writes the answer and returns its length (`answer-done`), what an
+-- accepted verdict says (`answer-passed`), and the bytes that are written (`writes-answer`, `writes-only`).
 use mathlib.Core.Path.{_≡_, refl, sym, ap}
 use mathlib.Core.Bool.{true, not}
 use mathlib.Core.List.{List}

@@ -1,4 +1,5 @@
--- When each number of answering is given: the faults before it are not there, and its own is.
+-- When each number of answering is given: the faults before it are not there, and its own is (`server-refused`, `query-refused`, `store-refused`,
+-- `room-refused`).
 use mathlib.Core.Path.{_≡_, refl, sym}
 use mathlib.Core.Bool.{true, false}
 use mathlib.Core.List.{List}

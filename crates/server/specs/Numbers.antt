@@ -1,4 +1,5 @@
--- The numbers that answering can give (document 01, 'Numbers a call can give'): only those about its own inputs, for every input.
+-- The numbers that answering can give (document 01, 'Numbers a call can give'): only those about its own inputs, for every input. `answer-numbers`
+-- shows it.
 use mathlib.Core.List.{List, [], _∷_, _++_}
 use Prim.Native.Nat.{ℕ}
 use Rattle.refusal.specs.Within.{ValueWithin}

@@ -1,4 +1,5 @@
--- Laws of begin: refused it hands back zeros, done the new session, whose used places are the key; and what an accepted verdict says.
+-- Laws of begin: refused it hands back zeros (`begin-zeros`), done the new session (`begin-done`), whose used places are the key (`key-kept`); and
+-- what an accepted verdict says (`begin-passed`, `begin-accepted`).
 use mathlib.Core.Path.{_≡_, refl, sym, ap, _∙_}
 use mathlib.Core.Bool.{not}
 use mathlib.Core.List.{List}

@@ -1,4 +1,5 @@
--- Laws of the bound on the bytes that a fetch receives: N slots of an admitted catalogue, refused as the catalogue is.
+-- Laws of the bound on the bytes that a fetch receives: N slots of an admitted catalogue (`bound-done`), refused as the catalogue is
+-- (`bound-refused`).
 use mathlib.Core.Path.{_≡_}
 use Rattle.refusal.specs.declared.Refusal.{Refusal}
 use Rattle.refusal.specs.declared.Verdict.{Verdict}

@@ -1,7 +1,5 @@
 -- Each call of a session gives only its own numbers (`call-numbers`): its verdict is the foremost of its faults, and each has one of them.
 use mathlib.Core.Path.{refl}
-use mathlib.Core.List.{List}
-use Prim.Native.Nat.{ℕ}
 use lib.ListN.{length}
 use Rattle.lists.specs.Distinct.{stands}
 use Rattle.refusal.specs.Within.{ValueWithin}

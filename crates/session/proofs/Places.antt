@@ -1,4 +1,4 @@
--- A session's key has as many places as its type says.
+-- A session's key has as many places as its type says: `key-places`.
 use mathlib.Core.Path.{_≡_}
 use mathlib.Core.List.{List}
 use borrow.Author.Needs.{needs}

@@ -1,16 +1,12 @@
--- What the promises of the codes give the calls of a session: the sizes of an admitted catalogue are small, the key that a session keeps is valid where
--- it is good, its queries have their length, and an answer that can be taken fits its slot.
+-- What the promises of the codes give the calls of a session: the sizes of an admitted catalogue are small (`sizes-small`), the key that a session
+-- keeps is valid where it is good (`key-valid`), and an answer that can be taken fits its slot (`slot-holds`).
 use mathlib.Core.Path.{_≡_, refl, ap, _∙_}
 use mathlib.Core.Bool.{true}
-use mathlib.Core.List.{List}
 use Prim.Native.Nat.{ℕ, _+_, _*_, _≤_, _<_}
 use native.Mathlib.Omega.{arith}
 use lib.ListN.{length, take}
 use lib.Seq.{length-take-le}
-use Rattle.lists.specs.Parts.{put}
-use Rattle.lists.proofs.Puts.{put-length}
 use Rattle.lists.proofs.Cuts.{slot-end}
-use Rattle.lists.proofs.ReadBack.{cut-put}
 use Rattle.parameters.specs.declared.Sizes.{Sizes}
 use Rattle.parameters.specs.Measures.{keyPlaces}
 use Rattle.scheme.specs.Scheme.{Valid}

@@ -1,5 +1,5 @@
--- The slots of the answer buffer: a take writes its server's slot and no other, an empty answer writes nothing, and recovery reads of each slot only
--- the answer that the session calls for there.
+-- The slots of the answer buffer: a take writes its server's slot and no other (`take-reads`, `take-others`), an empty answer writes nothing
+-- (`take-empty`), and recovery reads of each slot only the answer that the session calls for there (`recover-reads`).
 use mathlib.Core.Path.{_≡_, refl, ap}
 use mathlib.Core.Bool.{Bool, true, false}
 use mathlib.Core.List.{List, []}

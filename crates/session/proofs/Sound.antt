@@ -1,4 +1,4 @@
--- A session whose fields pass every check that a call makes of them.
+-- A session whose fields pass every check that a call makes of them: `Sound`.
 use mathlib.Core.Path.{_≡_}
 use mathlib.Core.Bool.{true}
 use Prim.Native.Nat.{_<_}

@@ -1,4 +1,5 @@
 -- The numbers that each call of a session can give (document 01, 'Numbers a call can give'): only those about its own inputs, for every input.
+-- `call-numbers` shows it.
 use mathlib.Core.List.{List, [], _∷_, _++_}
 use Prim.Native.Nat.{ℕ}
 use Rattle.refusal.specs.Within.{Within, ValueWithin}

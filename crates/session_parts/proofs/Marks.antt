@@ -1,4 +1,5 @@
--- Marks that some history of calls gives: none at first, and one more at an issue or a take keeps them so.
+-- Marks that some history of calls gives: none at first (`marks-none`), and one more at an issue or a take keeps them so (`marks-issue`,
+-- `marks-take`).
 use mathlib.Core.Path.{_≡_, refl, _∙_}
 use mathlib.Core.Bool.{Bool, true, false}
 use mathlib.Core.List.{List}

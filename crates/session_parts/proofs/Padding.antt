@@ -1,4 +1,4 @@
--- The places of a session's key: what a copy of the key into zeros leaves there.
+-- The places of a session's key: what a copy of the key into zeros leaves there (`padded-copy`).
 use mathlib.Core.Path.{_≡_, ap, ap₂, _∙_}
 use mathlib.Core.List.{List, _++_}
 use Prim.Native.Nat.{ℕ, _-_, _≤_}

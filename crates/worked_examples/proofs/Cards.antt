@@ -1,10 +1,11 @@
--- Every card of the table holds: one theorem, which computes from the definitions that the contracts cite.
+-- Every card of the table holds (`cards-hold`): one theorem, which computes from the definitions that the contracts cite.
 use mathlib.Core.Path.{refl}
 use mathlib.Core.List.{flatMap}
 use Rattle.lists.specs.Below.{allBelow}
 use Rattle.lists.specs.Distinct.{distinct, isPermutation, stands}
 use Rattle.lists.specs.Ranges.{range, every}
 use Rattle.lists.specs.Sums.{All, allNil, allCons}
+use Rattle.refusal.specs.Foremost.{foremost}
 use Rattle.parameters.specs.Bounds.{shortFits, evenFits}
 use Rattle.parameters.specs.Measures.{shortSizes, evenRows, evenSizes}
 use Rattle.symbol.specs.Sum.{totalFrom, total}
@@ -27,6 +28,14 @@ use Rattle.printing.specs.Output.{queryLine, refusalLine, askedVerdict, queryLi
 use Rattle.worked_examples.specs.Cards.{Holds, cards}
 
 pub cards-hold : All Holds cards
-unfolding Holds cards flatMap allBelow distinct isPermutation stands range every shortFits evenFits shortSizes evenRows evenSizes totalFrom total xorBytes honestAnswers catalogueVerdict decimalIn decimal digitCount valueFrom begins isNumeral numberAt numberLine codeLine fourLines digitSum shortQuery shortAdmits shortAnswerLength named shortAnswer orZeros recovered shortRecover queryCells sets layout permutation entryAt evenKeyGood evenQuery schemeOf answerVerdict answering beginVerdict afterSpaces spaced numeralFrom numbersFrom numbersAt keyLine linesAsk inputAsks queryLine refusalLine askedVerdict queryLines answerTo printed
+unfolding Holds cards flatMap allBelow distinct isPermutation stands range every
+    foremost shortFits evenFits shortSizes evenRows evenSizes totalFrom total xorBytes honestAnswers catalogueVerdict
+    decimalIn decimal digitCount valueFrom begins isNumeral numberAt numberLine codeLine fourLines
+    digitSum shortQuery shortAdmits shortAnswerLength named shortAnswer orZeros recovered shortRecover
+    queryCells sets layout permutation entryAt evenKeyGood evenQuery schemeOf answerVerdict answering beginVerdict
+    afterSpaces spaced numeralFrom numbersFrom numbersAt keyLine linesAsk inputAsks
+    queryLine refusalLine askedVerdict queryLines answerTo printed
 cards-hold =
-    allCons refl (allCons refl (allCons refl (allCons refl (allCons refl (allCons refl (allCons refl (allCons refl (allCons refl (allCons refl (allCons refl (allCons refl (allCons refl (allCons refl (allCons refl (allCons refl (allCons refl allNil))))))))))))))))
+    allCons refl (allCons refl (allCons refl (allCons refl (allCons refl (allCons refl (allCons refl (allCons refl
+    (allCons refl (allCons refl (allCons refl (allCons refl (allCons refl (allCons refl (allCons refl (allCons refl
+    (allCons refl allNil))))))))))))))))

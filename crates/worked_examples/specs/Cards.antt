@@ -1,17 +1,18 @@
--- The bench cards B1 to B12 of document 01, as one table: what each says of the published rules, and the bytes and numbers that it prints.
+-- The bench cards B1 to B12 of document 01, as one table (`cards`): what each says of the published rules, and the bytes and numbers that it
+-- prints.
 use mathlib.Core.Path.{_≡_}
 use mathlib.Core.List.{List, [], _∷_, _++_, map}
 use Prim.Native.Nat.{ℕ}
 use lib.ListN.{length}
 use Rattle.lists.specs.Ascii.{ascii}
 use Rattle.lists.specs.Ranges.{range}
-use Rattle.refusal.specs.declared.Refusal.the-variants.{Bounds, KeyEntry, Query}
 use Rattle.refusal.specs.declared.Verdict.{Verdict}
-use Rattle.refusal.specs.declared.Verdict.the-variants.{Accepted, Refused}
+use Rattle.refusal.specs.declared.Verdict.the-variants.{Accepted}
 use Rattle.refusal.specs.declared.Outcome.{Outcome}
 use Rattle.refusal.specs.declared.Outcome.the-variants.{Value, Refused as NoValue}
+use Rattle.refusal.specs.Numbers.{refusalOf}
+use Rattle.refusal.specs.Chain.{refused}
 use Rattle.parameters.specs.Measures.{evenRows}
-use Rattle.symbol.specs.Sum.{zeros}
 use Rattle.scheme.specs.Scheme.{honestAnswers}
 use Rattle.catalogue.specs.declared.Catalogue.{Catalogue}
 use Rattle.catalogue.specs.declared.Code.{Code}
@@ -39,12 +40,17 @@ pub data Card : Type 0 where
   -- the verdict on a begin
   begins : Catalogue → ℕ → List ℕ → Verdict → Card
 
+-- the buffer of an answer: no byte of it is 0, so that a byte which is written shows
+abbrev pub lent : List ℕ
+lent = 201 ∷ 202 ∷ 203 ∷ 204 ∷ []
+
 unfoldable pub Holds : Card → Type 0
 Holds (prints input output) = printed schemeOf input ≡ output
 Holds (asks c wanted key queries) = map (λ server. schemeOf c .query wanted server key) (range 0 (c .servers)) ≡ queries
 Holds (recovers c store wanted key got message) =
-    let honest = honestAnswers (schemeOf c) (c .servers) store wanted key in honest ++ (schemeOf c .recover wanted key honest ∷ []) ≡ got ++ (message ∷ [])
-Holds (answers c server store query outcome) = answering schemeOf c server store query (zeros 4) ≡ record { outcome = outcome; buffer = zeros 4 }
+    let honest = honestAnswers (schemeOf c) (c .servers) store wanted key in
+    honest ++ (schemeOf c .recover wanted key honest ∷ []) ≡ got ++ (message ∷ [])
+Holds (answers c server store query outcome) = answering schemeOf c server store query lent ≡ record { outcome = outcome; buffer = lent }
 Holds (rows N K many) = evenRows N K ∷ length (layout N K) ∷ [] ≡ many ∷ many ∷ []
 Holds (judges c verdict) = catalogueVerdict c ≡ verdict
 Holds (begins c wanted key verdict) = beginVerdict schemeOf c wanted key ≡ verdict
@@ -56,6 +62,10 @@ cat code N K S = record { code = code; servers = N; messages = K; symbol = S }
 -- the messages 5A and C3 (hex) of B2 and B3
 abbrev pair : List ℕ
 pair = 90 ∷ 195 ∷ []
+
+-- a store of three messages of eight bytes, none of them 0, since B4 to B6 name none
+abbrev pub filled : List ℕ
+filled = range 1 24
 
 -- both permutations 0 1 2 3
 abbrev plain : List ℕ
@@ -72,10 +82,10 @@ cards =
     -- B3
     ∷ asks (cat Short 2 2 1) 0 (0 ∷ []) ((0 ∷ 0 ∷ []) ∷ (1 ∷ 0 ∷ []) ∷ [])
     ∷ recovers (cat Short 2 2 1) pair 0 (0 ∷ []) ([] ∷ (90 ∷ []) ∷ []) (90 ∷ [])
-    -- B4, B5, B6: a store of 24 bytes, since the cards name none
-    ∷ answers (cat Short 3 3 4) 0 (zeros 24) (0 ∷ 0 ∷ 1 ∷ []) (NoValue Query)
-    ∷ answers (cat Short 3 3 4) 0 (zeros 24) (0 ∷ 1 ∷ 3 ∷ []) (NoValue Query)
-    ∷ answers (cat Short 3 3 4) 0 (zeros 24) (0 ∷ 0 ∷ 0 ∷ []) (Value 0)
+    -- B4, B5, B6
+    ∷ answers (cat Short 3 3 4) 0 filled (0 ∷ 0 ∷ 1 ∷ []) (NoValue (refusalOf 7))
+    ∷ answers (cat Short 3 3 4) 0 filled (0 ∷ 1 ∷ 3 ∷ []) (NoValue (refusalOf 7))
+    ∷ answers (cat Short 3 3 4) 0 filled (0 ∷ 0 ∷ 0 ∷ []) (Value 0)
     -- B7
     ∷ asks (cat Even 2 2 1) 0 plain ((0 ∷ 0 ∷ 2 ∷ 1 ∷ []) ∷ (1 ∷ 1 ∷ 3 ∷ 0 ∷ []) ∷ [])
     -- B8
@@ -86,9 +96,9 @@ cards =
     ∷ rows 16 2 17
     -- B10
     ∷ judges (cat Even 2 8 1) Accepted
-    ∷ judges (cat Even 2 9 1) (Refused Bounds)
+    ∷ judges (cat Even 2 9 1) (refused 2)
     -- B11
     ∷ asks (cat Short 2 1 1) 0 [] ((0 ∷ []) ∷ (1 ∷ []) ∷ [])
     -- B12
-    ∷ begins (cat Even 2 1 1) 0 (0 ∷ 0 ∷ []) (Refused KeyEntry)
+    ∷ begins (cat Even 2 1 1) 0 (0 ∷ 0 ∷ []) (refused 6)
     ∷ []

@@ -23,11 +23,15 @@ starts-requires-2 c κs = search needs
 
 returns-2 : tie.Need-returns-2
 unfolding codeLine
-returns-2 c = simp (sym (c .before .before .before .before .starts .ensures) ∙ c .before .before .before .if1 .left, sym (c .before .starts2 .ensures) ∙ c .if2 .taken)
+returns-2 c =
+    let first = c .before .before .before in
+    simp (sym (first .before .starts .ensures) ∙ first .if1 .left, sym (c .before .starts2 .ensures) ∙ c .if2 .taken)
 
 returns-3 : tie.Need-returns-3
 unfolding codeLine
-returns-3 c = simp (sym (c .before .before .before .before .starts .ensures) ∙ c .before .before .before .if1 .left, sym (c .before .starts2 .ensures) ∙ c .if2 .left)
+returns-3 c =
+    let first = c .before .before .before in
+    simp (sym (first .before .starts .ensures) ∙ first .if1 .left, sym (c .before .starts2 .ensures) ∙ c .if2 .left)
 
 pub code-line-spec : {M : Type 1} → statement M
 code-line-spec =

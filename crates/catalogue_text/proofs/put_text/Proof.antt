@@ -67,9 +67,10 @@ unfolding textOf
 returns c =
     let fourth = c .before .before .put-line3 in
     let third = c .before .before .before .before .before .before .before .put-line2 in
-    let second = c .before .before .before .before .before .before .before .before .before .before .before .before .put-line in
-    let first = c .before .before .before .before .before .before .before .before .before .before .before .before .before .before .before .before .before .put-code in
-    let from = c .before .before .before .before .before .before .before .before .before .before .before .before .before .before .before .before .before .before .before .before in
+    let at-second = c .before .before .before .before .before .before .before .before .before .before .before .before in
+    let second = at-second .put-line in
+    let first = at-second .before .before .before .before .before .put-code in
+    let from = at-second .before .before .before .before .before .before .before .before in
     let value = from .args .c in
     let t = text-length value in
     let e = first .ensures .0 in

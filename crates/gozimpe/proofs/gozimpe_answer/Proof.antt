@@ -21,7 +21,8 @@ returns c =
     let a = c .before .before .before .before .before .before .before .before .before .before .args in
     let from = c .before .before .before .before .before .read in
     let told = c .before .before .verdict .given in
-    let did = text-refused (a .catalogue .now) (from .result) (from .ensures) (a .mirror) (a .store .now) (a .request .now) (a .answer .now) (told .0 .0) (told .1) in
+    let did = text-refused (a .catalogue .now) (from .result) (from .ensures) (a .mirror) (a .store .now) (a .request .now) (a .answer .now)
+    (told .0 .0) (told .1) in
     (toZ-ofZ (record { sfits = c .minus .ok }) ∙ c .minus .ensures ∙ ap signed (did .outcome), did .buffer)
 
 enum-told : tie.Need-enum-told

@@ -17,7 +17,8 @@ returns : tie.Need-returns
 returns c =
     let a = c .before .before .before .before .before .before .before .args in
     let asked = c .before .before .before .verdict in
-    answer-refused schemeOf (a .c) (a .server) (a .store .now) (a .query .now) (a .out .now) (asked .result) (c .before .refusal .given .0 .0) (asked .ensures) (c .before .refusal .given .1)
+    let told = c .before .refusal .given in
+    answer-refused schemeOf (a .c) (a .server) (a .store .now) (a .query .now) (a .out .now) (asked .result) (told .0 .0) (asked .ensures) (told .1)
 
 enum-told : tie.Need-enum-told
 enum-told c = search needs
@@ -46,8 +47,8 @@ returns-2 c =
     let a = c .before .before .before .before .before .before .before .before .before .before .before .args in
     let told = c .before .before .before .before .before in
     let asked = told .before .before .verdict in
-    answer-done schemeOf (a .c) (a .server) (a .store .now) (a .query .now) (a .out .now) (asked .result) (c .answer-length .result) _ (asked .ensures) (told .enum-told .given .1)
-    (c .answer-length .ensures) (c .before .before .before .answer .ensures)
+    answer-done schemeOf (a .c) (a .server) (a .store .now) (a .query .now) (a .out .now) (asked .result) (c .answer-length .result) _
+    (asked .ensures) (told .enum-told .given .1) (c .answer-length .ensures) (c .before .before .before .answer .ensures)
 
 pub answer-spec : {M : Type 1} → statement M
 answer-spec =

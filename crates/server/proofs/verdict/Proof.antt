@@ -30,8 +30,10 @@ returns : tie.Need-returns
 unfolding answerVerdict
 returns c =
     let from = c .before .before .before in
-    let refused = unmeasured (from .before .before .args .c) (from .sizes .result) (c .before .enum-told .given .0 .0) (from .sizes .ensures) (c .before .enum-told .given .1) in
-    after-catalogue (from .before .before .args .c) _ refl (c .verdict .result) _ (c .verdict .ensures) (rw (c .verdict .ensures, refused))
+    let value = from .before .before .args .c in
+    let told = c .before .enum-told .given in
+    let refused = unmeasured value (from .sizes .result) (told .0 .0) (from .sizes .ensures) (told .1) in
+    after-catalogue value _ refl (c .verdict .result) _ (c .verdict .ensures) (rw (c .verdict .ensures, refused))
 
 -- once the sizes are there: the catalogue is admitted, and they are its scheme's
 admitted : (c : tie.After-sizes2) → Admitted (c .before .before .before .before .args .c)
@@ -42,7 +44,8 @@ admitted c =
 store-size : (c : tie.After-sizes2) → c .sizes2 .given .0 .0 .store ≡ schemeOf (c .before .before .before .before .args .c) .sizes .store
 store-size c =
     let from = c .before .before in
-    ap (λ (s : Sizes). s .store) (measured (from .before .before .args .c) (from .sizes .result) (c .sizes2 .given .0 .0) (from .sizes .ensures) (c .sizes2 .given .1) .1)
+    let told = c .sizes2 .given in
+    ap (λ (s : Sizes). s .store) (measured (from .before .before .args .c) (from .sizes .result) (told .0 .0) (from .sizes .ensures) (told .1) .1)
 
 returns-2 : tie.Need-returns-2
 returns-2 c =

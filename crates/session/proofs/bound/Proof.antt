@@ -37,7 +37,8 @@ mul-t5 c =
     let told = sized .before in
     let asked = told .before .before in
     let start = asked .before in
-    omega (arith, sizes-small (start .args .catalogue) (sized .sizes-of .result) (sym (asked .verdict .ensures) ∙ told .enum-told .given .1) (sized .sizes-of .ensures) .slots)
+    let admitted = sym (asked .verdict .ensures) ∙ told .enum-told .given .1 in
+    omega (arith, sizes-small (start .args .catalogue) (sized .sizes-of .result) admitted (sized .sizes-of .ensures) .slots)
 
 returns-2 : tie.Need-returns-2
 returns-2 c =

@@ -54,7 +54,9 @@ returns c =
     let s = args .s in
     let code = codeOf schemeOf s in
     written .recover .ensures
-    ∙ ap (λ (sizes : Sizes). put 0 (recoverIn code (s .catalogue .servers) (s .wanted) (take (sizes .key) (s .key)) (args .answers .now)) (args .message .now)) (sized .sizes-of .ensures)
+    ∙ ap
+    (λ (sizes : Sizes). put 0 (recoverIn code (s .catalogue .servers) (s .wanted) (take (sizes .key) (s .key)) (args .answers .now)) (args .message .now))
+    (sized .sizes-of .ensures)
 
 pub write-message-spec : {M : Type 1} → statement M
 write-message-spec =

@@ -58,7 +58,8 @@ returns-2 c =
     let args = start .args in
     let v = asked .issue-verdict in
     rw (c .mark-issued .ensures)
-    (issue-goes schemeOf (args .self) (args .server) (args .query .now) .done (v .result) _ (v .ensures) (told .enum-told2 .given .1) (written .write-query .ensures))
+    (issue-goes schemeOf (args .self) (args .server) (args .query .now) .done (v .result) _ (v .ensures) (told .enum-told2 .given .1)
+    (written .write-query .ensures))
 
 pub issue-spec : {M : Type 1} → statement M
 issue-spec =

@@ -45,7 +45,8 @@ returns-2 c =
     let start = asked .before .before .before in
     let args = start .args in
     let v = asked .recover-verdict in
-    recover-goes schemeOf (args .self) (args .answers .now) (args .message .now) .done (v .result) _ (v .ensures) (told .enum-told2 .given .1) (written .write-message .ensures)
+    recover-goes schemeOf (args .self) (args .answers .now) (args .message .now) .done (v .result) _ (v .ensures) (told .enum-told2 .given .1)
+    (written .write-message .ensures)
 
 pub recover-spec : {M : Type 1} → statement M
 recover-spec =

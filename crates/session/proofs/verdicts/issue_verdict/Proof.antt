@@ -21,7 +21,8 @@ returns : tie.Need-returns
 unfolding issueVerdict
 returns c =
     let asked = c .before .before .before in
-    after-first (serverFaults schemeOf (asked .before .args .s) (asked .before .args .server)) _ refl refl _ _ (asked .server-verdict .ensures) (rw (c .before .refusal .given .1))
+    let args = asked .before .args in
+    after-first (serverFaults schemeOf (args .s) (args .server)) _ refl refl _ _ (asked .server-verdict .ensures) (rw (c .before .refusal .given .1))
 
 enum-told : tie.Need-enum-told
 enum-told c = search needs

@@ -42,7 +42,8 @@ sizes-of-requires c κs = admitted c
 mul-if1 : tie.Need-mul-if1
 mul-if1 c =
     let sized = c .before .before in
-    omega (arith, sizes-small (sized .before .before .before .before .args .s .catalogue) (sized .sizes-of .result) (admitted (sized .before)) (sized .sizes-of .ensures) .slots)
+    let s = sized .before .before .before .before .args .s in
+    omega (arith, sizes-small (s .catalogue) (sized .sizes-of .result) (admitted (sized .before)) (sized .sizes-of .ensures) .slots)
 
 returns-2 : tie.Need-returns-2
 unfolding recoverVerdict
@@ -61,7 +62,8 @@ returns-3 c =
 missing-verdict-requires : tie.Need-missing-verdict-requires
 missing-verdict-requires c κs =
     let sized = c .before .before .before .before .before in
-    omega (arith, sizes-small (sized .before .before .before .before .args .s .catalogue) (sized .sizes-of .result) (admitted (sized .before)) (sized .sizes-of .ensures) .servers)
+    let s = sized .before .before .before .before .args .s in
+    omega (arith, sizes-small (s .catalogue) (sized .sizes-of .result) (admitted (sized .before)) (sized .sizes-of .ensures) .servers)
 
 returns-4 : tie.Need-returns-4
 unfolding recoverVerdict

@@ -23,7 +23,8 @@ returns : tie.Need-returns
 unfolding takeVerdict
 returns c =
     let asked = c .before .before .before in
-    after-first (serverFaults schemeOf (asked .before .args .s) (asked .before .args .server)) _ refl refl _ _ (asked .server-verdict .ensures) (rw (c .before .refusal .given .1))
+    let args = asked .before .args in
+    after-first (serverFaults schemeOf (args .s) (args .server)) _ refl refl _ _ (asked .server-verdict .ensures) (rw (c .before .refusal .given .1))
 
 enum-told : tie.Need-enum-told
 enum-told c = search needs
@@ -42,7 +43,8 @@ mul-if1 : tie.Need-mul-if1
 mul-if1 c =
     let sized = c .before .before in
     let passed = asks (sized .before) in
-    omega (arith, sizes-small (sized .before .before .before .before .args .s .catalogue) (sized .sizes-of .result) (passed .holds .admitted) (sized .sizes-of .ensures) .slots)
+    let s = sized .before .before .before .before .args .s in
+    omega (arith, sizes-small (s .catalogue) (sized .sizes-of .result) (passed .holds .admitted) (sized .sizes-of .ensures) .slots)
 
 returns-2 : tie.Need-returns-2
 unfolding takeVerdict
@@ -68,7 +70,8 @@ due-verdict-requires : tie.Need-due-verdict-requires
 due-verdict-requires c κs =
     let sized = c .before .before .before .before .before in
     let passed = asks (sized .before) in
-    omega (arith, passed .below, sizes-small (sized .before .before .before .before .args .s .catalogue) (sized .sizes-of .result) (passed .holds .admitted) (sized .sizes-of .ensures) .servers)
+    let s = sized .before .before .before .before .args .s in
+    omega (arith, passed .below, sizes-small (s .catalogue) (sized .sizes-of .result) (passed .holds .admitted) (sized .sizes-of .ensures) .servers)
 
 returns-4 : tie.Need-returns-4
 unfolding takeVerdict

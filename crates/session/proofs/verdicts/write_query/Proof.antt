@@ -52,7 +52,8 @@ returns c =
     let args = start .args in
     let s = args .s in
     written .query .ensures
-    ∙ ap (λ (sizes : Sizes). put 0 (codeOf schemeOf s .query (s .wanted) (args .server) (take (sizes .key) (s .key))) (args .query .now)) (sized .sizes-of .ensures)
+    ∙ ap (λ (sizes : Sizes). put 0 (codeOf schemeOf s .query (s .wanted) (args .server) (take (sizes .key) (s .key))) (args .query .now))
+    (sized .sizes-of .ensures)
 
 pub write-query-spec : {M : Type 1} → statement M
 write-query-spec =

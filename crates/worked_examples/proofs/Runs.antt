@@ -1,5 +1,5 @@
--- Two whole fetches run by computation, through the functions that the claim is about: bench cards B2 and B3 of document 01. Each server
--- is shown its query and writes its answer; the message that is wanted stands in the buffer at the end.
+-- Two whole fetches run by computation, through the functions that the claim is about: bench cards B2 and B3 of document 01 (`b2`, `b3`). Each
+-- server is shown its query and writes its answer; the message that is wanted stands in the buffer at the end.
 use mathlib.Core.Path.{_≡_, refl}
 use mathlib.Core.List.{List, [], _∷_, map, flatMap}
 use Prim.Native.Nat.{ℕ}
