@@ -1,4 +1,5 @@
--- The sizes that the catalogue crate measures are the scheme's, and it measures exactly the admitted catalogues.
+-- The sizes that the catalogue crate measures are the scheme's, and it measures exactly the admitted catalogues: `measured`,
+-- `unmeasured`.
 use mathlib.Core.Path.{_≡_, refl, sym, _∙_}
 use Prim.Native.Nat.{ℕ}
 use native.Mathlib.Omega.{arith}

@@ -112,7 +112,8 @@ pub fn recover(c: Catalogue, wanted: usize, key: &[u8], answers: &[u8], message:
     requires { ⌜ Valid (schemeOf c) (now key) ⌝ }
     requires { ⌜ c .servers * schemeOf c .sizes .slot ≤ length (now answers) ⌝ }
     requires { ⌜ schemeOf c .sizes .message ≤ length (now message) ⌝ }
-    ensures { λ _. ⌜ now (message .exit) ≡ put 0 (recoverIn (schemeOf c) (c .servers) wanted (now (key .entry)) (now (answers .entry))) (now (message .entry)) ⌝ }
+    ensures { λ _. ⌜ now (message .exit)
+        ≡ put 0 (recoverIn (schemeOf c) (c .servers) wanted (now (key .entry)) (now (answers .entry))) (now (message .entry)) ⌝ }
 {
     let op = Operation::ExclusiveOr;
     let code = c.code;

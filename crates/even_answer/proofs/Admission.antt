@@ -1,4 +1,4 @@
--- Admission is the pass over the query, and an admitted query can be answered.
+-- Admission is the pass over the query: `admits-pass`. And an admitted query can be answered: `admitted-answerable`.
 use mathlib.Core.Path.{_≡_, refl, sym, _∙_}
 use mathlib.Core.Bool.{Bool, true, false, _&&_}
 use mathlib.Core.List.{List, zipWith}
@@ -35,18 +35,25 @@ positions-below N K i h = All-get 0 (All-flatMap (members 0) (All-imp (λ A e. m
 
 pub power-less : (N K : ℕ) → LayoutBounds N K → N ^ (K - 1) ≤ 256
 power-less N K bounds =
-    omega (arith, pow-le-pow-right {n = N} (let w : 0 < N = omega (arith, bounds .servers-low) in w) (let w : K - 1 ≤ K = omega arith in w), bounds .symbols-high)
+    omega (
+      arith,
+      pow-le-pow-right {n = N} (let w : 0 < N = omega (arith, bounds .servers-low) in w)
+          (let w : K - 1 ≤ K = omega arith in w),
+      bounds .symbols-high,
+    )
 
 -- the positions of a query of the right length, from the table
 pub positions-front : (N K : ℕ) (table query : List ℕ) → LayoutBounds N K → table ≡ padded 1024 (positions N K) → length query ≡ K * N ^ (K - 1)
     → take (length query) table ≡ positions N K
 positions-front N K table query bounds e f =
-    front-is (length query) table (positions N K) (replicate (1024 - length (positions N K)) 0) e (positions-length N K (bounds .servers-low) (bounds .messages-low) ∙ sym f)
+    front-is (length query) table (positions N K) (replicate (1024 - length (positions N K)) 0) e
+    (positions-length N K (bounds .servers-low) (bounds .messages-low) ∙ sym f)
 
 pub positions-fit : (N K : ℕ) (table query : List ℕ) → LayoutBounds N K → table ≡ padded 1024 (positions N K) → length query ≡ K * N ^ (K - 1)
     → length query ≤ length table
 positions-fit N K table query bounds e f =
-    front-fits (length query) table (positions N K) (replicate (1024 - length (positions N K)) 0) e (positions-length N K (bounds .servers-low) (bounds .messages-low) ∙ sym f)
+    front-fits (length query) table (positions N K) (replicate (1024 - length (positions N K)) 0) e
+    (positions-length N K (bounds .servers-low) (bounds .messages-low) ∙ sym f)
 
 -- the pass over a query of the right length decides
 pub admits-pass : (N K server : ℕ) (query : List ℕ) → length query ≡ K * N ^ (K - 1)

@@ -1,4 +1,5 @@
--- The pass over a query with marks: what is left of it decides, and distinct cells are distinct numbers for each message.
+-- The pass over a query with marks: what is left of it decides (`fresh-more`), and distinct cells are distinct numbers for each
+-- message: `distinct-cells`.
 use mathlib.Core.Path.{_≡_, refl, sym, ap, ap₂, _∙_}
 use mathlib.Core.Logic.{_≢_}
 use mathlib.Core.Bool.{Bool, true, false, not, _&&_, _||_}
@@ -42,7 +43,8 @@ module _ (size : ℕ) (marks : List Bool) (messages numbers : List ℕ) (i : ℕ
       → fresh size marks (drop i messages) (drop i numbers) ≡ false
   unfolding fresh allBelow unmarked zipWith
   fresh-marked low marked =
-      rw (drop-cons numbers i 0 h, drop-cons messages i 0 (omega arith), lt-ltb (getD numbers i 0) size low, marked) (last (allBelow size (drop (suc i) numbers)))
+      rw (drop-cons numbers i 0 h, drop-cons messages i 0 (omega arith), lt-ltb (getD numbers i 0) size low, marked)
+      (last (allBelow size (drop (suc i) numbers)))
     where
       last : (t : Bool) → t && false ≡ false
       last true = refl

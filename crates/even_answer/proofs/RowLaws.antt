@@ -1,4 +1,5 @@
--- The answer to one row: its symbols lie in the store, and it is made by copying the first of them and combining the others into it.
+-- The answer to one row: its symbols lie in the store (`symbol-room`), and it is made by copying the first of them and combining the
+-- others into it, over any group: `row-more`.
 use mathlib.Core.Path.{_≡_, refl, sym, ap, _∙_}
 use mathlib.Core.Bool.{Bool, true, false, cond}
 use mathlib.Core.List.{List, [], _∷_, _++_, zipWith}

@@ -1,4 +1,5 @@
--- The answer set by set: the rows of the sets from i on, the numbers that they take of the query, and how long their answers are.
+-- The answer set by set: the rows of the sets from i on, the numbers that they take of the query (`numbers-more`), their answers
+-- (`answers-more`), and how long these are.
 use mathlib.Core.Path.{_≡_, sym, ap, _∙_}
 use mathlib.Core.Bool.{Bool}
 use mathlib.Core.List.{List, [], _++_, flatMap, append-assoc}

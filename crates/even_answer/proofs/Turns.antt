@@ -1,4 +1,5 @@
--- One turn of each loop of the answering end: what it reads, what it writes, and what is left after it.
+-- One turn of each loop of the answering end: what it reads, what it writes, and what is left after it: `symbol-turn`, `row-turn`,
+-- `set-turn`.
 use mathlib.Core.Path.{_≡_, refl, sym, ap, ap₂, _∙_}
 use mathlib.Core.Bool.{Bool}
 use mathlib.Core.List.{List, [], _++_, map}
@@ -83,7 +84,8 @@ module _ {sum : Sum} {N K S set rows : ℕ} {store numbers : List ℕ} (group : 
       let A = setIn K set in
       let front = rowAnswer sum N K S store A (drop (row * count set) numbers) in
       let left = rowAnswers sum N K S store (replicate (rows - (row + 1)) A) (drop ((row + 1) * count set) numbers) in
-      let end : (row + 1) * S ≡ row * S + length front = ap (λ (m : ℕ). m * S) (add-one row) ∙ suc-mul row S ∙ ap (λ (m : ℕ). row * S + m) (sym (row-long row)) in
+      let end : (row + 1) * S ≡ row * S + length front = ap (λ (m : ℕ). m * S) (add-one row) ∙ suc-mul row S
+      ∙ ap (λ (m : ℕ). row * S + m) (sym (row-long row)) in
       pending-as end refl refl (pending-part front left (rw (set-more sum N K S store A numbers rows row (count set) h (given .inside)) at p))
 
 -- the rows of the set at index i: their numbers, their part of the buffer, and what is left after them

@@ -103,7 +103,8 @@ fn answer_set(
     out: &mut [u8],
 )
     requires { ⌜ SetAnswerable n k s (now store) set rows (now numbers) × (rows * s ≤ length (now out)) × (symbols ≡ n ^ k) ⌝ }
-    ensures { λ _. ⌜ now (out .exit) ≡ put 0 (rowAnswers (sumOf op) n k s (now (store .entry)) (replicate rows (setIn k set)) (now (numbers .entry))) (now (out .entry)) ⌝ }
+    ensures { λ _. ⌜ now (out .exit)
+        ≡ put 0 (rowAnswers (sumOf op) n k s (now (store .entry)) (replicate rows (setIn k set)) (now (numbers .entry))) (now (out .entry)) ⌝ }
 {
     let size = u8::count_ones(set) as usize;
     let mut row = 0;

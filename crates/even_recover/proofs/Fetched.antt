@@ -1,5 +1,5 @@
--- Recovery from one server, set by set: what holds before set j is recovered (`Fetched`), that its group is ready, that the same
--- holds of the next set then, and that in the end the scheme's `serverParts` are written.
+-- Recovery from one server, set by set: what holds before set j is recovered (`Fetched`), that its group is ready (`set-ready`), that
+-- the same holds of the next set then (`fetched-more`), and that in the end the scheme's `serverParts` are written (`fetched-done`).
 use Prim.Native.Nat.{ℕ, _+_, _-_, _*_, _/_, _%_, _^_, _≤_, _<_}
 use native.Mathlib.Nat.{mul-le-mul}
 use native.Mathlib.Numerals.{add-one}
@@ -23,7 +23,8 @@ use Rattle.even_places.proofs.Bytes.{byte-ones, byte-has}
 use Rattle.even_places.proofs.ByteParts.{byte-covers}
 use Rattle.even_places.proofs.WantedCells.{cellsOf}
 use Rattle.even_places.proofs.AllSets.{ones-most}
-use Rattle.even_scheme.specs.Even.{assemble, recoveredPart, serverParts, evenScheme}
+use Rattle.lists.specs.Assembled.{assemble}
+use Rattle.even_scheme.specs.Even.{recoveredPart, serverParts, evenScheme}
 use Rattle.even_layout.specs.Layout.{rowsOf}
 use Rattle.even_layout.proofs.Blocks.{all-length, subsets-few}
 use Rattle.even_layout.proofs.Fits.{layout-bounds}
@@ -33,7 +34,7 @@ use Rattle.even_recover.specs.Rows.{serverRowsOf, groupParts, groupOf, s
 use Rattle.even_recover.proofs.Groups.{Reads, WantedSet, group-grouped}
 use Rattle.even_recover.proofs.GroupParts.{HasQuery, group-named, group-parts}
 use Rattle.even_recover.proofs.Sized.{Sized, sized}
-use Rattle.even_recover.proofs.Written.{assemble-append}
+use Rattle.lists.proofs.Assembled.{assemble-append}
 
 module _ (sum : Sum) (N K S wanted server : ℕ) (key answers : List ℕ) where
   -- the parts that one set gives, and those with the wanted message among some sets
@@ -60,7 +61,8 @@ module _ (sum : Sum) (N K S wanted server : ℕ) (key answers : List ℕ) where
       go false = refl
 
 -- sets 0 to j - 1 are recovered
-pub record Fetched (sum : Sum) (N K S wanted server : ℕ) (key sets firsts answers start : List ℕ) (here : ServerRows) (query message : List ℕ) (cell j : ℕ) : Type 0 where
+pub record Fetched (sum : Sum) (N K S wanted server : ℕ) (key sets firsts answers start : List ℕ) (here : ServerRows) (query message : List ℕ)
+    (cell j : ℕ) : Type 0 where
   pub reads : Reads N K S wanted server firsts
   pub asked : HasQuery N K wanted server key query
   pub sets-are : sets ≡ map byteOf (allSets K)
@@ -114,7 +116,8 @@ module _ {sum : Sum} {N K S wanted server : ℕ} {key sets firsts answers start 
   set-parts = rw (bit-is, fetched .here-is, set-is .byte, fetched .cell-is) (go (has wanted A) refl)
     where
       parts : List (ℕ × List ℕ)
-      parts = groupParts sum (serverRowsOf N K S wanted server) (groupOf (serverRowsOf N K S wanted server) (byteOf A) (summed (cellsOf N) (take j (allSets K))) firsts) query answers
+      parts = groupParts sum (serverRowsOf N K S wanted server)
+          (groupOf (serverRowsOf N K S wanted server) (byteOf A) (summed (cellsOf N) (take j (allSets K))) firsts) query answers
 
       go : (t : Bool) → has wanted A ≡ t → cond (eqb (bit t) 1) parts [] ≡ cond t (partsOfSet sum N K S wanted server key answers A) []
       go true e = group-parts sum (fetched .reads) (fetched .asked) j more-sets (wanted-set e) answers
@@ -127,7 +130,8 @@ module _ {sum : Sum} {N K S wanted server : ℕ} {key sets firsts answers start 
       small : Sized N K wanted
       small = sized (fetched .reads .bounds) (fetched .reads .wanted-known)
 
-      go : (t : Bool) → has wanted A ≡ t → bit t ≡ 1 → Ready (serverRowsOf N K S wanted server) (byteOf A) (summed (cellsOf N) (take j (allSets K))) firsts query message
+      go : (t : Bool) → has wanted A ≡ t → bit t ≡ 1
+          → Ready (serverRowsOf N K S wanted server) (byteOf A) (summed (cellsOf N) (take j (allSets K))) firsts query message
       go false f g = absurd (let w : ⊥ = omega arith in w)
       go true f g = record {
         given = record {
@@ -146,7 +150,8 @@ module _ {sum : Sum} {N K S wanted server : ℕ} {key sets firsts answers start 
   next-sets : take (j + 1) (allSets K) ≡ take j (allSets K) ++ (A ∷ [])
   next-sets = ap (λ (n : ℕ). take n (allSets K)) (add-one j) ∙ take-suc (allSets K) j [] more-sets
 
-  pub fetched-more : (done : List ℕ) (next : ℕ) → length done ≡ length message → done ≡ assemble (setParts sum here (getD sets j 0) cell firsts query answers) message
+  pub fetched-more : (done : List ℕ) (next : ℕ) → length done ≡ length message
+      → done ≡ assemble (setParts sum here (getD sets j 0) cell firsts query answers) message
       → next ≡ cell + (N - 1) ^ (count (getD sets j 0) - 1) * count (getD sets j 0)
       → Fetched sum N K S wanted server key sets firsts answers start here query done next (j + 1)
   unfolding summed
@@ -165,7 +170,8 @@ module _ {sum : Sum} {N K S wanted server : ℕ} {key sets firsts answers start 
     written =
         e
         ∙ ap₂ assemble set-parts (fetched .written)
-        ∙ sym (assemble-append (partsOf sum N K S wanted server key answers (take j (allSets K))) (cond (has wanted A) (partsOfSet sum N K S wanted server key answers A) []) start)
+        ∙ sym (assemble-append (partsOf sum N K S wanted server key answers (take j (allSets K)))
+        (cond (has wanted A) (partsOfSet sum N K S wanted server key answers A) []) start)
         ∙ ap (λ (l : List (ℕ × List ℕ)). assemble l start)
         (sym (ap (partsOf sum N K S wanted server key answers) next-sets ∙ parts-more sum N K S wanted server key answers (take j (allSets K)) A));
   }

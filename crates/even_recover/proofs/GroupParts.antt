@@ -1,5 +1,5 @@
--- The parts of the message that the group of a set gives are the scheme's: the query has, at the wanted message's position in row i,
--- the number of the symbol that the row gives.
+-- The parts of the message that the group of a set gives are the scheme's: `group-parts`. The query has, at the wanted message's
+-- position in row i, the number of the symbol that the row gives.
 use Prim.Native.Nat.{ℕ, _+_, _-_, _*_, _^_, _≤_, _<_}
 use native.Mathlib.Nat.{suc-mul, mul-le-mul-right, one-le-pow}
 use native.Mathlib.Omega.{arith}
@@ -28,7 +28,8 @@ pub record HasQuery (N K wanted server : ℕ) (key query : List ℕ) : Type 0 wh
   pub room : length (evenQuery N K wanted server key) ≤ length query
   pub same : (c : ℕ) → c < length (evenQuery N K wanted server key) → getD query c 0 ≡ getD (evenQuery N K wanted server key) c 0
 
-module _ (sum : Sum) {N K S wanted server : ℕ} {firsts key query : List ℕ} (reads : Reads N K S wanted server firsts) (asked : HasQuery N K wanted server key query)
+module _ (sum : Sum) {N K S wanted server : ℕ} {firsts key query : List ℕ} (reads : Reads N K S wanted server firsts)
+    (asked : HasQuery N K wanted server key query)
     (j : ℕ) (within : j < length (allSets K)) (wantedSet : WantedSet K wanted (getD (allSets K) j [])) where
   abbrev A : List Bool
   A = getD (allSets K) j []
@@ -47,7 +48,8 @@ module _ (sum : Sum) {N K S wanted server : ℕ} {firsts key query : List ℕ} (
   position-is : (i : ℕ) → group .cell + i * group .messages ≡ position i
   position-is i = omega (arith, cell-is reads wantedSet cell, ap (λ (m : ℕ). i * m) (messages-is reads wantedSet cell))
 
-  at-position : (i : ℕ) → i < (N - 1) ^ (onesIn A - 1) → WantedCell N K wanted (reads .bounds .servers-low) (reads .wanted-known) server (reads .server-known) A i (position i)
+  at-position : (i : ℕ) → i < (N - 1) ^ (onesIn A - 1)
+      → WantedCell N K wanted (reads .bounds .servers-low) (reads .wanted-known) server (reads .server-known) A i (position i)
   at-position i h = wanted-cell N K wanted (reads .bounds .servers-low) (reads .wanted-known) server (reads .server-known) j i within (wantedSet .has-wanted) h
 
   position-inside : (i : ℕ) → i < (N - 1) ^ (onesIn A - 1) → position i < length (evenQuery N K wanted server key)
@@ -72,7 +74,8 @@ module _ (sum : Sum) {N K S wanted server : ℕ} {firsts key query : List ℕ} (
         let number = getD query (group .cell + i * group .messages) 0 in
         let below : number < N ^ K =
         rw (number-is i (rw (count-is reads wantedSet cell) at h))
-        (number-below N K key wanted (wantedPlace sum N K S wanted server A i) (asked .good) (reads .wanted-known) (one-le-pow K N (omega (arith, reads .bounds .servers-low)))) in
+        (number-below N K key wanted (wantedPlace sum N K S wanted server A i) (asked .good) (reads .wanted-known)
+        (one-le-pow K N (omega (arith, reads .bounds .servers-low)))) in
         omega (arith, suc-mul number S, mul-le-mul-right S below);
   }
 

@@ -1,4 +1,5 @@
--- The rows that recovery reads are in the answer buffer: a group's own rows, and those that they are joined from.
+-- The rows that recovery reads are in the answer buffer: a group's own rows (`own-row`), and those that they are joined from
+-- (`source-row`).
 use Prim.Native.Nat.{ℕ, suc, _+_, _-_, _*_, _/_, _%_, _≤_, _<_}
 use native.Mathlib.Nat.{mul-le-mul, mul-le-mul-right, suc-mul, mul-zero, mod-lt, div-lt-iff-lt-mul}
 use native.Mathlib.Decide.{decLt}
@@ -28,7 +29,8 @@ row-at here answers server row held known within =
     let most = mul-le-mul (held .few) (held .short) in
     record { inside = omega (arith, suc-mul x (here .symbol), held .held); small = omega arith }
 
-module _ (here : ServerRows) (group : Group) (answers : List ℕ) (i : ℕ) (held : Held here answers) (grouped : Grouped here group) (within : i < group .count) where
+module _ (here : ServerRows) (group : Group) (answers : List ℕ) (i : ℕ) (held : Held here answers) (grouped : Grouped here group)
+    (within : i < group .count) where
   pub own-row : RowAt (here .server * here .rows + (group .first + i)) (here .symbol) (length answers)
   own-row =
       row-at here answers (here .server) (group .first + i) held (held .known) (omega (arith, grouped .own))
@@ -37,7 +39,8 @@ module _ (here : ServerRows) (group : Group) (answers : List ℕ) (i : ℕ) (hel
   pub record Source : Type 0 where
     pub some-each : 0 < group .each
     pub turn : i / group .each < here .servers - 1
-    pub source : RowAt (getD (others (here .servers) (here .server)) (i / group .each) 0 * here .rows + (group .source + i % group .each)) (here .symbol) (length answers)
+    pub source : RowAt (getD (others (here .servers) (here .server)) (i / group .each) 0 * here .rows + (group .source + i % group .each))
+        (here .symbol) (length answers)
 
   pub source-row : group .messages ≢ 1 → Source
   source-row joined =
@@ -49,7 +52,8 @@ module _ (here : ServerRows) (group : Group) (answers : List ℕ) (i : ℕ) (hel
         turn = turn;
         source =
             row-at here answers (getD (others (here .servers) (here .server)) (i / group .each) 0) (group .source + i % group .each) held
-            (All-get 0 (others-below (here .servers) (here .server)) (i / group .each) (omega (arith, turn, others-length (here .servers) (here .server) (held .known))))
+            (All-get 0 (others-below (here .servers) (here .server)) (i / group .each)
+            (omega (arith, turn, others-length (here .servers) (here .server) (held .known))))
             (omega (arith, grouped .joined joined, mod-lt i some-each));
       }
     where

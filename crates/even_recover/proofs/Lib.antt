@@ -1,6 +1,5 @@
 pub mod Held
 pub mod RowSymbol
-pub mod Written
 pub mod Groups
 pub mod GroupParts
 pub mod Sized

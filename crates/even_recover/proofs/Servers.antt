@@ -1,4 +1,5 @@
--- Recovery server by server: the front of the table of sets is all sets, and one server's parts more are written.
+-- Recovery server by server: the front of the table of sets is all sets (`sets-front`), and one server's parts more are written:
+-- `before-more`.
 use Prim.Native.Nat.{ℕ, _+_, _-_, _^_, _≤_}
 use mathlib.Core.Path.{_≡_, refl, sym, ap, _∙_}
 use mathlib.Core.List.{List, _++_, map, flatMap}
@@ -8,9 +9,10 @@ use Rattle.lists.proofs.Cuts.{front-is, front-fits}
 use Rattle.symbol.specs.Sum.{Sum}
 use Rattle.scheme.specs.Scheme.{answersIn}
 use Rattle.even_places.specs.Sets.{byteOf, allSets}
-use Rattle.even_scheme.specs.Even.{assemble, serverParts, recoveredParts, evenScheme}
+use Rattle.lists.specs.Assembled.{assemble}
+use Rattle.even_scheme.specs.Even.{serverParts, recoveredParts, evenScheme}
 use Rattle.even_layout.proofs.Blocks.{all-bytes}
-use Rattle.even_recover.proofs.Written.{assemble-list}
+use Rattle.lists.proofs.Assembled.{assemble-list}
 
 pub record Front (K count : ℕ) (table : List ℕ) : Type 0 where
   pub inside : count ≤ length table
@@ -40,6 +42,7 @@ module _ (sum : Sum) (N K S wanted : ℕ) (key answers : List ℕ) where
       let parts = serverParts sum N K S wanted key (answersIn (evenScheme sum N K S) N wanted key answers) in
       f ∙ ap (assemble (parts server)) e ∙ sym (assemble-list parts server start)
 
-  pub before-all : (servers : ℕ) → servers ≡ N → partsBefore servers ≡ recoveredParts sum N K S wanted key (answersIn (evenScheme sum N K S) N wanted key answers)
+  pub before-all : (servers : ℕ) → servers ≡ N
+      → partsBefore servers ≡ recoveredParts sum N K S wanted key (answersIn (evenScheme sum N K S) N wanted key answers)
   unfolding partsBefore recoveredParts
   before-all servers e = ap (λ (n : ℕ). flatMap (serverParts sum N K S wanted key (answersIn (evenScheme sum N K S) N wanted key answers)) (range 0 n)) e

@@ -1,4 +1,4 @@
--- The numbers that recovery computes from the parameters are small.
+-- The numbers that recovery computes from the parameters are small: `sized`.
 use Prim.Native.Nat.{ℕ, suc, _-_, _*_, _/_, _^_, _≤_, _<_}
 use native.Mathlib.Nat.{one-le-pow, pow-le-pow-right, pow-suc, div-le-self, mul-le-mul-left, mul-le-mul-right, le-mul-of-pos-right}
 use native.Mathlib.Omega.{arith}

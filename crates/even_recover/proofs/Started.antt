@@ -1,4 +1,5 @@
--- Before the first set of a server is recovered: the query, the table of first rows and what is the same for all rows are as they should be.
+-- Before the first set of a server is recovered, the query, the table of first rows and what is the same for all rows are as they
+-- should be: `fetched-none`.
 use Prim.Native.Nat.{ℕ, _*_, _^_, _≤_, _<_}
 use native.Mathlib.Nat.{mul-assoc}
 use native.Mathlib.Omega.{arith}
@@ -14,7 +15,8 @@ use Rattle.parameters.specs.Measures.{evenRows}
 use Rattle.parameters.proofs.Bounds.{EvenBounds, even-bounds}
 use Rattle.symbol.specs.Sum.{Sum}
 use Rattle.even_places.specs.Sets.{byteOf, allSets}
-use Rattle.even_scheme.specs.Even.{evenKeyGood, evenQuery, assemble}
+use Rattle.lists.specs.Assembled.{assemble}
+use Rattle.even_scheme.specs.Even.{evenKeyGood, evenQuery}
 use Rattle.even_layout.specs.Layout.{firstRows, firstRowOf}
 use Rattle.even_layout.proofs.Firsts.{first-rows-at}
 use Rattle.even_recover.specs.declared.ServerRows.{ServerRows}

@@ -5,15 +5,18 @@ ghost use mathlib.Core.Bool.{true};
 ghost use mathlib.Core.List.{map};
 ghost use Prim.Native.Nat.{_+_, _-_, _*_, _/_, _%_, _^_, _≤_, _<_};
 ghost use lib.ListN.{length};
-ghost use Rattle.lists.specs.Parts.{cut, put};
+ghost use Rattle.lists.specs.Parts.{put};
+ghost use Rattle.lists.specs.Assembled.{assemble};
 ghost use Rattle.symbol.specs.Operations.{sumOf};
 ghost use Rattle.parameters.specs.Bounds.{evenFits};
 ghost use Rattle.parameters.specs.Measures.{evenRows};
 ghost use Rattle.scheme.specs.Scheme.{answersIn};
 ghost use Rattle.even_places.specs.Sets.{byteOf, allSets};
-ghost use Rattle.even_scheme.specs.Even.{assemble, evenKeyGood, serverParts, recoveredParts, evenScheme};
+ghost use Rattle.even_scheme.specs.Even.{evenKeyGood, serverParts, recoveredParts, evenScheme};
 ghost use Rattle.even_layout.specs.Layout.{firstRows};
-ghost use Rattle.even_recover.specs.Rows.{serverRowsOf, rowTaken, groupSymbol, groupParts, groupOf, setParts, Given, Held, Grouped, Named, Ready};
+ghost use Rattle.even_recover.specs.Rows.{serverRowsOf, groupSymbol, groupParts, groupOf, setParts, Given, Held, Grouped, Named, Ready};
+
+mod symbols;
 
 // What is the same for all rows of one server's query.
 struct ServerRows {
@@ -45,39 +48,6 @@ struct Group {
     cell: usize,
 }
 
-// Copies a row of the answer buffer over a symbol of the message.
-fn copy_row(symbol: usize, number: usize, row: usize, answers: &[u8], message: &mut [u8])
-    requires { ⌜ row * symbol + symbol ≤ length (now answers) ⌝ }
-    requires { ⌜ number * symbol + symbol ≤ length (now message) ⌝ }
-    ensures { λ _. ⌜ now (message .exit) ≡ put (number * symbol) (cut (row * symbol) symbol (now (answers .entry))) (now (message .entry)) ⌝ }
-{
-    let at = number * symbol;
-    let end = at + symbol;
-    let from = row * symbol;
-    let until = from + symbol;
-    symbol::copy(&mut message[at..end], &answers[from..until]);
-}
-
-// Takes a row of the answer buffer away from a symbol of the message.
-fn subtract_row(
-    op: Operation,
-    symbol: usize,
-    number: usize,
-    row: usize,
-    answers: &[u8],
-    message: &mut [u8],
-)
-    requires { ⌜ row * symbol + symbol ≤ length (now answers) ⌝ }
-    requires { ⌜ number * symbol + symbol ≤ length (now message) ⌝ }
-    ensures { λ _. ⌜ now (message .exit) ≡ rowTaken (sumOf op) symbol number row (now (answers .entry)) (now (message .entry)) ⌝ }
-{
-    let at = number * symbol;
-    let end = at + symbol;
-    let from = row * symbol;
-    let until = from + symbol;
-    symbol::subtract(op, &mut message[at..end], &answers[from..until]);
-}
-
 // Recovers the symbol of row `i` of the group: the answer to it, less the answer to the row that it was joined from.
 fn from_row(
     op: Operation,
@@ -95,11 +65,11 @@ fn from_row(
     ensures { λ _. ⌜ now (message .exit) ≡ put (number * here .symbol) (groupSymbol (sumOf op) here group (now (answers .entry)) i) (now (message .entry)) ⌝ }
 {
     let row = here.server * here.rows + (group.first + i);
-    copy_row(here.symbol, number, row, answers, message);
+    symbols::copy_row(here.symbol, number, row, answers, message);
     if group.messages != 1 {
         let source = even_layout::other_server(here.server, i / group.each) * here.rows
             + (group.source + i % group.each);
-        subtract_row(op, here.symbol, number, source, answers, message);
+        symbols::subtract_row(op, here.symbol, number, source, answers, message);
     }
 }
 
@@ -158,7 +128,8 @@ fn from_set(
     requires { ⌜ 1 ≤ here .bit ⌝ }
     requires { ⌜ Held here (now answers) ⌝ }
     requires { ⌜ (set / here .bit % 2 ≡ 1 → Ready here set cell (now firsts) (now query) (now message)) ⌝ }
-    ensures { λ _. ⌜ now (message .exit) ≡ assemble (setParts (sumOf op) here set cell (now (firsts .entry)) (now (query .entry)) (now (answers .entry))) (now (message .entry)) ⌝ }
+    ensures { λ _. ⌜ now (message .exit)
+        ≡ assemble (setParts (sumOf op) here set cell (now (firsts .entry)) (now (query .entry)) (now (answers .entry))) (now (message .entry)) ⌝ }
 {
     if set / here.bit % 2 == 1 {
         from_group(
@@ -207,7 +178,9 @@ fn from_server(
     requires { ⌜ (length (now key) ≡ k * n ^ k) × (evenKeyGood n k (now key) ≡ true) ⌝ }
     requires { ⌜ (now sets ≡ map byteOf (allSets k)) × (now firsts ≡ firstRows n k) ⌝ }
     requires { ⌜ (n * (evenRows n k * s) ≤ length (now answers)) × (n ^ k * s ≤ length (now message)) ⌝ }
-    ensures { λ _. ⌜ now (message .exit) ≡ assemble (serverParts (sumOf op) n k s wanted (now (key .entry)) (answersIn (evenScheme (sumOf op) n k s) n wanted (now (key .entry)) (now (answers .entry))) server) (now (message .entry)) ⌝ }
+    ensures { λ _. ⌜ now (message .exit)
+        ≡ assemble (serverParts (sumOf op) n k s wanted (now (key .entry))
+        (answersIn (evenScheme (sumOf op) n k s) n wanted (now (key .entry)) (now (answers .entry))) server) (now (message .entry)) ⌝ }
 {
     let here = server_rows_of(n, k, s, wanted, server);
     let mut asked = [0u8; 1024];
@@ -237,7 +210,9 @@ pub fn recover(
     requires { ⌜ wanted < k ⌝ }
     requires { ⌜ (length (now key) ≡ k * n ^ k) × (evenKeyGood n k (now key) ≡ true) ⌝ }
     requires { ⌜ (n * (evenRows n k * s) ≤ length (now answers)) × (n ^ k * s ≤ length (now message)) ⌝ }
-    ensures { λ _. ⌜ now (message .exit) ≡ assemble (recoveredParts (sumOf op) n k s wanted (now (key .entry)) (answersIn (evenScheme (sumOf op) n k s) n wanted (now (key .entry)) (now (answers .entry)))) (now (message .entry)) ⌝ }
+    ensures { λ _. ⌜ now (message .exit)
+        ≡ assemble (recoveredParts (sumOf op) n k s wanted (now (key .entry))
+        (answersIn (evenScheme (sumOf op) n k s) n wanted (now (key .entry)) (now (answers .entry)))) (now (message .entry)) ⌝ }
 {
     let sets = even_layout::ordered_sets(k);
     let count = parameters::power(2, k) - 1;

@@ -7,8 +7,7 @@ use mathlib.Core.Option.{Option, none, some}
 use lib.Dec.{eqb}
 use lib.ListN.{length, getD, set, drop}
 use Rattle.lists.specs.Parts.{cut}
-use Rattle.lists.specs.Assembled.{Part}
-unfoldable pub use Rattle.lists.specs.Assembled.{assemble}
+use Rattle.lists.specs.Assembled.{Part, assemble}
 use Rattle.lists.specs.Ranges.{range, every}
 use Rattle.lists.specs.Below.{allBelow}
 use Rattle.lists.specs.Sums.{keep}

@@ -1,5 +1,5 @@
--- Digits modulo N: their sums from place to place, and the balancing digit, which is the one digit with which they sum up to the
--- server's number.
+-- Digits modulo N: their sums from place to place (`sum-turn`), and the balancing digit, which is the one digit with which they sum
+-- up to the server's number: `balanced`, `balance-only`.
 use mathlib.Core.Bool.{true}
 use mathlib.Core.Path.{_≡_, refl, sym, ap, _∙_}
 use mathlib.Core.List.{List, [], _∷_}

@@ -1,5 +1,5 @@
--- The exchange of keys: insert the balancing digit for one message, delete the digit of the other. For each server and message, valid keys and
--- admitted queries go one to one (source 000, (28)).
+-- The exchange of keys: insert the balancing digit for one message, delete the digit of the other. For each server and message, valid
+-- keys and admitted queries go one to one (source 000, (28)): `one-key`.
 use mathlib.Core.Path.{_≡_, sym, ap, _∙_}
 use mathlib.Core.Bool.{true}
 use mathlib.Core.List.{List}

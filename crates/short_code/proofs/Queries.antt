@@ -1,4 +1,5 @@
--- Queries: what a server admits, that it admits the query of every valid key, and which key a query comes from.
+-- Queries: what a server admits (`admits-row`), that it admits the query of every valid key (`query-admits`), and which key a query
+-- comes from (`key-query`).
 use mathlib.Core.Path.{_≡_, sym, ap, _∙_}
 use mathlib.Core.Bool.{true, _&&_, and-eq-true-iff}
 use mathlib.Core.List.{List}

@@ -12,7 +12,7 @@ use Rattle.lists.specs.Below.{allBelow}
 use Rattle.lists.specs.Inserts.{insertAt}
 use Rattle.lists.proofs.Below.{allBelow-below, below-joined}
 use Rattle.symbol.specs.Sum.{Sum, total}
-use Rattle.short_code.specs.Short.{allZero, digitSum, balancing, named, shortQuery, shortAnswerLength, stridedAnswer}
+use Rattle.short_code.specs.Short.{allZero, balancing, named, shortQuery, shortAnswerLength, stridedAnswer}
 use Rattle.short_code.proofs.Digits.{sum-insert, sum-zeros, balanced, balance-only}
 
 -- digit 0 more does not change it

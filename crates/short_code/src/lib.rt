@@ -185,7 +185,8 @@ pub fn recover(
     requires { ⌜ Valid (shortScheme (sumOf op) n k s) (now key) ⌝ }
     requires { ⌜ n * shortSizes n k s .slot ≤ length (now answers) ⌝ }
     requires { ⌜ shortSizes n k s .message ≤ length (now message) ⌝ }
-    ensures { λ _. ⌜ now (message .exit) ≡ put 0 (recoverIn (shortScheme (sumOf op) n k s) n wanted (now (key .entry)) (now (answers .entry))) (now (message .entry)) ⌝ }
+    ensures { λ _. ⌜ now (message .exit)
+        ≡ put 0 (recoverIn (shortScheme (sumOf op) n k s) n wanted (now (key .entry)) (now (answers .entry))) (now (message .entry)) ⌝ }
 {
     let starts = recovering::slot_starts(n, s);
     let t = digit_sum(n, key);

@@ -64,7 +64,8 @@ pub fn recover_row(
     requires { ⌜ t < n ⌝ }
     requires { ⌜ Placed n s (now starts) (now answers) ⌝ }
     requires { ⌜ (n - 1) * s ≤ length (now message) ⌝ }
-    ensures { λ _. ⌜ now (message .exit) ≡ put 0 (flatMap (fromPlaces (sumOf op) n s t empty (now (starts .entry)) (now (answers .entry))) (range 1 (n - 1))) (now (message .entry)) ⌝ }
+    ensures { λ _. ⌜ now (message .exit)
+        ≡ put 0 (flatMap (fromPlaces (sumOf op) n s t empty (now (starts .entry)) (now (answers .entry))) (range 1 (n - 1))) (now (message .entry)) ⌝ }
 {
     let other = starts[t];
     let mut d = 1;

@@ -1,5 +1,5 @@
--- The sum of every operation is an abelian group on the symbols of each size: `group-of`. A routine that has told the operations apart knows its
--- sum: `by-xor`.
+-- The sum of every operation is an abelian group on the symbols of each size: `group-of`. What `symbol` does for an operation is its
+-- sum's: `by-xor`.
 use mathlib.Core.Path.{_≡_, refl}
 use Prim.Native.Nat.{ℕ}
 use Rattle.symbol.specs.declared.Operation.{Operation}

@@ -1,4 +1,5 @@
--- Laws of exclusive or on byte strings: its length, one byte more of the second string, and what makes it a group.
+-- Laws of exclusive or on byte strings: its length, one byte more of the second string (`xor-more`), and what makes it a group:
+-- `xor-bytes-comm`, `xor-bytes-assoc`, `xor-twice`.
 use mathlib.Core.Path.{_≡_, refl, sym, ap, ap₂, _∙_}
 use mathlib.Core.List.{List, [], _∷_}
 use Prim.Native.Nat.{ℕ, zero, suc, _<_}

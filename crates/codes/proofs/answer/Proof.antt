@@ -35,13 +35,17 @@ same-length : tie.Need-same-length
 same-length c = search needs
 
 returns : tie.Need-returns
-returns c = rw (scheme-short (c .before .before .before .before .before .before .before .before .before .args .c) (c .before .before .before .before .enum-told .given .1)) (c .before .before .answer .ensures)
+returns c =
+    rw (scheme-short (c .before .before .before .before .before .before .before .before .before .args .c)
+    (c .before .before .before .before .enum-told .given .1)) (c .before .before .answer .ensures)
 
 same-length-2 : tie.Need-same-length-2
 same-length-2 c = search needs
 
 returns-2 : tie.Need-returns-2
-returns-2 c = rw (scheme-even (c .before .before .before .before .before .before .before .before .before .args .c) (c .before .before .before .before .enum-told2 .given .1)) (c .before .before .answer2 .ensures)
+returns-2 c =
+    rw (scheme-even (c .before .before .before .before .before .before .before .before .before .args .c)
+    (c .before .before .before .before .enum-told2 .given .1)) (c .before .before .answer2 .ensures)
 
 pub answer-spec : {M : Type 1} → statement M
 answer-spec =

@@ -37,7 +37,12 @@ query-requires-2 c κs =
     let p = rw (scheme-even (a .c) e) at (start .pre) in
     let fits = admitted-even (a .c) (start .pre .0) e in
     let b = even-bounds (a .c .servers) (a .c .messages) (a .c .symbol) fits in (
-      record { bounds = layout-fits (a .c .servers) (a .c .messages) (a .c .symbol) fits; servers-high = b .servers-high; message = p .1 .0 .0; server-low = p .1 .0 .1 },
+      record {
+        bounds = layout-fits (a .c .servers) (a .c .messages) (a .c .symbol) fits;
+        servers-high = b .servers-high;
+        message = p .1 .0 .0;
+        server-low = p .1 .0 .1;
+      },
       p .1 .1 .0 .long,
       p .1 .1 .1,
     )
@@ -46,13 +51,17 @@ same-length : tie.Need-same-length
 same-length c = search needs
 
 returns : tie.Need-returns
-returns c = rw (scheme-short (c .before .before .before .before .before .before .before .before .args .c) (c .before .before .before .before .enum-told .given .1)) (c .before .before .query .ensures)
+returns c =
+    rw (scheme-short (c .before .before .before .before .before .before .before .before .args .c) (c .before .before .before .before .enum-told .given .1))
+    (c .before .before .query .ensures)
 
 same-length-2 : tie.Need-same-length-2
 same-length-2 c = search needs
 
 returns-2 : tie.Need-returns-2
-returns-2 c = rw (scheme-even (c .before .before .before .before .before .before .before .before .args .c) (c .before .before .before .before .enum-told2 .given .1)) (c .before .before .query2 .ensures)
+returns-2 c =
+    rw (scheme-even (c .before .before .before .before .before .before .before .before .args .c) (c .before .before .before .before .enum-told2 .given .1))
+    (c .before .before .query2 .ensures)
 
 pub query-spec : {M : Type 1} → statement M
 query-spec =

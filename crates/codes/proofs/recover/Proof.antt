@@ -37,7 +37,9 @@ same-length : tie.Need-same-length
 same-length c = search needs
 
 returns : tie.Need-returns
-returns c = rw (scheme-short (c .before .before .before .before .before .before .before .before .before .args .c) (c .before .before .before .before .enum-told .given .1)) (c .before .before .recover .ensures)
+returns c =
+    rw (scheme-short (c .before .before .before .before .before .before .before .before .before .args .c)
+    (c .before .before .before .before .enum-told .given .1)) (c .before .before .recover .ensures)
 
 same-length-2 : tie.Need-same-length-2
 same-length-2 c = search needs
@@ -50,7 +52,8 @@ returns-2 c =
     let p = rw (scheme-even (a .c) e) at (start .pre) in
     rw (scheme-even (a .c) e)
     (c .before .before .recover2 .ensures
-    ∙ even-written (sumOf operation) (a .c .servers) (a .c .messages) (a .c .symbol) (group-of operation (a .c .symbol)) (admitted-even (a .c) (start .pre .0) e) (a .wanted) (p .1 .0) (a .key .now)
+    ∙ even-written (sumOf operation) (a .c .servers) (a .c .messages) (a .c .symbol) (group-of operation (a .c .symbol))
+    (admitted-even (a .c) (start .pre .0) e) (a .wanted) (p .1 .0) (a .key .now)
     (p .1 .1 .0) (a .answers .now) (p .1 .1 .1 .0) (a .message .now) (p .1 .1 .1 .1))
 
 pub recover-spec : {M : Type 1} → statement M

@@ -55,7 +55,8 @@ returns-2 c =
     let from = start .args .start in
     let store = start .args .store .now in
     rw (c .before .before .before .before .before .if1 .left)
-    (c .before .before .combine .ensures ∙ ap (λ (n : ℕ). (sumOf (start .args .op)) .plus (start .args .out .now) (take n (drop from store))) (add-sub-cancel-left from (length (start .args .out .now))))
+    (c .before .before .combine .ensures ∙ ap (λ (n : ℕ). (sumOf (start .args .op)) .plus (start .args .out .now) (take n (drop from store)))
+    (add-sub-cancel-left from (length (start .args .out .now))))
 
 pub add-symbol-spec : {M : Type 1} → statement M
 add-symbol-spec =

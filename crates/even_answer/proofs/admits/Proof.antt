@@ -10,7 +10,6 @@ use mathlib.Core.List.{List, zipWith}
 use Rattle.lists.specs.Below.{allBelow}
 use Rattle.lists.specs.Distinct.{distinct}
 use Rattle.even_answer.specs.Answering.{cellOf}
-use Rattle.even_places.specs.Rule.{positions}
 use Rattle.even_places.proofs.Positions.{positions-length}
 use Rattle.even_scheme.specs.Even.{evenAdmits}
 use Rattle.even_answer.proofs.Admission.{positions-below, positions-front, positions-fit, admits-pass, power-less}
@@ -38,7 +37,8 @@ unfolding evenAdmits
 returns c =
     let start = c .before .before .before in
     let k = start .args .k in
-    rw (ne-eqb (length (start .args .query .now)) (k * start .args .n ^ (k - 1)) (λ e. c .if1 .taken (e ∙ ap (λ (m : ℕ). k * m) (sym (c .before .power .ensures)))))
+    rw (ne-eqb (length (start .args .query .now)) (k * start .args .n ^ (k - 1))
+    (λ e. c .if1 .taken (e ∙ ap (λ (m : ℕ). k * m) (sym (c .before .power .ensures)))))
 
 positions-requires : tie.Need-positions-requires
 positions-requires c κs = search needs
@@ -65,7 +65,8 @@ slice-aggregate-all-fresh c =
     let query = start .args .query .now in
     let long : length query ≡ k * n ^ (k - 1) = at .if1 .left ∙ ap (λ (m : ℕ). k * m) (at .before .power .ensures) in
     let table = c .before .before .positions in
-    sym (ap length (positions-front n k (table .result) query (start .pre) (table .ensures) long) ∙ positions-length n k (start .pre .servers-low) (start .pre .messages-low) ∙ sym long)
+    sym (ap length (positions-front n k (table .result) query (start .pre) (table .ensures) long)
+    ∙ positions-length n k (start .pre .servers-low) (start .pre .messages-low) ∙ sym long)
 
 all-fresh-requires : tie.Need-all-fresh-requires
 all-fresh-requires c κs =

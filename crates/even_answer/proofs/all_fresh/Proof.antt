@@ -14,7 +14,9 @@ use Rattle.even_answer.proofs.all_fresh.Statement.{statement}
 use Rattle.even_answer.proofs.all_fresh.Tie as tie
 
 abbrev Inv-loop : tie.InvT-loop
-Inv-loop size messages numbers marks₀ i₀ marks i = (i ≤ length numbers) × (length marks ≡ 2048) × (fresh size marks (drop i messages) (drop i numbers) ≡ (allBelow size numbers && distinct (zipWith (cellOf size) messages numbers)))
+Inv-loop size messages numbers marks₀ i₀ marks i =
+    (i ≤ length numbers) × (length marks ≡ 2048) × (fresh size marks (drop i messages) (drop i numbers)
+    ≡ (allBelow size numbers && distinct (zipWith (cellOf size) messages numbers)))
 
 abbrev μ-loop : tie.MeasureT-loop
 μ-loop size messages numbers marks₀ i₀ marks i = length numbers - i
@@ -34,7 +36,8 @@ returns : tie.Need-returns Inv-loop μ-loop
 returns c =
     let at = c .before .before .before in
     let start = at .before in
-    sym (sym (at .loop .inv .2) ∙ fresh-high (start .args .size) (at .loop .marks) (start .args .messages .now) (start .args .numbers .now) (at .loop .i) (omega arith) (start .pre .1) (omega (arith, c .if1 .taken)))
+    sym (sym (at .loop .inv .2) ∙ fresh-high (start .args .size) (at .loop .marks) (start .args .messages .now) (start .args .numbers .now) (at .loop .i)
+    (omega arith) (start .pre .1) (omega (arith, c .if1 .taken)))
 
 shared-slice-read-cell : tie.Need-shared-slice-read-cell Inv-loop μ-loop
 shared-slice-read-cell c = omega arith
@@ -53,25 +56,32 @@ add-cell : tie.Need-add-cell Inv-loop μ-loop
 add-cell c =
     let at = c .before .before .before .before in
     let start = at .before in
-    omega (arith, cell-room (start .args .size) (getD (start .args .messages .now) (at .loop .i) 0) (getD (start .args .numbers .now) (at .loop .i) 0) (start .pre .0) (start .pre .2 (at .loop .i) (omega arith)) (c .before .if1 .left))
+    omega (
+      arith,
+      cell-room (start .args .size) (getD (start .args .messages .now) (at .loop .i) 0) (getD (start .args .numbers .now) (at .loop .i) 0)
+          (start .pre .0) (start .pre .2 (at .loop .i) (omega arith)) (c .before .if1 .left),
+    )
 
 array-read-if2 : tie.Need-array-read-if2 Inv-loop μ-loop
 array-read-if2 c =
     let at = c .before .before .before .before in
     let start = at .before in
-    cell-room (start .args .size) (getD (start .args .messages .now) (at .loop .i) 0) (getD (start .args .numbers .now) (at .loop .i) 0) (start .pre .0) (start .pre .2 (at .loop .i) (omega arith)) (c .before .if1 .left)
+    cell-room (start .args .size) (getD (start .args .messages .now) (at .loop .i) 0) (getD (start .args .numbers .now) (at .loop .i) 0) (start .pre .0)
+    (start .pre .2 (at .loop .i) (omega arith)) (c .before .if1 .left)
 
 returns-2 : tie.Need-returns-2 Inv-loop μ-loop
 returns-2 c =
     let at = c .before .before .before .before .before in
     let start = at .before in
-    sym (sym (at .loop .inv .2) ∙ fresh-marked (start .args .size) (at .loop .marks) (start .args .messages .now) (start .args .numbers .now) (at .loop .i) (omega arith) (start .pre .1) (c .before .before .if1 .left) (c .if2 .taken))
+    sym (sym (at .loop .inv .2) ∙ fresh-marked (start .args .size) (at .loop .marks) (start .args .messages .now) (start .args .numbers .now) (at .loop .i)
+    (omega arith) (start .pre .1) (c .before .before .if1 .left) (c .if2 .taken))
 
 array-write-marks : tie.Need-array-write-marks Inv-loop μ-loop
 array-write-marks c =
     let at = c .before .before .before .before .before in
     let start = at .before in
-    cell-room (start .args .size) (getD (start .args .messages .now) (at .loop .i) 0) (getD (start .args .numbers .now) (at .loop .i) 0) (start .pre .0) (start .pre .2 (at .loop .i) (omega arith)) (c .before .before .if1 .left)
+    cell-room (start .args .size) (getD (start .args .messages .now) (at .loop .i) 0) (getD (start .args .numbers .now) (at .loop .i) 0) (start .pre .0)
+    (start .pre .2 (at .loop .i) (omega arith)) (c .before .before .if1 .left)
 
 add-i : tie.Need-add-i Inv-loop μ-loop
 add-i c = omega arith
@@ -90,14 +100,16 @@ loop-again c =
     let room = cell-room size (getD messages i 0) (getD numbers i 0) (start .pre .0) (start .pre .2 i (omega arith)) (c .before .before .if1 .left) in (
       omega arith,
       simp length-set (at .loop .inv .1),
-      sym (fresh-more size (at .loop .marks) messages numbers i (omega arith) (start .pre .1) (c .before .before .if1 .left) (omega (arith, at .loop .inv .1)) (c .if2 .left)) ∙ at .loop .inv .2,
+      sym (fresh-more size (at .loop .marks) messages numbers i (omega arith) (start .pre .1) (c .before .before .if1 .left)
+          (omega (arith, at .loop .inv .1)) (c .if2 .left)) ∙ at .loop .inv .2,
     )
 
 returns-3 : tie.Need-returns-3 Inv-loop μ-loop
 returns-3 c =
     let at = c .before in
     let start = at .before in
-    sym (sym (at .loop .inv .2) ∙ fresh-end (start .args .size) (at .loop .marks) (start .args .messages .now) (start .args .numbers .now) (at .loop .i) (omega arith) (start .pre .1))
+    sym (sym (at .loop .inv .2) ∙ fresh-end (start .args .size) (at .loop .marks) (start .args .messages .now) (start .args .numbers .now) (at .loop .i)
+    (omega arith) (start .pre .1))
 
 pub all-fresh-spec : {M : Type 1} → statement M
 all-fresh-spec =

@@ -70,7 +70,8 @@ loop-holds c =
     let given = start .pre in
     let bounds = layout-fits n k s (given .fits) in
     let bytes : Below 256 store = λ j l. c .before .before .before .before .before .shared-slice-known .given j .fits in
-    let long = answers-length (sumOf (start .args .op)) n k s store (given .whole) (group-of (start .args .op) s) bytes query (layout-long n k) (given .named) in
+    let long = answers-length (sumOf (start .args .op)) n k s store (given .whole) (group-of (start .args .op) s) bytes query (layout-long n k)
+    (given .named) in
     let room : 0 + length (rowAnswers (sumOf (start .args .op)) n k s store (layout n k) query) ≤ length (start .args .out .now) =
     omega (arith, ap (λ (m : ℕ). m * s) (layout-length n k (bounds .servers-low) (bounds .messages-low)), given .room) in (
       omega arith,
@@ -93,7 +94,8 @@ rows-of-requires c κs =
     let k = start .args .k in
     let bounds = layout-fits n k (start .args .s) (start .pre .fits) in
     let inside : at .loop .i < length (allSets k) = omega (arith, at .before .power2 .ensures, all-length k) in
-    let b = byte-at n k (at .loop .i) (at .before .before .ordered-sets .result) (replicate (256 - length (allSets k)) 0) bounds (at .before .before .ordered-sets .ensures) inside in
+    let b = byte-at n k (at .loop .i) (at .before .before .ordered-sets .result)
+    (replicate (256 - length (allSets k)) 0) bounds (at .before .before .ordered-sets .ensures) inside in
     (omega (arith, bounds .servers-low), b .some, omega (arith, b .rows, b .high))
 
 -- the turn of the set at hand
@@ -106,7 +108,8 @@ turn-of c =
     let at = c .before .before in
     let start = at .before .before .before .before .before .before .before in
     let inside : at .loop .i < length (allSets (start .args .k)) = omega (arith, at .before .power2 .ensures, all-length (start .args .k)) in
-    set-turn (at .loop .i) (at .loop .at) (group-of (start .args .op) (start .args .s)) (start .pre) (λ j l. at .before .before .before .before .before .before .shared-slice-known .given j .fits)
+    set-turn (at .loop .i) (at .loop .at) (group-of (start .args .op) (start .args .s)) (start .pre)
+    (λ j l. at .before .before .before .before .before .before .shared-slice-known .given j .fits)
     (at .before .before .ordered-sets .ensures) inside (c .rows-of .ensures) (at .loop .inv .1) (at .loop .inv .2)
 
 sub-answer-set : tie.Need-sub-answer-set Inv-loop μ-loop
@@ -171,8 +174,10 @@ loop-again c =
     let out = at .loop .out in
     let numbers = drop (at .loop .at) (start .args .query .now) in
     let answered = rowAnswers (sumOf (start .args .op)) (start .args .n) (start .args .k) (start .args .s) (start .args .store .now)
-    (replicate (c .before .before .before .before .before .rows-of .result) (setIn (start .args .k) (getD (at .before .before .ordered-sets .result) (at .loop .i) 0))) in
-    let made = c .before .before .answer-set .ensures ∙ ap₂ (λ (l m : List ℕ). put 0 (answered l) m) (to-end (start .args .query .now) (at .loop .at)) (to-end out end) in (
+    (replicate (c .before .before .before .before .before .rows-of .result)
+    (setIn (start .args .k) (getD (at .before .before .ordered-sets .result) (at .loop .i) 0))) in
+    let made = c .before .before .answer-set .ensures ∙ ap₂ (λ (l m : List ℕ). put 0 (answered l) m) (to-end (start .args .query .now) (at .loop .at))
+    (to-end out end) in (
       omega arith,
       turn .read,
       pending-as refl refl

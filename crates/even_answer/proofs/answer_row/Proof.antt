@@ -2,7 +2,7 @@
 use mathlib.Core.Path.{_≡_, refl, sym, ap, _∙_}
 use mathlib.Core.Logic.{⊎-elim}
 use mathlib.Core.List.{zipWith}
-use Prim.Native.Nat.{_+_, _-_, _/_, _≤_}
+use Prim.Native.Nat.{_+_, _-_, _*_, _/_, _≤_}
 use native.Mathlib.Nat.{sub-zero, zero-add, mul-le-mul}
 use native.Mathlib.Omega.{arith}
 use borrow.Author.Tests.{ne-eqb}
@@ -20,7 +20,7 @@ use Rattle.even_layout.specs.Layout.{setIn}
 use Rattle.even_layout.proofs.Bytes.{membersFrom, members-kept, members-skipped}
 use Rattle.even_answer.specs.Answering.{added}
 use Rattle.even_answer.proofs.RowLaws.{members-length, resumed, row-more, symbol-place, symbol-is, added-length}
-use Rattle.even_answer.proofs.Turns.{symbol-turn}
+use Rattle.even_answer.proofs.Turns.{SymbolTurn, symbol-turn}
 use Rattle.even_answer.proofs.answer_row.Statement.{statement}
 use Rattle.even_answer.proofs.answer_row.Tie as tie
 
@@ -29,7 +29,8 @@ Inv-loop op n k s symbols store set numbers out₀ rest₀ taken₀ p₀ out res
     (p ≤ k)
     × (length out ≡ s)
     × (taken + length (membersFrom k p rest) ≡ count set)
-    × (resumed (sumOf op) (eqb taken 0) s out (zipWith (symbolOf (sumOf op) n k s store) (membersFrom k p rest) (drop taken numbers)) ≡ rowAnswer (sumOf op) n k s store (setIn k set) numbers)
+    × (resumed (sumOf op) (eqb taken 0) s out (zipWith (symbolOf (sumOf op) n k s store) (membersFrom k p rest) (drop taken numbers))
+    ≡ rowAnswer (sumOf op) n k s store (setIn k set) numbers)
 
 abbrev μ-loop : tie.MeasureT-loop
 μ-loop op n k s symbols store set numbers out₀ rest₀ taken₀ p₀ out rest taken p = k - p
@@ -46,53 +47,47 @@ loop-holds c =
       rw (sub-zero k) refl,
     )
 
-shared-slice-read-number : tie.Need-shared-slice-read-number Inv-loop μ-loop
-shared-slice-read-number c =
-    let at = c .before .before .before in
+-- the turn of a message that is in the set: its number is the next one, and names a symbol in the store
+turn-of : (c : tie.Then1 Inv-loop μ-loop) → let at = c .before .before in
+    let a = at .before .before .before .before .args in
+    SymbolTurn (a .n) (a .k) (a .s) (a .store .now) (a .set) (a .numbers .now) (a .symbols) (at .loop .p) (at .loop .taken) (at .loop .rest)
+turn-of c =
+    let at = c .before .before in
+    let pre = at .before .before .before .before .pre in
+    symbol-turn (at .loop .p) (at .loop .taken) (at .loop .rest) (pre .0) (pre .2) (omega arith) (c .if1 .taken) (at .loop .inv .2)
+
+-- the numbers of the messages before it are few
+few-before : (c : tie.Then1 Inv-loop μ-loop) → c .before .before .loop .p * c .before .before .before .before .before .before .args .symbols ≤ 8 * 256
+few-before c =
+    let at = c .before .before in
     let start = at .before .before .before .before in
-    let turn = symbol-turn (at .loop .p) (at .loop .taken) (at .loop .rest) (start .pre .0) (start .pre .2) (omega arith) (c .before .if1 .taken) (at .loop .inv .2) in
-    turn .inside
+    let bounds = even-bounds (start .args .n) (start .args .k) (start .args .s) (start .pre .0 .fits) in
+    mul-le-mul (let w : at .loop .p ≤ 8 = omega (arith, bounds .messages-high) in w)
+    (let w : start .args .symbols ≤ 256 = omega (arith, start .pre .2, bounds .symbols-high) in w)
+
+shared-slice-read-number : tie.Need-shared-slice-read-number Inv-loop μ-loop
+shared-slice-read-number c = turn-of (c .before) .inside
 
 cast-number : tie.Need-cast-number Inv-loop μ-loop
 cast-number c = omega (arith, c .shared-slice-known3 .given (c .before .before .before .loop .taken))
 
 mul-add-symbol : tie.Need-mul-add-symbol Inv-loop μ-loop
-mul-add-symbol c =
-    let at = c .before .before .before in
-    let start = at .before .before .before .before in
-    let bounds = even-bounds (start .args .n) (start .args .k) (start .args .s) (start .pre .0 .fits) in
-    let most = mul-le-mul (let w : at .loop .p ≤ 8 = omega (arith, bounds .messages-high) in w) (let w : start .args .symbols ≤ 256 = omega (arith, start .pre .2, bounds .symbols-high) in w) in
-    omega arith
+mul-add-symbol c = omega (arith, few-before (c .before))
 
 add-add-symbol : tie.Need-add-add-symbol Inv-loop μ-loop
 add-add-symbol c =
-    let at = c .before .before .before in
-    let start = at .before .before .before .before in
-    let turn = symbol-turn (at .loop .p) (at .loop .taken) (at .loop .rest) (start .pre .0) (start .pre .2) (omega arith) (c .before .if1 .taken) (at .loop .inv .2) in
+    let start = c .before .before .before .before .before .before .before in
     let bounds = even-bounds (start .args .n) (start .args .k) (start .args .s) (start .pre .0 .fits) in
-    let most = mul-le-mul (let w : at .loop .p ≤ 8 = omega (arith, bounds .messages-high) in w) (let w : start .args .symbols ≤ 256 = omega (arith, start .pre .2, bounds .symbols-high) in w) in
-    omega (arith, turn .number)
+    omega (arith, few-before (c .before), turn-of (c .before) .number, bounds .symbols-high)
 
 mul-add-symbol-2 : tie.Need-mul-add-symbol-2 Inv-loop μ-loop
-mul-add-symbol-2 c =
-    let at = c .before .before .before in
-    let start = at .before .before .before .before in
-    let turn = symbol-turn (at .loop .p) (at .loop .taken) (at .loop .rest) (start .pre .0) (start .pre .2) (omega arith) (c .before .if1 .taken) (at .loop .inv .2) in
-    omega (arith, turn .room)
+mul-add-symbol-2 c = omega (arith, turn-of (c .before) .room)
 
 add-symbol-requires : tie.Need-add-symbol-requires Inv-loop μ-loop
-add-symbol-requires c κs =
-    let at = c .before .before .before .before in
-    let start = at .before .before .before .before in
-    let turn = symbol-turn (at .loop .p) (at .loop .taken) (at .loop .rest) (start .pre .0) (start .pre .2) (omega arith) (c .before .before .if1 .taken) (at .loop .inv .2) in
-    omega (arith, turn .room, at .loop .inv .1)
+add-symbol-requires c κs = omega (arith, turn-of (c .before .before) .room, c .before .before .before .before .loop .inv .1)
 
 add-taken : tie.Need-add-taken Inv-loop μ-loop
-add-taken c =
-    let at = c .before .before .before .before .before .before .before in
-    let start = at .before .before .before .before in
-    let turn = symbol-turn (at .loop .p) (at .loop .taken) (at .loop .rest) (start .pre .0) (start .pre .2) (omega arith) (c .before .before .before .before .before .if1 .taken) (at .loop .inv .2) in
-    omega (arith, turn .inside)
+add-taken c = omega (arith, turn-of (c .before .before .before .before .before) .inside)
 
 add-p : tie.Need-add-p Inv-loop μ-loop
 add-p c = omega arith
@@ -107,6 +102,8 @@ loop-again c =
     let n = start .args .n in
     let k = start .args .k in
     let s = start .args .s in
+    let sum = sumOf (start .args .op) in
+    let group = group-of (start .args .op) s in
     let store = start .args .store .now in
     let numbers = start .args .numbers .now in
     let given = start .pre .0 in
@@ -120,14 +117,16 @@ loop-again c =
     (λ t.
     let turn = symbol-turn p taken rest given (start .pre .2) (omega arith) (t .0 .taken) (at .loop .inv .2) in
     let number = getD numbers taken 0 in
-    let x = symbolOf (sumOf (start .args .op)) n k s store p number in
-    let place = symbol-place (sumOf (start .args .op)) n k s store (given .whole) symbols p number (length out) (start .pre .2) (at .loop .inv .1) in
-    let made : c .if1 .out ≡ added (sumOf (start .args .op)) (eqb taken 0) out x = t .6 ∙ t .3 .ensures ∙ ap (added (sumOf (start .args .op)) (eqb taken 0) out) place in
+    let x = symbolOf sum n k s store p number in
+    let place = symbol-place sum n k s store (given .whole) symbols p number (length out) (start .pre .2) (at .loop .inv .1) in
+    let made : c .if1 .out ≡ added sum (eqb taken 0) out x = t .6 ∙ t .3 .ensures ∙ ap (added sum (eqb taken 0) out) place in
     rw (made, t .7) (
       omega arith,
-      added-length (sumOf (start .args .op)) s (group-of (start .args .op) s .plus-length) (eqb taken 0) out x (at .loop .inv .1) (symbol-is (sumOf (start .args .op)) n k s store (given .whole) (group-of (start .args .op) s) bytes p number (omega arith) (turn .number) .long),
+      added-length sum s (group .plus-length) (eqb taken 0) out x (at .loop .inv .1)
+          (symbol-is sum n k s store (given .whole) group bytes p number (omega arith) (turn .number) .long),
       turn .left,
-      sym (row-more (sumOf (start .args .op)) n k s store (given .whole) (group-of (start .args .op) s) bytes p taken (membersFrom k (p + 1) (rest / 2)) numbers out (omega arith) (turn .inside) (given .named))
+      sym (row-more sum n k s store (given .whole) group bytes p taken (membersFrom k (p + 1) (rest / 2)) numbers out (omega arith) (turn .inside)
+          (given .named))
           ∙ rw (members-kept k p rest (omega arith) (t .0 .taken)) at (at .loop .inv .3),
     ))
     (λ t.

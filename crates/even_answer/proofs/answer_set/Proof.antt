@@ -46,7 +46,8 @@ loop-holds c =
     let numbers = start .args .numbers .now in
     let given = start .pre .0 in
     let bytes : Below 256 store = λ i l. c .before .before .shared-slice-known .given i .fits in
-    let long = answers-length (sumOf (start .args .op)) n k s store (given .whole) (group-of (start .args .op) s) bytes numbers (All-replicate rows A (setIn-length k (start .args .set))) (given .named) in
+    let long = answers-length (sumOf (start .args .op)) n k s store (given .whole)
+    (group-of (start .args .op) s) bytes numbers (All-replicate rows A (setIn-length k (start .args .set))) (given .named) in
     let room : 0 + length (rowAnswers (sumOf (start .args .op)) n k s store (replicate rows A) numbers) ≤ length (start .args .out .now) =
     omega (arith, ap (λ (m : ℕ). m * s) (length-replicate rows A), start .pre .1) in
     (omega arith, pending-as (zero-mul s) (rw (sub-zero rows, zero-mul (count (start .args .set))) refl) refl (pending-start room))
@@ -136,7 +137,8 @@ loop-again c =
     let out = at .loop .out in
     let numbers = start .args .numbers .now in
     let read = at .loop .row * count (start .args .set) in
-    let answered = rowAnswer (sumOf (start .args .op)) (start .args .n) (start .args .k) s (start .args .store .now) (setIn (start .args .k) (start .args .set)) in
+    let answered = rowAnswer (sumOf (start .args .op)) (start .args .n) (start .args .k) s (start .args .store .now)
+    (setIn (start .args .k) (start .args .set)) in
     let bytes : Below 256 (start .args .store .now) = λ i l. at .before .before .before .shared-slice-known .given i .fits in
     let made = c .before .before .answer-row .ensures ∙ ap answered (to-end numbers read) in (
       omega arith,

@@ -8,9 +8,9 @@ use lib.ListN.{length, getD}
 use Rattle.lists.specs.Parts.{put}
 use Rattle.lists.specs.Ranges.{range}
 use Rattle.symbol.specs.Operations.{sumOf}
-use Rattle.even_scheme.specs.Even.{assemble}
+use Rattle.lists.specs.Assembled.{assemble}
 use Rattle.even_recover.specs.Rows.{groupSymbol, groupPart, groupParts}
-use Rattle.even_recover.proofs.Written.{assemble-none, assemble-part}
+use Rattle.lists.proofs.Assembled.{assemble-none, assemble-part}
 use Rattle.even_recover.proofs.from_group.Statement.{statement}
 use Rattle.even_recover.proofs.from_group.Tie as tie
 

@@ -106,7 +106,8 @@ returns c =
     let size = at .here .symbol in
     let answers = at .answers .now in
     let first = at .here .server * at .here .rows + (at .group .first + at .i) in
-    let source = getD (others (at .here .servers) (at .here .server)) (at .i / at .group .each) 0 * at .here .rows + (at .group .source + at .i % at .group .each) in
+    let server = getD (others (at .here .servers) (at .here .server)) (at .i / at .group .each) 0 in
+    let source = server * at .here .rows + (at .group .source + at .i % at .group .each) in
     copied-taken (sumOf (at .op)) (at .number) size source (group-of (at .op) size .minus-length) (cut (first * size) size answers) answers (at .message .now)
     _ _ (cut-length (first * size) size answers (own start .inside)) (from start (joins .if1 .taken) .source .inside) (start .pre .1 .1 .1)
     (copied .copy-row .ensures)

@@ -42,8 +42,10 @@ loop-holds c =
     let at = start .args in
     let pre = start .pre .1 in
     fetched-none (at .n) (at .k) (at .s) (at .wanted) (at .server) (start .pre .0) (pre .0 .0) (pre .0 .1) (sumOf (at .op))
-    (at .key .now) (at .sets .now) (at .firsts .now) (at .answers .now) (at .message .now) (c .before .before .before .server-rows-of .result) _ (replicate 1024 0)
-    (pre .1 .0 .1) (pre .1 .1 .0 .0) (pre .1 .1 .0 .1) (pre .1 .1 .1 .0) (pre .1 .1 .1 .1) (c .before .before .before .server-rows-of .ensures) (c .before .query .ensures)
+    (at .key .now) (at .sets .now) (at .firsts .now) (at .answers .now) (at .message .now)
+    (c .before .before .before .server-rows-of .result) _ (replicate 1024 0)
+    (pre .1 .0 .1) (pre .1 .1 .0 .0) (pre .1 .1 .0 .1) (pre .1 .1 .1 .0) (pre .1 .1 .1 .1) (c .before .before .before .server-rows-of .ensures)
+    (c .before .query .ensures)
 
 shared-slice-read-set : tie.Need-shared-slice-read-set Inv-loop μ-loop
 shared-slice-read-set c = omega arith

@@ -3,7 +3,7 @@ use mathlib.Core.Path.{ap, _∙_}
 use Prim.Native.Nat.{_/_, _%_}
 use borrow.Author.Tests.{eq-eqb, ne-eqb}
 use Rattle.symbol.specs.Operations.{sumOf}
-use Rattle.even_scheme.specs.Even.{assemble}
+use Rattle.lists.specs.Assembled.{assemble}
 use Rattle.even_recover.specs.declared.Group.{Group}
 use Rattle.even_recover.specs.Rows.{groupParts, setParts}
 use borrow.Author.Needs.{needs}

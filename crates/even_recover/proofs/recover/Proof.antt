@@ -9,7 +9,7 @@ use lib.Seq.{length-take-le}
 use Rattle.parameters.proofs.Bounds.{even-bounds}
 use Rattle.symbol.specs.Operations.{sumOf}
 use Rattle.even_places.specs.Sets.{allSets}
-use Rattle.even_scheme.specs.Even.{assemble}
+use Rattle.lists.specs.Assembled.{assemble}
 use Rattle.even_layout.specs.Layout.{firstRows}
 use Rattle.even_layout.proofs.Blocks.{subsets-few}
 use Rattle.even_layout.proofs.Fits.{layout-fits}

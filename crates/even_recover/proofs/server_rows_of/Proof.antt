@@ -42,7 +42,8 @@ power-requires-2 c κs =
 
 cast-t12 : tie.Need-cast-t12
 cast-t12 c =
-    let small = sized (even-bounds (c .before .before .args .n) (c .before .before .args .k) (c .before .before .args .s) (c .before .before .pre .0)) (c .before .before .pre .1) in
+    let small = sized (even-bounds (c .before .before .args .n) (c .before .before .args .k) (c .before .before .args .s) (c .before .before .pre .0))
+    (c .before .before .pre .1) in
     omega (arith, small .bit-high, c .power2 .ensures)
 
 returns : tie.Need-returns

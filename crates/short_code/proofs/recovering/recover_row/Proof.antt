@@ -1,6 +1,6 @@
 -- `short_code::recovering::recover_row` meets its contract: after each turn, what the symbols left will add to the message gives the whole.
 use mathlib.Core.Path.{_≡_, refl, sym, ap, _∙_}
-use mathlib.Core.List.{List, flatMap}
+use mathlib.Core.List.{flatMap}
 use Prim.Native.Nat.{ℕ, _+_, _-_, _*_, _%_, _≤_, _<_}
 use native.Mathlib.Nat.{mod-lt, mul-le-mul-right, zero-mul}
 use native.Mathlib.Omega.{arith}

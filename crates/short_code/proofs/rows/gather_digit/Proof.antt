@@ -14,7 +14,8 @@ use Rattle.short_code.proofs.rows.gather_digit.Statement.{statement}
 use Rattle.short_code.proofs.rows.gather_digit.Tie as tie
 
 returns : tie.Need-returns
-returns c = let a = c .before .before .before .args in gather-none (sumOf (a .op)) 0 (a .s) (a .store .now) (a .at) (a .d) (a .begun) (a .out .now) (c .if1 .taken)
+returns c =
+    let a = c .before .before .before .args in gather-none (sumOf (a .op)) 0 (a .s) (a .store .now) (a .at) (a .d) (a .begun) (a .out .now) (c .if1 .taken)
 
 sub-start : tie.Need-sub-start
 sub-start c = search needs

@@ -1,4 +1,4 @@
--- `subtract_row` meets its contract: the part of the message that is lent to `symbol::subtract` is what the row is taken away from.
+-- `symbols::subtract_row` meets its contract: the part of the message that is lent to `symbol::subtract` is what the row is taken away from.
 use mathlib.Core.Path.{ap, ap₂, _∙_}
 use mathlib.Core.List.{List, _++_}
 use Prim.Native.Nat.{ℕ, _+_, _-_, _*_}
@@ -10,8 +10,8 @@ use Rattle.lists.proofs.Puts.{put-part}
 use Rattle.symbol.specs.Operations.{sumOf}
 use Rattle.symbol.proofs.Operations.{group-of}
 use borrow.Author.Needs.{needs}
-use Rattle.even_recover.proofs.subtract_row.Statement.{statement}
-use Rattle.even_recover.proofs.subtract_row.Tie as tie
+use Rattle.even_recover.proofs.symbols.subtract_row.Statement.{statement}
+use Rattle.even_recover.proofs.symbols.subtract_row.Tie as tie
 
 mul-at : tie.Need-mul-at
 mul-at c = search needs

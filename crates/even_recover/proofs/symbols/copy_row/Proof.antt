@@ -1,4 +1,4 @@
--- `copy_row` meets its contract: the part of the message that is lent to `symbol::copy` is written whole.
+-- `symbols::copy_row` meets its contract: the part of the message that is lent to `symbol::copy` is written whole.
 use mathlib.Core.Path.{ap, _∙_}
 use mathlib.Core.List.{List, _++_}
 use Prim.Native.Nat.{ℕ, _+_, _-_, _*_}
@@ -8,8 +8,8 @@ use Rattle.lists.specs.Parts.{cut}
 use Rattle.lists.proofs.Cuts.{cut-length}
 use Rattle.lists.proofs.Puts.{put-part}
 use borrow.Author.Needs.{needs}
-use Rattle.even_recover.proofs.copy_row.Statement.{statement}
-use Rattle.even_recover.proofs.copy_row.Tie as tie
+use Rattle.even_recover.proofs.symbols.copy_row.Statement.{statement}
+use Rattle.even_recover.proofs.symbols.copy_row.Tie as tie
 
 mul-at : tie.Need-mul-at
 mul-at c = search needs
@@ -56,7 +56,8 @@ returns c =
     let from = here .row * here .symbol in
     ap (λ (l : List ℕ). take at message ++ (l ++ drop (at + here .symbol - at) (drop at message)))
     (c .before .before .copy .ensures ∙ ap (λ (n : ℕ). take n (drop from answers)) (add-sub-cancel-left from (here .symbol)))
-    ∙ put-part at (here .symbol) (cut from (here .symbol) answers) message (cut-length from (here .symbol) answers (c .before .before .before .before .before .before .before .pre .0))
+    ∙ put-part at (here .symbol) (cut from (here .symbol) answers) message
+    (cut-length from (here .symbol) answers (c .before .before .before .before .before .before .before .pre .0))
 
 pub copy-row-spec : {M : Type 1} → statement M
 copy-row-spec =
