@@ -25,7 +25,7 @@ use Rattle.even_places.proofs.Positions.{positions-length}
 use Rattle.even_scheme.specs.Even.{numbersOf, evenAdmits}
 use Rattle.even_layout.specs.Layout.{LayoutBounds}
 use Rattle.even_answer.specs.Answering.{Answerable, cellOf}
-use Rattle.even_answer.proofs.Fresh.{named, distinct-cells}
+use Rattle.even_answer.proofs.Fresh.{distinct-cells}
 use Rattle.even_answer.proofs.RowLaws.{members-all}
 
 -- at each position stands one of the messages
@@ -58,7 +58,7 @@ positions-fit N K table query bounds e f =
 -- the pass over a query of the right length decides
 pub admits-pass : (N K server : ℕ) (query : List ℕ) → length query ≡ K * N ^ (K - 1)
     → allBelow (N ^ K) query && distinct (zipWith (cellOf (N ^ K)) (positions N K) query) ≡ evenAdmits N K server query
-unfolding evenAdmits numbersOf named
+unfolding evenAdmits numbersOf
 admits-pass N K server query e = rw (eq-eqb (length query) (K * N ^ (K - 1)) e) (go (allBelow (N ^ K) query) refl)
   where
     go : (t : Bool) → allBelow (N ^ K) query ≡ t

@@ -15,6 +15,7 @@ use lib.ListN.{length, getD, set, replicate, drop, drop-of-length-le}
 use lib.Seq.{drop-cons}
 use Rattle.lists.specs.Below.{allBelow, Below}
 use Rattle.lists.specs.Distinct.{stands, distinct}
+use Rattle.lists.specs.Pairs.{under}
 use Rattle.lists.specs.Ranges.{every}
 use Rattle.lists.specs.Sums.{keep, keepIf}
 use Rattle.lists.proofs.Every.{every-true, every-one}
@@ -66,24 +67,20 @@ pub fresh-end : (size : ℕ) (marks : List Bool) (messages numbers : List ℕ) (
 unfolding fresh allBelow unmarked zipWith
 fresh-end size marks messages numbers i h same = rw (drop-of-length-le numbers h, drop-of-length-le messages {i = i} (omega arith))
 
--- the numbers of message p among all numbers, where `messages` has the message of each
-unfoldable pub named : ℕ → List ℕ → List ℕ → List ℕ
-named p messages numbers = map (λ e. e .1) (keep (λ e. eqb (e .0) p) (zip messages numbers))
-
 cell-apart : (size p q x y : ℕ) → x < size → y < size → cellOf size p x ≡ cellOf size q y → p ≡ q
 cell-apart size p q x y h k e = sym (digits-div p h) ∙ ap (λ (n : ℕ). n / size) e ∙ digits-div q k
 
 -- a number's cell stands among the cells if it stands among its message's numbers
 stands-cell : (size q x : ℕ) (messages numbers : List ℕ) → x < size → Below size numbers
-    → stands (cellOf size q x) (zipWith (cellOf size) messages numbers) ≡ stands x (named q messages numbers)
-unfolding stands named zip zipWith keep keepIf
+    → stands (cellOf size q x) (zipWith (cellOf size) messages numbers) ≡ stands x (under q (zip messages numbers))
+unfolding stands under zip zipWith keep keepIf
 stands-cell size q x [] numbers h b = refl
 stands-cell size q x (r ∷ messages) [] h b = refl
 stands-cell size q x (r ∷ messages) (y ∷ numbers) h b =
     rw (stands-cell size q x messages numbers h (λ i l. b (suc i) (omega arith))) (go (eqb r q) refl)
   where
     rest : List ℕ
-    rest = named q messages numbers
+    rest = under q (zip messages numbers)
 
     equal : (p : ℕ) (u : Bool) → eqb x y ≡ u → p ≡ q → eqb (q * size + x) (p * size + y) ≡ u
     equal p true u e = eq-eqb (q * size + x) (p * size + y) (ap₂ (λ (a b : ℕ). a * size + b) (sym e) (eqb-true x y u))
@@ -97,26 +94,26 @@ stands-cell size q x (r ∷ messages) (y ∷ numbers) h b =
 
 -- distinct cells are distinct numbers for each message
 pub distinct-cells : (size K : ℕ) (messages numbers : List ℕ) → Below K messages → Below size numbers
-    → distinct (zipWith (cellOf size) messages numbers) ≡ every K (λ p. distinct (named p messages numbers))
-unfolding distinct named zip zipWith keep keepIf
+    → distinct (zipWith (cellOf size) messages numbers) ≡ every K (λ p. distinct (under p (zip messages numbers)))
+unfolding distinct under zip zipWith keep keepIf
 distinct-cells size K [] numbers m b = sym (every-true K (λ p. true) (λ p h. refl))
 distinct-cells size K (q ∷ messages) [] m b = sym (every-true K (λ p. true) (λ p h. refl))
 distinct-cells size K (q ∷ messages) (x ∷ numbers) m b =
     ap₂ (λ (s t : Bool). not s && t)
     (stands-cell size q x messages numbers (b 0 (omega arith)) below)
     (distinct-cells size K messages numbers (λ i l. m (suc i) (omega arith)) below)
-    ∙ sym (every-one K q (not (stands x (named q messages numbers))) now before (m 0 (omega arith)) here elsewhere)
+    ∙ sym (every-one K q (not (stands x (under q (zip messages numbers)))) now before (m 0 (omega arith)) here elsewhere)
   where
     below : Below size numbers
     below = λ i l. b (suc i) (omega arith)
 
     before : ℕ → Bool
-    before p = distinct (named p messages numbers)
+    before p = distinct (under p (zip messages numbers))
 
     now : ℕ → Bool
     now p = distinct (map (λ e. e .1) (keepIf (eqb q p) (q, x) (keep (λ e. eqb (e .0) p) (zip messages numbers))))
 
-    here : now q ≡ not (stands x (named q messages numbers)) && before q
+    here : now q ≡ not (stands x (under q (zip messages numbers))) && before q
     here = rw (eq-eqb q q refl)
 
     elsewhere : (p : ℕ) → p ≢ q → now p ≡ before p

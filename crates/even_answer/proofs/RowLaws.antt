@@ -19,7 +19,7 @@ use Rattle.lists.proofs.Cuts.{cut-length}
 use Rattle.lists.proofs.Each.{All-imp}
 use Rattle.parameters.specs.Measures.{evenSizes}
 use Rattle.symbol.specs.Sum.{Symbol, Sum, totalFrom, total}
-use Rattle.symbol.specs.Group.{KeepsLength, AbelianGroup, Symbols, none, more}
+use Rattle.symbol.specs.Group.{KeepsLength, AbelianGroup, Symbols}
 use Rattle.symbol.proofs.Totals.{total-symbol}
 use Rattle.even_places.specs.Sets.{onesIn, members}
 use Rattle.even_scheme.specs.Even.{symbolOf, rowAnswer, rowAnswers}
@@ -95,10 +95,10 @@ module _ (sum : Sum) (N K S : ℕ) (store : List ℕ) (whole : length store ≡ 
     symbols-are : {messages : List ℕ} (numbers : List ℕ) → All (λ p. p < K) messages → Below (N ^ K) numbers
         → Symbols S (zipWith (symbolOf sum N K S store) messages numbers)
     unfolding zipWith
-    symbols-are numbers allNil b = none
-    symbols-are [] (allCons h a) b = none
+    symbols-are numbers allNil b = allNil
+    symbols-are [] (allCons h a) b = allNil
     symbols-are (i ∷ numbers) (allCons {x = p} h a) b =
-        more (symbol-is p i h (b 0 (omega arith))) (symbols-are numbers a (λ j l. b (suc j) (omega arith)))
+        allCons (symbol-is p i h (b 0 (omega arith))) (symbols-are numbers a (λ j l. b (suc j) (omega arith)))
 
     -- a row's answer is a symbol
     pub row-is : (A : List Bool) (numbers : List ℕ) → length A ≡ K → Below (N ^ K) numbers → Symbol S (rowAnswer sum N K S store A numbers)

@@ -10,6 +10,7 @@ use native.Mathlib.Omega.{arith}
 use lib.Count.{ones as count}
 use lib.ListN.{length, getD, drop, replicate, length-append, length-drop}
 use Rattle.lists.specs.Below.{Below}
+use Rattle.lists.specs.Padded.{padded}
 use Rattle.lists.specs.Parts.{put}
 use Rattle.lists.proofs.Below.{below-drop}
 use Rattle.lists.proofs.Cuts.{slot-end}
@@ -99,7 +100,7 @@ pub record SetTurn (sum : Sum) (N K S : ℕ) (store query buffer : List ℕ) (i 
       (put end (rowAnswers sum N K S store (replicate rows (setIn K set)) (drop at query)) out)
 
 pub set-turn : {sum : Sum} {N K S end rows : ℕ} {store query buffer out table : List ℕ} (i at : ℕ) → AbelianGroup sum S
-    → Answerable N K S store query buffer → Below 256 store → table ≡ map byteOf (allSets K) ++ replicate (256 - length (allSets K)) 0
+    → Answerable N K S store query buffer → Below 256 store → table ≡ padded 256 (map byteOf (allSets K))
     → i < length (allSets K)
     → rows ≡ (N - 1) ^ (count (getD table i 0) - 1) → at + length (positionsFrom N K i) ≡ length query
     → Pending 0 (evenAnswer sum N K S store query) buffer end (rowAnswers sum N K S store (rowsFrom N K i) (drop at query)) out
@@ -107,7 +108,7 @@ pub set-turn : {sum : Sum} {N K S end rows : ℕ} {store query buffer out table 
 set-turn {sum} {N} {K} {S} {end} {rows} {store} {query} {buffer} {out} {table} i at group given bytes e h called read p =
     let A = getD (allSets K) i [] in
     let set = getD table i 0 in
-    let b = byte-at N K i table (replicate (256 - length (allSets K)) 0) (layout-fits N K S (given .fits)) e h in
+    let b = byte-at N K i table _ (layout-fits N K S (given .fits)) e h in
     let many : rows ≡ rowsOf N A = called ∙ b .rows in
     let taken : rows * count set ≡ rowsOf N A * onesIn A = ap₂ (λ (x y : ℕ). x * y) many (b .counted) in
     let numbers = numbers-more N K i h in

@@ -89,7 +89,7 @@ fn listed_sets() -> [[u8; 8]; 64]
 // The sets of an even query in order: by block, in each in lexicographic order.
 pub fn ordered_sets(k: usize) -> [u8; 256]
     requires { ⌜ k ≤ 8 ⌝ }
-    ensures { λ r. ⌜ r ≡ map byteOf (allSets k) ++ replicate (256 - length (allSets k)) 0 ⌝ }
+    ensures { λ r. ⌜ r ≡ padded 256 (map byteOf (allSets k)) ⌝ }
 {
     let table = listed_sets();
     let first = parameters::power(2, k);

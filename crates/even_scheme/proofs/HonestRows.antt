@@ -15,7 +15,7 @@ use Rattle.lists.specs.Sums.{All, allNil, allCons, sum}
 use Rattle.lists.proofs.Cuts.{flatMap-cut}
 use Rattle.lists.proofs.Mapped.{mapped-at}
 use Rattle.lists.proofs.Each.{All-imp}
-use Rattle.symbol.specs.Group.{AbelianGroup, Symbols, none, more}
+use Rattle.symbol.specs.Group.{AbelianGroup, Symbols}
 use Rattle.symbol.specs.Sum.{Sum, total}
 use Rattle.symbol.proofs.Totals.{total-symbol}
 use Rattle.scheme.specs.Scheme.{Valid, honestAnswers}
@@ -83,9 +83,9 @@ module _ (sum : Sum) (N K S k : ℕ) (store key : List ℕ) (run : Retrieval sum
 
   cell-symbols : {cs : List (ℕ × ℕ)} → All (λ cell. cell .0 < K) cs → Symbols S (map (cellSymbol sum N K S store key) cs)
   unfolding cellSymbol cellNumber
-  cell-symbols allNil = none
+  cell-symbols allNil = allNil
   cell-symbols (allCons {x = cell} h a) =
-      more
+      allCons
       (symbol-symbol sum N K S store (run .long) (cell .0) (entryAt N K key (cell .0) (cell .1)) h (number-small (cell .0) (cell .1) h) (run .bytes))
       (cell-symbols a)
 

@@ -7,7 +7,8 @@ use Prim.Native.Nat.{ℕ, zero, suc, _+_}
 use native.Mathlib.Nat.{zero-add, add-zero}
 use native.Mathlib.Omega.{arith}
 use lib.ListN.{length, getD, set, length-append, length-map}
-use Rattle.symbol.specs.Group.{Symbols, none, more}
+use Rattle.lists.proofs.Each.{All-front, All-back, All-head, All-tail}
+use Rattle.symbol.specs.Group.{Symbols}
 use Rattle.symbol.specs.Sum.{Symbol, Sum, total, totalFrom}
 use Rattle.symbol.proofs.Totals.{total-found}
 use Rattle.even_places.specs.Rule.{onesIn, Row, cells}
@@ -55,11 +56,6 @@ around q (suc k) x (some y ∷ r) e =
       without = ap (λ (l : List (ℕ × ℕ)). (q, y) ∷ l) (rest .without);
     }
 
-symbols-split : {size : ℕ} (xs : List (List ℕ)) {x : List ℕ} {ys : List (List ℕ)} → Symbols size (xs ++ x ∷ ys)
-    → Symbols size xs × Symbol size x × Symbols size ys
-symbols-split [] (more p ps) = (none, p, ps)
-symbols-split (y ∷ xs) (more p ps) = let rest = symbols-split xs ps in (more p (rest .0), rest .1, rest .2)
-
 module _ (sum : Sum) (N K S k : ℕ) (store key : List ℕ) (run : Retrieval sum N K S k store key) (r : Row) (x : ℕ) (long : length r ≡ K)
     (place : getD r k none ≡ some x) where
   around-wanted : Around 0 k x r
@@ -80,7 +76,10 @@ module _ (sum : Sum) (N K S k : ℕ) (store key : List ℕ) (run : Retrieval sum
 
   parts : Symbols S before × Symbol S (named (0 + k, x)) × Symbols S after
   unfolding named
-  parts = symbols-split before (rw whole at (row-symbols sum N K S k store key run r long))
+  parts =
+      let all : Symbols S (before ++ named (0 + k, x) ∷ after) = rw whole at (row-symbols sum N K S k store key run r long) in
+      let rest = All-back before (named (0 + k, x) ∷ after) all in
+      (All-front before (named (0 + k, x) ∷ after) all, All-head rest, All-tail rest)
 
   wanted-cell : named (0 + k, x) ≡ symbolOf sum N K S store k (entryAt N K key k x)
   unfolding named cellSymbol cellNumber

@@ -11,6 +11,7 @@ use Rattle.lists.specs.Assembled.{Part, assemble}
 use Rattle.lists.specs.Ranges.{range, every}
 use Rattle.lists.specs.Below.{allBelow}
 use Rattle.lists.specs.Sums.{keep}
+use Rattle.lists.specs.Pairs.{under}
 use Rattle.lists.specs.Distinct.{distinct, isPermutation}
 use Rattle.parameters.specs.Measures.{evenSizes, evenRows}
 use Rattle.symbol.specs.Sum.{Sum, zeros, symbolAt, total}
@@ -38,7 +39,7 @@ module _ (N K : ℕ) where
 
   -- the numbers that a query names of message p
   unfoldable pub numbersOf : ℕ → List ℕ → List ℕ
-  numbersOf p query = map (λ e. e .1) (keep (λ e. eqb (e .0) p) (zip (positions N K) query))
+  numbersOf p query = under p (zip (positions N K) query)
 
   -- the right length, numbers below N^K, none twice for the same message; the same at every server
   unfoldable pub evenAdmits : ℕ → List ℕ → Bool

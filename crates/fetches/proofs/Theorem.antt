@@ -8,6 +8,7 @@ use native.Mathlib.Omega.{arith}
 use lib.Dec.{eqb}
 use lib.ListN.{length}
 use Rattle.lists.specs.Below.{Below}
+use Rattle.lists.specs.Sums.{All, allNil, allCons}
 use Rattle.lists.specs.Distinct.{stands}
 use Rattle.lists.specs.Sums.{keep}
 use Rattle.refusal.specs.declared.Verdict.the-variants.{Accepted}
@@ -24,7 +25,7 @@ use Rattle.fetches.specs.Fetches.{Fetch, history}
 use Rattle.fetches.specs.Shown.{Issue, issues, issuesTo, shownTo, shown}
 use Rattle.fetches.specs.Past.{nothing}
 use Rattle.fetches.specs.Right.{FetchRight}
-use Rattle.fetches.specs.Claim.{Each, nil, cons, KeyList, Exchange, Demand3, Promises}
+use Rattle.fetches.specs.Claim.{KeyList, Exchange, Demand3, Promises}
 use Rattle.fetches.proofs.Steps.{Kept, Held}
 use Rattle.fetches.proofs.Told.{all-told}
 use Rattle.fetches.proofs.View.{seenOf, seen-named, view}
@@ -92,10 +93,10 @@ module _ (schemeOf : Catalogue → Scheme) (c : Catalogue) (admitted : Admitted 
   abbrev Keyed : List Fetch → Type 0
   Keyed fs = KeyList (schemeOf c) (length (wantedOf fs)) (keysOf fs)
 
-  all-right : (store : List ℕ) → Below 256 store → (fs : List Fetch) → Below (c .messages) (wantedOf fs) → Keyed fs → Each (FetchRight schemeOf c store) fs
-  all-right store bytes [] u k = nil
+  all-right : (store : List ℕ) → Below 256 store → (fs : List Fetch) → Below (c .messages) (wantedOf fs) → Keyed fs → All (FetchRight schemeOf c store) fs
+  all-right store bytes [] u k = allNil
   all-right store bytes (f ∷ fs) u k =
-      cons (fetch-right store bytes f (u 0 (omega arith)) (first-key (schemeOf c) (length (wantedOf fs)) (f .key) (keysOf fs) k))
+      allCons (fetch-right store bytes f (u 0 (omega arith)) (first-key (schemeOf c) (length (wantedOf fs)) (f .key) (keysOf fs) k))
       (all-right store bytes fs (below-rest (c .messages) (f .wanted) (wantedOf fs) u) (other-keys (schemeOf c) (length (wantedOf fs)) (f .key) (keysOf fs) k))
 
   all-alike : (store : List ℕ) (n : ℕ) → n < c .servers → (fs gs : List Fetch) → Below (c .messages) (wantedOf fs) → Below (c .messages) (wantedOf gs)

@@ -1,10 +1,11 @@
 -- The claim on two whole lists of fetches over one catalogue and one store (demand 3; document 01, 'Lists of fetches'): any server is shown the same
 -- of both, and in each fetch of both every call does what its history calls for. `Demand3` is the claim, whole.
 use mathlib.Core.Path.{_≡_}
-use mathlib.Core.List.{List, [], _∷_, map}
+use mathlib.Core.List.{List, [], map}
 use Prim.Native.Nat.{ℕ, _<_}
 use lib.ListN.{length, getD}
 use Rattle.lists.specs.Below.{Below}
+use Rattle.lists.specs.Sums.{All}
 use Rattle.scheme.specs.Scheme.{Scheme, Valid}
 use Rattle.scheme.specs.Laws.{Laws}
 use Rattle.catalogue.specs.declared.Catalogue.{Catalogue}
@@ -13,17 +14,12 @@ use Rattle.fetches.specs.Fetches.{Fetch}
 use Rattle.fetches.specs.Shown.{issuesTo, shown}
 use Rattle.fetches.specs.Right.{FetchRight}
 
--- P holds of each fetch
-pub data Each (P : Fetch → Type 0) : List Fetch → Type 0 where
-  nil : Each P []
-  cons : {f : Fetch} {fs : List Fetch} → P f → Each P fs → Each P (f ∷ fs)
-
 -- THE CLAIM on the lists fs and gs: server n is shown the same of both, if they make the same issues to it (their issues to other servers may differ);
 -- and each fetch of both is right
 pub record Claim (schemeOf : Catalogue → Scheme) (c : Catalogue) (store : List ℕ) (n : ℕ) (fs gs : List Fetch) : Type 0 where
   pub alike : issuesTo n fs ≡ issuesTo n gs → shown schemeOf c store n fs ≡ shown schemeOf c store n gs
-  pub first : Each (FetchRight schemeOf c store) fs
-  pub second : Each (FetchRight schemeOf c store) gs
+  pub first : All (FetchRight schemeOf c store) fs
+  pub second : All (FetchRight schemeOf c store) gs
 
 -- Lists of valid keys, one for each of `count` fetches
 pub record KeyList (scheme : Scheme) (count : ℕ) (keys : List (List ℕ)) : Type 0 where

@@ -11,7 +11,8 @@ use Rattle.lists.specs.Below.{Below}
 use Rattle.lists.specs.Inserts.{insertAt}
 use Rattle.lists.proofs.Below.{allBelow-below, below-take, below-drop}
 use Rattle.symbol.specs.Sum.{Symbol, symbolAt}
-use Rattle.symbol.specs.Group.{Symbols, none, more}
+use Rattle.lists.specs.Sums.{allNil, allCons}
+use Rattle.symbol.specs.Group.{Symbols}
 use Rattle.short_code.specs.Short.{named}
 use Rattle.short_code.specs.Steps.{DigitRow, RowStored}
 use Rattle.short_code.proofs.Offsets.{digit-within, symbol-length}
@@ -81,10 +82,10 @@ module _ (stride S : ℕ) (store : List ℕ) where
 
   pub named-symbols : Below 256 store → (first : ℕ) (row : List ℕ) → RowStored first stride S store row → Symbols S (named first stride S store row)
   unfolding named
-  named-symbols bytes first [] r = none
+  named-symbols bytes first [] r = allNil
   named-symbols bytes first (zero ∷ row) r = named-symbols bytes (first + stride) row (stored-rest first 0 row r)
   named-symbols bytes first (suc d ∷ row) r =
-      more (symbol-whole bytes first d (stored-first first (suc d) row r))
+      allCons (symbol-whole bytes first d (stored-first first (suc d) row r))
       (named-symbols bytes (first + stride) row (stored-rest first (suc d) row r))
 
 -- digits below N of the messages from p on, of K messages of N - 1 symbols

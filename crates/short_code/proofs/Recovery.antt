@@ -12,14 +12,16 @@ use lib.ListN.{length, getD}
 use Rattle.lists.specs.Parts.{cut}
 use Rattle.lists.specs.Below.{allBelow, Below}
 use Rattle.lists.specs.Inserts.{insertAt}
+use Rattle.lists.specs.Sums.{allCons}
 use Rattle.lists.proofs.Below.{allBelow-below}
+use Rattle.lists.proofs.Each.{All-front, All-back}
 use Rattle.lists.proofs.Inserts.{insert-length, insert-below}
 use Rattle.lists.proofs.Mapped.{mapped-at}
 use Rattle.lists.proofs.Joined.{joined-equal}
 use Rattle.lists.proofs.Cuts.{cut-join}
 use Rattle.symbol.specs.Sum.{Sum, symbolAt, total}
-use Rattle.symbol.specs.Group.{AbelianGroup, Symbols, more}
-use Rattle.symbol.proofs.Totals.{total-found, symbols-split}
+use Rattle.symbol.specs.Group.{AbelianGroup, Symbols}
+use Rattle.symbol.proofs.Totals.{total-found}
 use Rattle.scheme.specs.Scheme.{honestAnswers}
 use Rattle.short_code.specs.Short.{digitSum, keySum, balancing, shortQuery, stridedAnswer, shortAnswer, orZeros, recovered, shortRecover, shortScheme}
 use Rattle.short_code.specs.Steps.{RowStored}
@@ -54,13 +56,14 @@ module _ (sum : Sum) (first stride N S : ℕ) (group : AbelianGroup sum S) (stor
   pub found : (d : ℕ) → suc d < N → sum .minus (askedFor (suc d)) (askedFor 0) ≡ symbolAt S store (first + wanted * stride + d)
   found d h =
       let all = named-symbols stride S store bytes first (insertAt wanted (suc d) key) (stored (suc d) h) in
-      let parts = symbols-split sum S group before (rw (named-one first stride S store wanted key within d) at all) in
-      ap₂ (sum .minus) (asked-one d h) (asked-none (omega arith)) ∙ last (parts .0) (parts .1)
+      let whole : Symbols S (before ++ (symbolAt S store (first + wanted * stride + d) ∷ behind)) =
+          rw (named-one first stride S store wanted key within d) at all in
+      ap₂ (sum .minus) (asked-one d h) (asked-none (omega arith)) ∙ last (All-front before _ whole) (All-back before _ whole)
     where
       last : Symbols S before → Symbols S (symbolAt S store (first + wanted * stride + d) ∷ behind)
           → sum .minus (total sum S (before ++ (symbolAt S store (first + wanted * stride + d) ∷ behind))) (total sum S (before ++ behind))
           ≡ symbolAt S store (first + wanted * stride + d)
-      last ps (more x qs) = total-found sum S group x ps qs
+      last ps (allCons x qs) = total-found sum S group x ps qs
 
 module _ (sum : Sum) (N K S : ℕ) (group : AbelianGroup sum S) (store : List ℕ) (whole : length store ≡ K * ((N - 1) * S)) (some : 0 < S)
     (bytes : Below 256 store) (wanted : ℕ) (message : wanted < K) (key : List ℕ) (long : length key ≡ K - 1) (good : allBelow N key ≡ true) where

@@ -10,7 +10,7 @@ use native.Mathlib.Omega.{arith}
 use borrow.Author.Tests.{eqb-true, eqb-false}
 use lib.Dec.{eqb}
 use lib.ListN.{length, getD, set, take, drop}
-use lib.Seq.{getD-set-same, getD-set-other}
+use lib.Seq.{ext-getD, getD-set-same, getD-set-other}
 use Rattle.lists.specs.Parts.{cut, put}
 use Rattle.lists.specs.Ranges.{range}
 use Rattle.lists.specs.Below.{Below}
@@ -18,7 +18,7 @@ use Rattle.lists.specs.Inserts.{insertAt}
 use Rattle.lists.proofs.Below.{below-take, below-drop}
 use Rattle.lists.proofs.Cuts.{cut-length, slot-end}
 use Rattle.lists.proofs.Puts.{put-put, put-nil}
-use Rattle.lists.proofs.Mapped.{mapped-at}
+use Rattle.lists.proofs.Mapped.{mapped-at, mapped-length}
 use Rattle.lists.proofs.Joined.{joined-equal}
 use Rattle.parameters.specs.Measures.{shortSizes}
 use Rattle.symbol.specs.Sum.{Sum}
@@ -26,7 +26,7 @@ use Rattle.symbol.specs.Group.{KeepsLength, AbelianGroup}
 use Rattle.symbol.proofs.Totals.{minus-zeros}
 use Rattle.scheme.specs.Scheme.{answersIn}
 use Rattle.short_code.specs.Short.{allZero, digitSum, keySum, balancing, shortQuery, shortAnswerLength, orZeros, recovered, shortRecover, shortScheme}
-use Rattle.short_code.specs.Steps.{Placed, InSlots, difference, fromPlaces}
+use Rattle.short_code.specs.Steps.{Placed, slotStarts, difference, fromPlaces}
 use Rattle.short_code.proofs.Digits.{balance-turn, balance-none}
 use Rattle.short_code.proofs.ZeroRow.{zeros-more, zeros-broken, length-some}
 
@@ -79,6 +79,20 @@ module _ (sum : Sum) (N S T : ℕ) (group : AbelianGroup sum S) (starts answers 
       let long : length (cut from S answers) ≡ S = cut-length from S answers (placed .inside ((d + T) % N) (turned d)) in
       ap₂ (sum .minus) (ap (orZeros S) e ∙ or-zeros-some S (cut from S answers) (omega (arith, placed .some))) (ap (orZeros S) f)
       ∙ taken-away bytes empty from long
+
+-- the first N answers begin where their slots of S bytes do
+pub record InSlots (N S : ℕ) (starts : List ℕ) : Type 0 where
+  pub at-slot : (i : ℕ) → i < N → getD starts i 0 ≡ i * S
+
+pub starts-in-slots : (N S : ℕ) (starts : List ℕ) → N ≤ 16 → starts ≡ slotStarts S → InSlots N S starts
+starts-in-slots N S starts few e = record {
+  at-slot = λ i h. ap (λ (l : List ℕ). getD l i 0) e ∙ mapped-at (λ j. j * S) 0 16 i (omega arith);
+}
+
+pub slots-are-starts : (S : ℕ) (starts : List ℕ) → length starts ≡ 16 → InSlots 16 S starts → starts ≡ slotStarts S
+slots-are-starts S starts long slots =
+    ext-getD 0 starts (slotStarts S) (long ∙ sym (mapped-length (λ i. i * S) 0 16))
+    (λ i h. slots .at-slot i (omega (arith, h, long)) ∙ sym (mapped-at (λ j. j * S) 0 16 i (omega (arith, h, long))))
 
 -- one start more is written
 pub slots-more : (S i : ℕ) (starts : List ℕ) → i < length starts → InSlots i S starts → InSlots (i + 1) S (set starts i (i * S))

@@ -1,11 +1,12 @@
 -- What the code's steps are given and what they leave behind, where the rule of Short.antt has no name for it.
 use mathlib.Core.Path.{_≡_}
 use mathlib.Core.Bool.{Bool, true, false, cond}
-use mathlib.Core.List.{List, [], _∷_}
+use mathlib.Core.List.{List, [], _∷_, map}
 use Prim.Native.Nat.{ℕ, zero, suc, _+_, _*_, _%_, _≤_, _<_}
 use lib.ListN.{length, getD}
 use Rattle.lists.specs.Below.{allBelow}
 use Rattle.lists.specs.Parts.{cut}
+use Rattle.lists.specs.Ranges.{range}
 use Rattle.symbol.specs.Sum.{Sum, totalFrom}
 
 -- A row that an answer can be made to, whichever server admits it: K digits below N
@@ -35,9 +36,9 @@ pub record Placed (N S : ℕ) (starts answers : List ℕ) : Type 0 where
   pub known : N ≤ length starts
   pub inside : (i : ℕ) → i < N → getD starts i 0 + S ≤ length answers
 
--- each answer begins where its slot of S bytes does
-pub record InSlots (N S : ℕ) (starts : List ℕ) : Type 0 where
-  pub at-slot : (i : ℕ) → i < N → getD starts i 0 ≡ i * S
+-- where the slots of 16 servers begin, of S bytes each
+abbrev pub slotStarts : ℕ → List ℕ
+slotStarts S = map (λ i. i * S) (range 0 16)
 
 -- the symbol at one place of the answer buffer, less that at another; `empty`: nothing is taken away
 unfoldable pub difference : Sum → ℕ → Bool → List ℕ → ℕ → ℕ → List ℕ

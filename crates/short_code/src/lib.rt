@@ -188,7 +188,7 @@ pub fn recover(
     ensures { λ _. ⌜ now (message .exit)
         ≡ put 0 (recoverIn (shortScheme (sumOf op) n k s) n wanted (now (key .entry)) (now (answers .entry))) (now (message .entry)) ⌝ }
 {
-    let starts = recovering::slot_starts(n, s);
+    let starts = recovering::slot_starts(s);
     let t = digit_sum(n, key);
     let empty = all_below(1, key);
     recovering::recover_row(op, n, s, t, empty, &starts, answers, message);

@@ -8,16 +8,16 @@ ghost use lib.ListN.{length};
 ghost use Rattle.lists.specs.Parts.{put};
 ghost use Rattle.lists.specs.Ranges.{range};
 ghost use Rattle.symbol.specs.Operations.{sumOf};
-ghost use Rattle.short_code.specs.Steps.{Placed, InSlots, difference, fromPlaces};
+ghost use Rattle.short_code.specs.Steps.{Placed, slotStarts, difference, fromPlaces};
 
-// Where the slots of n servers begin, if each has s bytes.
-pub fn slot_starts(n: usize, s: usize) -> [usize; 16]
-    requires { ⌜ (n ≤ 16) × (s ≤ 1048576) ⌝ }
-    ensures { λ r. ⌜ InSlots n s r ⌝ }
+// Where the slots of 16 servers begin, if each has s bytes.
+pub fn slot_starts(s: usize) -> [usize; 16]
+    requires { ⌜ s ≤ 1048576 ⌝ }
+    ensures { λ r. ⌜ r ≡ slotStarts s ⌝ }
 {
     let mut starts = [0; 16];
     let mut i = 0;
-    while i < n {
+    while i < 16 {
         starts[i] = i * s;
         i += 1;
     }

@@ -95,7 +95,7 @@ rows-of-requires c κs =
     let bounds = layout-fits n k (start .args .s) (start .pre .fits) in
     let inside : at .loop .i < length (allSets k) = omega (arith, at .before .power2 .ensures, all-length k) in
     let b = byte-at n k (at .loop .i) (at .before .before .ordered-sets .result)
-    (replicate (256 - length (allSets k)) 0) bounds (at .before .before .ordered-sets .ensures) inside in
+    _ bounds (at .before .before .ordered-sets .ensures) inside in
     (omega (arith, bounds .servers-low), b .some, omega (arith, b .rows, b .high))
 
 -- the turn of the set at hand

@@ -86,7 +86,7 @@ returns c =
     let k = at .before .before .before .args .k in
     let bytes = map byteOf (allSets k) in
     let none = drop-of-length-le bytes {i = at .loop .i} (omega (arith, at .before .power .ensures, all-length k, length-map (allSets k) byteOf)) in
-    pending-done (rw none at (at .loop .inv .1)) ∙ put-padded bytes 256 ∙ ap (λ (n : ℕ). bytes ++ replicate (256 - n) 0) (length-map (allSets k) byteOf)
+    pending-done (rw none at (at .loop .inv .1)) ∙ put-padded bytes 256
 
 pub ordered-sets-spec : {M : Type 1} → statement M
 ordered-sets-spec =

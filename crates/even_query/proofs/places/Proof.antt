@@ -20,7 +20,7 @@ bytesOf : tie.After-power → List ℕ
 bytesOf c = map byteOf (allSets (c .before .before .args .k))
 
 moreOf : tie.After-power → List ℕ
-moreOf c = replicate (256 - length (allSets (c .before .before .args .k))) 0
+moreOf c = replicate (256 - length (bytesOf c)) 0
 
 sets-many : (c : tie.After-power) → length (bytesOf c) ≡ c .power .result - 1
 unfolding bytesOf

@@ -53,7 +53,7 @@ loop-holds c =
     let at = c .before .before .before .before .before .before .args in (
       omega arith,
       refl,
-      sets-front (at .k) (c .before .power .result) (c .before .before .ordered-sets .result) (replicate (256 - length (allSets (at .k))) 0)
+      sets-front (at .k) (c .before .power .result) (c .before .before .ordered-sets .result) _
           (c .before .power .ensures) (c .before .before .ordered-sets .ensures),
       c .first-rows .ensures,
       before-none (sumOf (at .op)) (at .n) (at .k) (at .s) (at .wanted) (at .key .now) (at .answers .now) (at .message .now),

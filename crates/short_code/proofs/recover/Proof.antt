@@ -17,7 +17,7 @@ use Rattle.symbol.specs.Operations.{sumOf}
 use Rattle.symbol.proofs.Operations.{group-of}
 use Rattle.short_code.specs.Short.{digitSum}
 use Rattle.short_code.specs.Steps.{Placed, fromPlaces}
-use Rattle.short_code.proofs.Slots.{slots-placed, recover-slots}
+use Rattle.short_code.proofs.Slots.{InSlots, starts-in-slots, slots-placed, recover-slots}
 use Rattle.short_code.proofs.recover.Statement.{statement}
 use Rattle.short_code.proofs.recover.Tie as tie
 
@@ -25,7 +25,7 @@ slot-starts-requires : tie.Need-slot-starts-requires
 slot-starts-requires c κs =
     let start = c .before .before .before in
     let b = short-bounds (start .args .n) (start .args .k) (start .args .s) (start .pre .0) in
-    (b .servers-high, omega (arith, b .symbol-high))
+    omega (arith, b .symbol-high)
 
 digit-sum-requires : tie.Need-digit-sum-requires
 digit-sum-requires c κs = c .before .before .before .before .pre .1 .0 .good
@@ -37,6 +37,12 @@ slice-aggregate-recover-row : tie.Need-slice-aggregate-recover-row
 slice-aggregate-recover-row c = search needs
 
 -- the slots lie where the starts say
+in-slots : (c : tie.After-slot-starts) → let start = c .before .before .before .before in InSlots (start .args .n) (start .args .s) (c .slot-starts .result)
+in-slots c =
+    let start = c .before .before .before .before in
+    let a = start .args in
+    starts-in-slots (a .n) (a .s) (c .slot-starts .result) (short-bounds (a .n) (a .k) (a .s) (start .pre .0) .servers-high) (c .slot-starts .ensures)
+
 placed : (c : tie.After-slot-starts) → let start = c .before .before .before .before in
     Placed (start .args .n) (start .args .s) (c .slot-starts .result) (start .args .answers .now)
 unfolding shortSizes
@@ -46,7 +52,7 @@ placed c =
     let b = short-bounds (a .n) (a .k) (a .s) (start .pre .0) in
     let long : length (c .slot-starts .result) ≡ 16 = search needs in
     slots-placed (a .n) (a .s) (c .slot-starts .result) (a .answers .now) (b .servers-high) (b .symbol-low) long
-    (c .slot-starts .ensures) (start .pre .1 .1 .0)
+    (in-slots c) (start .pre .1 .1 .0)
 
 bytes : (c : tie.After-shared-slice-known2) → Below 256 (c .before .before .args .answers .now)
 bytes c i h = omega (arith, c .shared-slice-known2 .given i)
@@ -78,7 +84,7 @@ returns c =
     (g .before .before .before .all-below .ensures)
     ∙ ap (λ (l : List ℕ). put 0 l (a .message .now))
     (sym (recover-slots (sumOf (a .op)) (a .n) (a .k) (a .s) (a .wanted) (group-of (a .op) (a .s)) (a .key .now) (at .slot-starts .result)
-    (a .answers .now) (placed at) (at .slot-starts .ensures) (bytes (at .before .before))))
+    (a .answers .now) (placed at) (in-slots at) (bytes (at .before .before))))
 
 pub recover-spec : {M : Type 1} → statement M
 recover-spec =

@@ -4,16 +4,15 @@ use Prim.Native.Nat.{_-_, _*_, _≤_}
 use native.Mathlib.Nat.{not-suc-le-zero, mul-le-mul}
 use native.Mathlib.Omega.{arith}
 use lib.ListN.{length, length-set}
-use Rattle.short_code.specs.Steps.{InSlots}
-use Rattle.short_code.proofs.Slots.{slots-more}
+use Rattle.short_code.proofs.Slots.{InSlots, slots-are-starts, slots-more}
 use Rattle.short_code.proofs.recovering.slot_starts.Statement.{statement}
 use Rattle.short_code.proofs.recovering.slot_starts.Tie as tie
 
 abbrev Inv-loop : tie.InvT-loop
-Inv-loop n s starts₀ i₀ starts i = (i ≤ n) × (length starts ≡ 16) × InSlots i s starts
+Inv-loop s starts₀ i₀ starts i = (i ≤ 16) × (length starts ≡ 16) × InSlots i s starts
 
 abbrev μ-loop : tie.MeasureT-loop
-μ-loop n s starts₀ i₀ starts i = n - i
+μ-loop s starts₀ i₀ starts i = 16 - i
 
 loop-holds : tie.Need-loop-holds Inv-loop μ-loop
 loop-holds c = (omega arith, refl, record { at-slot = λ i h. absurd (not-suc-le-zero h) })
@@ -50,8 +49,8 @@ loop-again c =
 returns : tie.Need-returns Inv-loop μ-loop
 returns c =
     let at = c .before in
-    let last : at .loop .i ≡ at .before .args .n = omega arith in
-    rw last at (at .loop .inv .2)
+    let last : at .loop .i ≡ 16 = omega arith in
+    slots-are-starts (at .before .args .s) (at .loop .starts) (at .loop .inv .1) (rw last at (at .loop .inv .2))
 
 pub slot-starts-spec : {M : Type 1} → statement M
 slot-starts-spec =
