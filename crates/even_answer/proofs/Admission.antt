@@ -18,8 +18,7 @@ use Rattle.lists.proofs.Cuts.{front-is, front-fits}
 use Rattle.lists.proofs.Each.{All-get, All-flatMap, All-imp}
 use Rattle.parameters.specs.Bounds.{evenFits}
 use Rattle.parameters.specs.Measures.{evenSizes}
-use Rattle.even_places.specs.Sets.{members}
-use Rattle.even_places.specs.Rule.{positions}
+use Rattle.even_places.specs.Rule.{members, positions}
 use Rattle.even_places.proofs.AllSets.{layout-long}
 use Rattle.even_places.proofs.Positions.{positions-length}
 use Rattle.even_scheme.specs.Even.{numbersOf, evenAdmits}

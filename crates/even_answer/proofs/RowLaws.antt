@@ -21,7 +21,7 @@ use Rattle.parameters.specs.Measures.{evenSizes}
 use Rattle.symbol.specs.Sum.{Symbol, Sum, totalFrom, total}
 use Rattle.symbol.specs.Group.{KeepsLength, AbelianGroup, Symbols}
 use Rattle.symbol.proofs.Totals.{total-symbol}
-use Rattle.even_places.specs.Sets.{onesIn, members}
+use Rattle.even_places.specs.Rule.{onesIn, members}
 use Rattle.even_scheme.specs.Even.{symbolOf, rowAnswer, rowAnswers}
 use Rattle.even_answer.specs.Answering.{added}
 

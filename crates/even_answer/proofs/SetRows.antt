@@ -14,8 +14,7 @@ use Rattle.lists.proofs.Each.{All-replicate}
 use Rattle.parameters.specs.Measures.{evenSizes}
 use Rattle.symbol.specs.Sum.{Sum}
 use Rattle.symbol.specs.Group.{AbelianGroup}
-use Rattle.even_places.specs.Sets.{onesIn, members, allSets}
-use Rattle.even_places.specs.Rule.{layout}
+use Rattle.even_places.specs.Rule.{onesIn, members, allSets, layout}
 use Rattle.even_places.proofs.Positions.{positions-length}
 use Rattle.even_places.proofs.AllSets.{layout-by-set}
 use Rattle.even_scheme.specs.Even.{rowAnswer, rowAnswers}

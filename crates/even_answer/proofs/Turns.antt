@@ -17,7 +17,7 @@ use Rattle.lists.proofs.Cuts.{slot-end}
 use Rattle.lists.proofs.Writing.{Pending, pending-part, pending-as}
 use Rattle.symbol.specs.Sum.{Sum}
 use Rattle.symbol.specs.Group.{AbelianGroup}
-use Rattle.even_places.specs.Sets.{onesIn, byteOf, allSets}
+use Rattle.even_places.specs.Rule.{byteOf, onesIn, allSets}
 use Rattle.even_scheme.specs.Even.{rowAnswer, rowAnswers, evenAnswer}
 use Rattle.even_layout.specs.Layout.{setIn, rowsOf}
 use Rattle.even_layout.proofs.Bytes.{membersFrom, members-kept}

@@ -9,7 +9,7 @@ use Rattle.lists.specs.Below.{Below}
 use Rattle.parameters.specs.Bounds.{evenFits}
 use Rattle.parameters.specs.Measures.{evenSizes}
 use Rattle.symbol.specs.Sum.{Sum}
-use Rattle.even_places.specs.Sets.{onesIn}
+use Rattle.even_places.specs.Rule.{onesIn}
 use Rattle.even_layout.specs.Layout.{setIn}
 
 -- where message p's number is marked

@@ -18,7 +18,7 @@ use Rattle.lists.proofs.Sums.{sum-append}
 use Rattle.lists.proofs.Keep.{keep-append}
 use Rattle.symbol.specs.Sum.{Sum}
 use Rattle.scheme.specs.Scheme.{answersIn}
-use Rattle.even_places.specs.Sets.{has, onesIn, allSets, byteOf}
+use Rattle.even_places.specs.Rule.{has, byteOf, onesIn, allSets}
 use Rattle.even_places.proofs.Bytes.{byte-ones, byte-has}
 use Rattle.even_places.proofs.ByteParts.{byte-covers}
 use Rattle.even_places.proofs.WantedCells.{cellsOf}

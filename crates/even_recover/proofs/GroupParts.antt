@@ -13,8 +13,7 @@ use Rattle.lists.proofs.Ranges.{All-range}
 use Rattle.lists.proofs.Mapped.{map-at, map-all}
 use Rattle.symbol.specs.Sum.{Sum}
 use Rattle.scheme.specs.Scheme.{answersIn}
-use Rattle.even_places.specs.Sets.{onesIn, allSets, byteOf}
-use Rattle.even_places.specs.Rule.{queryCells}
+use Rattle.even_places.specs.Rule.{byteOf, onesIn, queryCells, allSets}
 use Rattle.even_places.proofs.WantedCells.{cellsOf, WantedCell, wanted-cell}
 use Rattle.even_scheme.specs.Even.{entryAt, evenKeyGood, evenQuery, wantedPlace, recoveredPart, evenScheme}
 use Rattle.even_scheme.proofs.Symbols.{number-below}

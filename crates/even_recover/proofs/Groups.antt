@@ -18,8 +18,7 @@ use Rattle.parameters.specs.Measures.{evenRows, evenSizes}
 use Rattle.parameters.proofs.Bounds.{EvenBounds}
 use Rattle.symbol.specs.Sum.{Sum}
 use Rattle.scheme.specs.Scheme.{answersIn}
-use Rattle.even_places.specs.Sets.{has, onesIn, byteOf}
-use Rattle.even_places.specs.Rule.{rows, layout, firstRow, others}
+use Rattle.even_places.specs.Rule.{has, byteOf, onesIn, others, rows, layout, firstRow}
 use Rattle.even_places.proofs.Bytes.{byte-ones, byte-below}
 use Rattle.even_places.proofs.ByteParts.{byte-before, byte-without}
 use Rattle.even_places.proofs.Counts.{rows-length, row-count-is}

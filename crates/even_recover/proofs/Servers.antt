@@ -8,7 +8,7 @@ use Rattle.lists.specs.Ranges.{range}
 use Rattle.lists.proofs.Cuts.{front-is, front-fits}
 use Rattle.symbol.specs.Sum.{Sum}
 use Rattle.scheme.specs.Scheme.{answersIn}
-use Rattle.even_places.specs.Sets.{byteOf, allSets}
+use Rattle.even_places.specs.Rule.{byteOf, allSets}
 use Rattle.lists.specs.Assembled.{assemble}
 use Rattle.even_scheme.specs.Even.{serverParts, recoveredParts, evenScheme}
 use Rattle.even_layout.proofs.Blocks.{all-bytes}

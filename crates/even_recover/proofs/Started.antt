@@ -14,7 +14,7 @@ use Rattle.parameters.specs.Bounds.{evenFits}
 use Rattle.parameters.specs.Measures.{evenRows}
 use Rattle.parameters.proofs.Bounds.{EvenBounds, even-bounds}
 use Rattle.symbol.specs.Sum.{Sum}
-use Rattle.even_places.specs.Sets.{byteOf, allSets}
+use Rattle.even_places.specs.Rule.{byteOf, allSets}
 use Rattle.lists.specs.Assembled.{assemble}
 use Rattle.even_scheme.specs.Even.{evenKeyGood, evenQuery}
 use Rattle.even_layout.specs.Layout.{firstRows, firstRowOf}

@@ -11,7 +11,7 @@ ghost use Rattle.symbol.specs.Operations.{sumOf};
 ghost use Rattle.parameters.specs.Bounds.{evenFits};
 ghost use Rattle.parameters.specs.Measures.{evenRows};
 ghost use Rattle.scheme.specs.Scheme.{answersIn};
-ghost use Rattle.even_places.specs.Sets.{byteOf, allSets};
+ghost use Rattle.even_places.specs.Rule.{byteOf, allSets};
 ghost use Rattle.even_scheme.specs.Even.{evenKeyGood, serverParts, recoveredParts, evenScheme};
 ghost use Rattle.even_layout.specs.Layout.{firstRows};
 ghost use Rattle.even_recover.specs.Rows.{serverRowsOf, groupSymbol, groupParts, groupOf, setParts, Given, Held, Grouped, Named, Ready};

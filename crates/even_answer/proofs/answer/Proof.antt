@@ -15,8 +15,7 @@ use Rattle.parameters.specs.Measures.{evenSizes}
 use Rattle.parameters.proofs.Bounds.{even-bounds}
 use Rattle.symbol.specs.Operations.{sumOf}
 use Rattle.symbol.proofs.Operations.{group-of}
-use Rattle.even_places.specs.Sets.{allSets}
-use Rattle.even_places.specs.Rule.{layout}
+use Rattle.even_places.specs.Rule.{allSets, layout}
 use Rattle.even_places.proofs.AllSets.{layout-long}
 use Rattle.even_scheme.specs.Even.{rowAnswers, evenAnswer}
 use Rattle.even_scheme.proofs.Answers.{layout-length}

@@ -14,7 +14,7 @@ use Rattle.parameters.proofs.Bounds.{even-bounds}
 use Rattle.symbol.specs.Sum.{totalFrom}
 use Rattle.symbol.specs.Operations.{sumOf}
 use Rattle.symbol.proofs.Operations.{group-of}
-use Rattle.even_places.specs.Sets.{members}
+use Rattle.even_places.specs.Rule.{members}
 use Rattle.even_scheme.specs.Even.{symbolOf, rowAnswer}
 use Rattle.even_layout.specs.Layout.{setIn}
 use Rattle.even_layout.proofs.Bytes.{membersFrom, members-kept, members-skipped}

@@ -8,7 +8,7 @@ use lib.ListN.{length, replicate}
 use lib.Seq.{length-take-le}
 use Rattle.parameters.proofs.Bounds.{even-bounds}
 use Rattle.symbol.specs.Operations.{sumOf}
-use Rattle.even_places.specs.Sets.{allSets}
+use Rattle.even_places.specs.Rule.{allSets}
 use Rattle.lists.specs.Assembled.{assemble}
 use Rattle.even_layout.specs.Layout.{firstRows}
 use Rattle.even_layout.proofs.Blocks.{subsets-few}
