@@ -19,7 +19,7 @@ pub mod recovering;
 pub mod rows;
 
 // Whether every digit is below n.
-fn all_below(n: usize, digits: &[u8]) -> bool
+pub fn all_below(n: usize, digits: &[u8]) -> bool
     ensures { λ r. ⌜ r ≡ allBelow n (now (digits .entry)) ⌝ }
 {
     let mut i = 0;
@@ -33,7 +33,7 @@ fn all_below(n: usize, digits: &[u8]) -> bool
 }
 
 // (a + b) modulo n, without a division.
-fn add_modulo(n: usize, a: usize, b: usize) -> usize
+pub fn add_modulo(n: usize, a: usize, b: usize) -> usize
     requires { ⌜ (a < n) × (b < n) ⌝ }
     ensures { λ r. ⌜ r ≡ (a + b) % n ⌝ }
 {
@@ -45,7 +45,7 @@ fn add_modulo(n: usize, a: usize, b: usize) -> usize
 }
 
 // The digits summed up, modulo n.
-fn digit_sum(n: usize, digits: &[u8]) -> usize
+pub fn digit_sum(n: usize, digits: &[u8]) -> usize
     requires { ⌜ allBelow n (now digits) ≡ true ⌝ }
     ensures { λ r. ⌜ r ≡ digitSum (now (digits .entry)) % n ⌝ }
 {
