@@ -57,7 +57,7 @@ module _ (sum : Sum) (first stride N S : ℕ) (group : AbelianGroup sum S) (stor
   found d h =
       let all = named-symbols stride S store bytes first (insertAt wanted (suc d) key) (stored (suc d) h) in
       let whole : Symbols S (before ++ (symbolAt S store (first + wanted * stride + d) ∷ behind)) =
-          rw (named-one first stride S store wanted key within d) at all in
+      rw (named-one first stride S store wanted key within d) at all in
       ap₂ (sum .minus) (asked-one d h) (asked-none (omega arith)) ∙ last (All-front before _ whole) (All-back before _ whole)
     where
       last : Symbols S before → Symbols S (symbolAt S store (first + wanted * stride + d) ∷ behind)
