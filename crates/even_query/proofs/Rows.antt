@@ -21,7 +21,7 @@ use Rattle.even_places.specs.Rule.{onesIn, members, allSets}
 use Rattle.even_layout.specs.Layout.{LayoutBounds, setIn, rowsOf}
 use Rattle.even_layout.proofs.Tables.{rows-high}
 use Rattle.even_ranks.specs.Counts.{Stands, countersOf, setCounted}
-use Rattle.even_ranks.specs.Walk.{placeOf, plain, joined, originOf, rowPlaces, setPlaces, setsPlaces}
+use Rattle.even_ranks.specs.Walk.{originPlace, plain, joined, originOf, rowPlaces, setPlaces, setsPlaces}
 use Rattle.even_ranks.specs.declared.Origin.{Origin}
 use Rattle.even_ranks.proofs.Steps.{Lent, stands-count, stands-set}
 use Rattle.even_query.specs.Query.{OriginWithin}
@@ -74,12 +74,12 @@ ranks-lent K k byte at counts l = rw (add-sub-cancel-left at K, l .begins, l .se
 -- the row numbered i of a set, by the origin that was found for it
 pub record RowTurn (N K k server byte i : ℕ) (totals ranks : List ℕ) (o : Origin) (at : ℕ) (bytes buffer : List ℕ) (end : ℕ) (out : List ℕ) : Type 0 where
   pub within : OriginWithin o
-  pub small : Below 256 (map (placeOf N k totals ranks o) (members 0 (setIn K byte)))
+  pub small : Below 256 (map (originPlace N k totals ranks o) (members 0 (setIn K byte)))
   pub room : end + length (members 0 (setIn K byte)) ≤ length out
   pub rest-small : Below 256 (rowsFrom N k server totals ranks (setIn K byte) (i + 1))
   pub rest :
       Pending at bytes buffer (end + length (members 0 (setIn K byte))) (rowsFrom N k server totals ranks (setIn K byte) (i + 1))
-      (put end (map (placeOf N k totals ranks o) (members 0 (setIn K byte))) out)
+      (put end (map (originPlace N k totals ranks o) (members 0 (setIn K byte))) out)
 
 pub row-turn : {N K k server byte i : ℕ} {totals ranks : List ℕ} {joins : Bool} {o : Origin} {at : ℕ} {bytes buffer : List ℕ} {end : ℕ} {out : List ℕ}
     → Stands K byte → 2 ≤ N → K ≤ 8 → i < (N - 1) ^ (onesIn (setIn K byte) - 1)
@@ -91,11 +91,11 @@ row-turn {N} {K} {k} {server} {byte} {i} {totals} {ranks} {joins} {o} {end = end
     let A = setIn K byte in
     let found : o ≡ originOf N k server A i =
     f ∙ ap (λ (t : Bool). cond t (joined N server (count byte) i) (plain N server (count byte) i)) e ∙ origin-byte K k byte stands N server i in
-    let row = map (placeOf N k totals ranks o) (members 0 A) in
+    let row = map (originPlace N k totals ranks o) (members 0 A) in
     let rest = rowsFrom N k server totals ranks A (i + 1) in
     let more : rowsFrom N k server totals ranks A i ≡ row ++ rest =
-    rows-more N k server totals ranks A i inside ∙ ap (λ (x : Origin). map (placeOf N k totals ranks x) (members 0 A) ++ rest) (sym found) in
-    let size : length row ≡ length (members 0 A) = length-map (members 0 A) (placeOf N k totals ranks o) in
+    rows-more N k server totals ranks A i inside ∙ ap (λ (x : Origin). map (originPlace N k totals ranks x) (members 0 A) ++ rest) (sym found) in
+    let size : length row ≡ length (members 0 A) = length-map (members 0 A) (originPlace N k totals ranks o) in
     let here = rw more at left in
     record {
       within = rw found (origin-within K k byte stands N server i wide few);

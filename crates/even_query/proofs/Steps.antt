@@ -20,7 +20,7 @@ use Rattle.even_places.proofs.Bytes.{byte-has}
 use Rattle.even_places.proofs.AllSets.{ones-most}
 use Rattle.even_layout.specs.Layout.{setIn}
 use Rattle.even_ranks.specs.Counts.{Stands, takers, taken, takenTable}
-use Rattle.even_ranks.specs.Walk.{placeIn, plain, joined, isJoined, originOf}
+use Rattle.even_ranks.specs.Walk.{placeAmong, plain, joined, isJoined, originOf}
 use Rattle.even_layout.proofs.Firsts.{setIn-length}
 use Rattle.even_ranks.proofs.Steps.{stands-count}
 use Rattle.even_query.specs.Query.{Tables, OriginWithin}
@@ -37,8 +37,8 @@ table-length N k totals = mapped-length (λ j. taken N k totals (j / 8) (j % 8))
 
 -- the place that the code computes from the tables
 pub place-read : (N k b p rows turn rank number : ℕ) (totals table : List ℕ) → Tables N k totals table → b < 8 → p < 8
-    → N * getD table (b * 8 + p) 0 + rows * (turn * takers k totals b p + rank) + number ≡ placeIn N k totals b p rows turn rank number
-unfolding placeIn
+    → N * getD table (b * 8 + p) 0 + rows * (turn * takers k totals b p + rank) + number ≡ placeAmong N k totals b p rows turn rank number
+unfolding placeAmong
 place-read N k b p rows turn rank number totals table t hb hp =
     ap (λ s. N * s + rows * (turn * takers k totals b p + rank) + number) (ap (λ l. getD l (b * 8 + p) 0) (t .filled) ∙ table-at N k b p totals hb hp)
 

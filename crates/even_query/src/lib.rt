@@ -15,7 +15,7 @@ ghost use Rattle.even_places.specs.Rule.{byteOf, members, queryCells, allSets};
 ghost use Rattle.even_scheme.specs.Even.{evenQuery};
 ghost use Rattle.even_layout.specs.Layout.{setIn};
 ghost use Rattle.even_ranks.specs.Counts.{Stands, noCounts};
-ghost use Rattle.even_ranks.specs.Walk.{placeIn, placeOf, setPlaces, setsPlaces};
+ghost use Rattle.even_ranks.specs.Walk.{placeAmong, originPlace, setPlaces, setsPlaces};
 ghost use Rattle.even_query.specs.Query.{Asks, Tables, OriginWithin, Keyed, entries};
 
 // The place of message p in a row of one block, by whose turn it is, its set's rank and its number in the set.
@@ -32,8 +32,8 @@ fn place_in(
     number: usize,
 ) -> usize
     requires { ⌜ Tables n wanted (now totals) (now taken) × (block < 8) × (p < 8) × (1 ≤ rows)
-        × (placeIn n wanted (now totals) block p rows turn rank number < 256) ⌝ }
-    ensures { λ r. ⌜ r ≡ placeIn n wanted (now (totals .entry)) block p rows turn rank number ⌝ }
+        × (placeAmong n wanted (now totals) block p rows turn rank number < 256) ⌝ }
+    ensures { λ r. ⌜ r ≡ placeAmong n wanted (now (totals .entry)) block p rows turn rank number ⌝ }
 {
     n * taken[block * 8 + p]
         + rows * (turn * even_ranks::takers(wanted, totals, block, p) + rank)
@@ -51,8 +51,8 @@ fn place(
     p: usize,
 ) -> usize
     requires { ⌜ Tables n wanted (now totals) (now taken) × OriginWithin o × (p < 8) × (p < length (now ranks))
-        × (placeOf n wanted (now totals) (now ranks) o p < 256) ⌝ }
-    ensures { λ r. ⌜ r ≡ placeOf n wanted (now (totals .entry)) (now (ranks .entry)) o p ⌝ }
+        × (originPlace n wanted (now totals) (now ranks) o p < 256) ⌝ }
+    ensures { λ r. ⌜ r ≡ originPlace n wanted (now (totals .entry)) (now (ranks .entry)) o p ⌝ }
 {
     if p == wanted {
         return place_in(
@@ -96,10 +96,10 @@ fn write_row(
     at: usize,
 ) -> usize
     requires { ⌜ Tables n wanted (now totals) (now taken) × OriginWithin o × (k ≤ 8) × (length (now ranks) ≡ k)
-        × Below 256 (map (placeOf n wanted (now totals) (now ranks) o) (members 0 (setIn k set)))
+        × Below 256 (map (originPlace n wanted (now totals) (now ranks) o) (members 0 (setIn k set)))
         × (at + length (members 0 (setIn k set)) ≤ length (now out)) ⌝ }
     ensures { λ r. ⌜ (r ≡ at + length (members 0 (setIn k set)))
-        × (now (out .exit) ≡ put at (map (placeOf n wanted (now (totals .entry)) (now (ranks .entry)) o) (members 0 (setIn k set))) (now (out .entry))) ⌝ }
+        × (now (out .exit) ≡ put at (map (originPlace n wanted (now (totals .entry)) (now (ranks .entry)) o) (members 0 (setIn k set))) (now (out .entry))) ⌝ }
 {
     let mut rest = set;
     let mut end = at;

@@ -25,7 +25,7 @@ use Rattle.even_places.proofs.RepeatedSets.{before}
 use Rattle.even_places.proofs.Closed.{side-at, wanted-at, wanted-first}
 use Rattle.even_places.proofs.AllSets.{IsSet, all-sets, ones-most}
 use Rattle.even_ranks.specs.Counts.{counter, noCounts, countersOf, countedAll, totalsOf}
-use Rattle.even_ranks.specs.Walk.{placeOf, isJoined, plain, joined, originOf}
+use Rattle.even_ranks.specs.Walk.{originPlace, isJoined, plain, joined, originOf}
 use Rattle.even_ranks.proofs.Placed.{place-side, place-first, place-wanted, wanted-one}
 use Rattle.even_ranks.proofs.Counters.{ofKind, counts-tell}
 use Rattle.even_ranks.proofs.Ranking.{with-wanted, with-reduced, rank-side, rank-wanted, rank-below}
@@ -53,8 +53,8 @@ module _ (N K k : ℕ) (wide : 1 < N) (wanted : k < K) (few : K ≤ 8) where
 
       -- the row's set lacks k
       side-cell : (b i p : ℕ) → onesIn A ≡ suc b → has k A ≡ false → i < (N - 1) ^ b → p < K → has p A ≡ true → p ≢ k
-          → At b i p ≡ some (placeOf N k (totalsOf K k) ranks (plain N n (onesIn A) i) p)
-      unfolding At placeOf plain
+          → At b i p ≡ some (originPlace N k (totalsOf K k) ranks (plain N n (onesIn A) i) p)
+      unfolding At originPlace plain
       side-cell b i p many lack hi hp g d =
           side-at N K k wide wanted b n i p A (known .long) many lack hp g hi
           ∙ ap some
@@ -69,8 +69,8 @@ module _ (N K k : ℕ) (wide : 1 < N) (wanted : k < K) (few : K ≤ 8) where
               ∙ sym (ranks-tell b p many hp ∙ ap (λ t. with p (keep (ofKind k t b) D)) lack)
 
       -- the row is of k alone
-      first-cell : (i : ℕ) → onesIn A ≡ 1 → has k A ≡ true → i < (N - 1) ^ 0 → At 0 i k ≡ some (placeOf N k (totalsOf K k) ranks (plain N n (onesIn A) i) k)
-      unfolding At placeOf plain
+      first-cell : (i : ℕ) → onesIn A ≡ 1 → has k A ≡ true → i < (N - 1) ^ 0 → At 0 i k ≡ some (originPlace N k (totalsOf K k) ranks (plain N n (onesIn A) i) k)
+      unfolding At originPlace plain
       first-cell i many g hi =
           ap (λ j. At 0 j k) zeroth
           ∙ wanted-first N K k wide wanted n A server (known .long) many g
@@ -126,8 +126,8 @@ module _ (N K k : ℕ) (wide : 1 < N) (wanted : k < K) (few : K ≤ 8) where
         two-less : onesIn A - 2 ≡ b
         two-less = omega arith
 
-        wanted-cell : At (suc b) i k ≡ some (placeOf N k (totalsOf K k) ranks (joined N n (onesIn A) i) k)
-        unfolding At placeOf joined q j r
+        wanted-cell : At (suc b) i k ≡ some (originPlace N k (totalsOf K k) ranks (joined N n (onesIn A) i) k)
+        unfolding At originPlace joined q j r
         wanted-cell =
             ap (λ s. At (suc b) s k) (sym whole)
             ∙ wanted-at N K k wide wanted b n j r A server (known .long) many has-k j-low r-low
@@ -141,8 +141,8 @@ module _ (N K k : ℕ) (wide : 1 < N) (wanted : k < K) (few : K ≤ 8) where
                 ∙ length-map (keep (ofKind k true (suc b)) D) (λ B. set B k false)
                 ∙ sym (joined-ranks k wanted ∙ with-wanted K k wanted (suc b) D)
 
-        other-cell : (p : ℕ) → p < K → has p A ≡ true → p ≢ k → At (suc b) i p ≡ some (placeOf N k (totalsOf K k) ranks (joined N n (onesIn A) i) p)
-        unfolding At placeOf joined q j r has
+        other-cell : (p : ℕ) → p < K → has p A ≡ true → p ≢ k → At (suc b) i p ≡ some (originPlace N k (totalsOf K k) ranks (joined N n (onesIn A) i) p)
+        unfolding At originPlace joined q j r has
         other-cell p hp g d =
             ap (λ s. At (suc b) s p) (sym whole)
             ∙ sym (getD-set-other (getD (ofSet A (block N K k (suc b) n)) (j * q + r) []) k p none none d)
@@ -165,12 +165,12 @@ module _ (N K k : ℕ) (wide : 1 < N) (wanted : k < K) (few : K ≤ 8) where
       -- every cell of a row
       pub cell-is : (b i p : ℕ) → onesIn A ≡ suc b → i < (N - 1) ^ b → p < K → has p A ≡ true
           → getD (getD (ofSet A (block N K k b n)) i []) p none
-          ≡ some (placeOf N k (totalsOf K k) (cut (countersOf k A) (length A) (countedAll k D noCounts)) (originOf N k n A i) p)
+          ≡ some (originPlace N k (totalsOf K k) (cut (countersOf k A) (length A) (countedAll k D noCounts)) (originOf N k n A i) p)
       unfolding At ranks originOf isJoined
       cell-is b i p many hi hp g = go (has k A) refl (ℕ-discrete p k) b many hi
         where
           go : (t : Bool) → has k A ≡ t → Dec (p ≡ k) → (c : ℕ) → onesIn A ≡ suc c → i < (N - 1) ^ c
-              → At c i p ≡ some (placeOf N k (totalsOf K k) ranks (cond (t && ltb 1 (onesIn A)) (joined N n (onesIn A) i) (plain N n (onesIn A) i)) p)
+              → At c i p ≡ some (originPlace N k (totalsOf K k) ranks (cond (t && ltb 1 (onesIn A)) (joined N n (onesIn A) i) (plain N n (onesIn A) i)) p)
           go false e (yes f) c m h = absurd (false≢true (sym e ∙ ap (λ s. has s A) (sym f) ∙ g))
           go false e (no d) c m h = side-cell c i p m e h hp g d
           go true e (yes f) zero m h = rw (le-ltb 1 (onesIn A) (omega arith), f) (first-cell i m e h)

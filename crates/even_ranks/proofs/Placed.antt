@@ -1,4 +1,4 @@
--- The places that the totals give (`placeIn`) are the rule's: of other messages in side rows (`place-side`), of the wanted one in the first
+-- The places that the totals give (`placeAmong`) are the rule's: of other messages in side rows (`place-side`), of the wanted one in the first
 -- block (`place-first`) and in the others (`place-wanted`).
 use Prim.Native.Nat.{ℕ, suc, _+_, _-_, _*_, _^_, _≤_, _<_}
 use native.Mathlib.Nat.{mul-add, add-mul, mul-assoc, mul-left-comm, mul-zero, mul-one, one-mul, pow-zero}
@@ -15,7 +15,7 @@ use Rattle.even_places.specs.Rule.{sideSets, allSets}
 use Rattle.even_places.specs.Counting.{with, used, joins}
 use Rattle.even_places.proofs.AllSets.{all-sets}
 use Rattle.even_ranks.specs.Counts.{counter, noCounts, countedAll, totalsOf, takers, taken}
-use Rattle.even_ranks.specs.Walk.{placeIn}
+use Rattle.even_ranks.specs.Walk.{placeAmong}
 use Rattle.even_ranks.proofs.Counters.{ofKind, counts-tell}
 use Rattle.even_ranks.proofs.Ranking.{side-total, sources-total, wanted-total}
 
@@ -32,8 +32,8 @@ module _ (N K k : ℕ) (wide : 1 < N) (wanted : k < K) (few : K ≤ 8) where
 
   -- the places of other messages, taken by side rows
   pub place-side : (b p m rank r : ℕ) → b < K → p < K → p ≢ k
-      → placeIn N k (totalsOf K k) b p ((N - 1) ^ b) m rank r ≡ used N (λ j. with p (sideSets N K k j)) b m + (N - 1) ^ b * rank + r
-  unfolding placeIn taken used
+      → placeAmong N k (totalsOf K k) b p ((N - 1) ^ b) m rank r ≡ used N (λ j. with p (sideSets N K k j)) b m + (N - 1) ^ b * rank + r
+  unfolding placeAmong taken used
   place-side b p m rank r hb hp d =
       omega (arith, ap (λ s. N * s) before-b, ap (λ s. m * s) (share b hb), mul-add q (m * T) rank, mul-left-comm q m T)
     where
@@ -63,8 +63,8 @@ module _ (N K k : ℕ) (wide : 1 < N) (wanted : k < K) (few : K ≤ 8) where
       ∙ sym (wanted-total K k wanted N wide 0 (omega arith) ∙ ap (λ s. s * with k (keep (ofKind k true 0) (allSets K))) (pow-zero (N - 1)))
 
   -- the places of the wanted message, in the first block and in the others
-  pub place-first : (n rank r : ℕ) → rank ≡ 0 → r ≡ 0 → placeIn N k (totalsOf K k) 0 k ((N - 1) ^ 0) n rank r ≡ n
-  unfolding placeIn taken sum range
+  pub place-first : (n rank r : ℕ) → rank ≡ 0 → r ≡ 0 → placeAmong N k (totalsOf K k) 0 k ((N - 1) ^ 0) n rank r ≡ n
+  unfolding placeAmong taken sum range
   place-first n rank r e f =
       omega (arith, mul-zero N, ap (λ s. s * (n * T + rank)) (pow-zero (N - 1)), one-mul (n * T + rank), ap (λ s. n * s) one, mul-one n)
     where
@@ -75,9 +75,9 @@ module _ (N K k : ℕ) (wide : 1 < N) (wanted : k < K) (few : K ≤ 8) where
       one = takers-wanted 0 (omega arith) ∙ wanted-one
 
   pub place-wanted : (b n j rank r : ℕ) → suc b < K
-      → placeIn N k (totalsOf K k) (suc b) k ((N - 1) ^ b) (n * (N - 1) + j) rank r
+      → placeAmong N k (totalsOf K k) (suc b) k ((N - 1) ^ b) (n * (N - 1) + j) rank r
       ≡ used N (joins N K k) (suc b) n + j * length (sideSets N K k b) + (N - 1) ^ b * rank + r
-  unfolding placeIn used joins
+  unfolding placeAmong used joins
   place-wanted b n j rank r h =
       omega (
         arith,

@@ -22,7 +22,7 @@ use Rattle.even_places.proofs.RowNumbers.{setRows, rows-by-set, setRows-length,
 use Rattle.even_places.proofs.Flat.{inside}
 use Rattle.even_places.proofs.AllSets.{IsSet, all-sets}
 use Rattle.even_ranks.specs.Counts.{noCounts, countersOf, setCounted, countedAll, totalsOf}
-use Rattle.even_ranks.specs.Walk.{placeOf, originOf, rowPlaces, setPlaces, setsPlaces, walked}
+use Rattle.even_ranks.specs.Walk.{originPlace, originOf, rowPlaces, setPlaces, setsPlaces, walked}
 use Rattle.even_ranks.proofs.Cells.{cell-is}
 
 -- the places of rows, in order
@@ -81,7 +81,7 @@ module _ (N K k n : ℕ) (wide : 1 < N) (wanted : k < K) (few : K ≤ 8) (server
       ranks = cut (countersOf k A) (length A) (countedAll k D noCounts)
 
       places : ℕ → List ℕ
-      places i = map (placeOf N k (totalsOf K k) ranks (originOf N k n A i)) (members 0 A)
+      places i = map (originPlace N k (totalsOf K k) ranks (originOf N k n A i)) (members 0 A)
 
       size : length (setRows N K k n A) ≡ (N - 1) ^ b
       size = setRows-length N K k wide wanted n server A known
@@ -99,7 +99,7 @@ module _ (N K k n : ℕ) (wide : 1 < N) (wanted : k < K) (few : K ≤ 8) (server
           its-set = row-set N K k wide wanted n server A i known (omega (arith, size))
 
           f : ℕ → ℕ
-          f = placeOf N k (totalsOf K k) ranks (originOf N k n A i)
+          f = originPlace N k (totalsOf K k) ranks (originOf N k n A i)
 
           cell : (p : ℕ) → has p A ≡ true → getD r p none ≡ some (f p)
           cell p g = cell-is N K k wide wanted few D L A split n server b i p many (omega (arith, size)) (omega (arith, has-low A p g, known .long)) g

@@ -16,14 +16,14 @@ use Rattle.even_ranks.specs.declared.Origin.{Origin}
 
 module _ (N k : ℕ) (totals : List ℕ) where
   -- in block b, in a turn with `rows` rows for each set: the place of p in the row numbered `number` of the set of this rank
-  unfoldable pub placeIn : ℕ → ℕ → ℕ → ℕ → ℕ → ℕ → ℕ
-  placeIn b p rows turn rank number = N * taken N k totals b p + rows * (turn * takers k totals b p + rank) + number
+  unfoldable pub placeAmong : ℕ → ℕ → ℕ → ℕ → ℕ → ℕ → ℕ
+  placeAmong b p rows turn rank number = N * taken N k totals b p + rows * (turn * takers k totals b p + rank) + number
 
-  unfoldable pub placeOf : List ℕ → Origin → ℕ → ℕ
-  placeOf ranks o p =
+  unfoldable pub originPlace : List ℕ → Origin → ℕ → ℕ
+  originPlace ranks o p =
       cond (eqb p k)
-      (placeIn (o .block) p (o .rows) (o .turn) (getD ranks p 0) (o .number))
-      (placeIn (o .source) p (o .rows) (o .server) (getD ranks p 0) (o .number))
+      (placeAmong (o .block) p (o .rows) (o .turn) (getD ranks p 0) (o .number))
+      (placeAmong (o .source) p (o .rows) (o .server) (getD ranks p 0) (o .number))
 
 -- ---- Rows: the one numbered i of a set of m messages
 
@@ -61,7 +61,7 @@ module _ (N k server : ℕ) where
   module _ (totals : List ℕ) where
     -- the places of the row numbered i of set A, by its messages' ranks
     unfoldable pub rowPlaces : List ℕ → List Bool → ℕ → List ℕ
-    rowPlaces ranks A i = map (placeOf N k totals ranks (originOf A i)) (members 0 A)
+    rowPlaces ranks A i = map (originPlace N k totals ranks (originOf A i)) (members 0 A)
 
     -- those of all rows of set A
     unfoldable pub setPlaces : List ℕ → List Bool → List ℕ

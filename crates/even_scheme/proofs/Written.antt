@@ -1,5 +1,5 @@
--- Recovery from answers of any contents writes the whole message and nothing behind it, whatever stood in the buffer: what the
--- recovery of one part after another leaves in a buffer (`assemble`) is the recovered message put at its start.
+-- Recovery from answers of any contents writes the whole message and nothing behind it, whatever stood in the buffer: what is left by
+-- writing one part after another (`assemble`) is the recovered message put at its start: `slots-written`.
 use mathlib.Core.Path.{_≡_, refl, ap, _∙_}
 use mathlib.Core.Bool.{Bool, true, false, cond}
 use mathlib.Core.List.{List, []}

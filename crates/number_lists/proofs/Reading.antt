@@ -16,7 +16,7 @@ use Rattle.text_lines.specs.declared.Line.the-variants.{Value, Refused}
 use Rattle.text_lines.specs.Decimal.{digitCount, valueFrom}
 use Rattle.text_lines.specs.Lines.{isNumeral}
 use Rattle.text_lines.proofs.DigitTexts.{count-within}
-use Rattle.number_lists.specs.NumberLists.{onLine, numeralFrom, numeralAt, endsAt, before, numbersFrom, numbersAt, listOf}
+use Rattle.number_lists.specs.NumberLists.{onNumber, numeralFrom, numeralAt, endsAt, before, numbersFrom, numbersAt, listOf}
 
 -- ---- one number
 
@@ -107,7 +107,7 @@ module _ (most : ℕ) (text : List ℕ) (at x : ℕ) (rest : List ℕ) where
   first-number e = go (numeralAt text at) refl e
     where
       go : (line : Line) → numeralAt text at ≡ line
-          → onLine line (λ n end. cond (endsAt text end) (some (n ∷ []))
+          → onNumber line (λ n end. cond (endsAt text end) (some (n ∷ []))
           (cond (eqb (getD text end 0) 32) (before n (numbersFrom most text (end + 1))) none)) ≡ some (x ∷ rest)
           → First most text at x rest
       go (Value n end) f g = by-end n end f (endsAt text end) (eqb (getD text end 0) 32) g

@@ -31,9 +31,9 @@ spaced (n ∷ numbers) = decimal n ++ afterSpaces numbers
 -- ---- read
 
 -- what is read at a place goes on with its value and the place after it, or ends the reading
-abbrev pub onLine : {A : Type 0} → Line → (ℕ → ℕ → Option A) → Option A
-onLine (Value value next) continue = continue value next
-onLine Refused continue = none
+abbrev pub onNumber : {A : Type 0} → Line → (ℕ → ℕ → Option A) → Option A
+onNumber (Value value next) continue = continue value next
+onNumber Refused continue = none
 
 -- a number at the start of a text, which begins at place `at`
 unfoldable pub numeralFrom : ℕ → List ℕ → Line
@@ -56,7 +56,7 @@ before n (some numbers) = some (n ∷ numbers)
 unfoldable pub numbersFrom : ℕ → List ℕ → ℕ → Option (List ℕ)
 numbersFrom zero text at = none
 numbersFrom (suc most) text at =
-    onLine (numeralAt text at) λ n end.
+    onNumber (numeralAt text at) λ n end.
     cond (endsAt text end) (some (n ∷ []))
     (cond (eqb (getD text end 0) 32) (before n (numbersFrom most text (end + 1))) none)
 

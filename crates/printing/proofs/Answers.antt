@@ -23,7 +23,7 @@ use Rattle.catalogue.specs.Catalogue.{catalogueVerdict, Admitted}
 use Rattle.catalogue.proofs.Faults.{after-catalogue, call-passed}
 use Rattle.session.specs.Calls.{beginFaults, beginVerdict}
 use Rattle.printing.specs.Input.{Asked, asked}
-use Rattle.printing.specs.Output.{refusalLine, askedVerdict, queryLines, linesBy, answerTo}
+use Rattle.printing.specs.Output.{refusalLine, askedVerdict, queryLines, printBy, answerTo}
 use Rattle.printing.specs.Steps.{keyFaults, checkVerdict, valueBy}
 
 -- a refusal by the first checks stands, whatever the key's entries are worth
@@ -47,9 +47,9 @@ value-refused Accepted n refusal e = let z : _≡_ {A = ℕ} 0 1 = cc in absurd 
 value-refused (Refused other) n refusal e = cc
 
 -- the answer goes by its verdict
-pub answer-by : (schemeOf : Catalogue → Scheme) (a : Asked) (v : Verdict) → askedVerdict schemeOf a ≡ v → answerTo schemeOf a ≡ linesBy schemeOf v a
+pub answer-by : (schemeOf : Catalogue → Scheme) (a : Asked) (v : Verdict) → askedVerdict schemeOf a ≡ v → answerTo schemeOf a ≡ printBy schemeOf v a
 unfolding answerTo
-answer-by schemeOf a v e = ap (λ (w : Verdict). linesBy schemeOf w a) e
+answer-by schemeOf a v e = ap (λ (w : Verdict). printBy schemeOf w a) e
 
 module _ (schemeOf : Catalogue → Scheme) (c : Catalogue) (wanted : ℕ) where
   -- what accepted checks say

@@ -25,7 +25,7 @@ use Rattle.text_lines.proofs.RoundTrip.{LineRead, line-read}
 use Rattle.catalogue_text.specs.Text.{textOf, FiveDigits}
 use Rattle.catalogue_text.specs.Parsing.{fourLines}
 use Rattle.catalogue_text.proofs.FourLines.{LinesRead, four-lines-cases}
-use Rattle.number_lists.specs.NumberLists.{afterSpaces, spaced, onLine, numeralFrom, numeralAt, endsAt, before, numbersFrom, numbersAt}
+use Rattle.number_lists.specs.NumberLists.{afterSpaces, spaced, onNumber, numeralFrom, numeralAt, endsAt, before, numbersFrom, numbersAt}
 use Rattle.printing.specs.Input.{Asked, asked, wantedName, keyName, mostInput, keyLine, onKey, linesAsk, inputAsks, inputOf}
 use Rattle.printing.proofs.RoundTrip.{input-reads-back}
 
@@ -140,7 +140,7 @@ some-read (suc most) text at numbers e = go (numeralAt text at) refl (λ place o
 
     go : (line : Line) → numeralAt text at ≡ line
         → ((place : ℕ) (others : List ℕ) → numbersFrom most text place ≡ some others → SomeRead text place others)
-        → onLine line (λ n end. cond (endsAt text end) (some (n ∷ []))
+        → onNumber line (λ n end. cond (endsAt text end) (some (n ∷ []))
         (cond (eqb (getD text end 0) 32) (before n (numbersFrom most text (end + 1))) none)) ≡ some numbers
         → SomeRead text at numbers
     go (Value n end) f later e = by-end n end (numeral-at text at n end f) later (endsAt text end) (eqb (getD text end 0) 32) refl refl e
@@ -196,7 +196,7 @@ module _ (text : List ℕ) (a : Asked) (short : length text ≤ mostInput) (r : 
       go false named g = none-some g
 
   wanted-read : (line : Line) → numberLine wantedName text (fourLines text .next) ≡ line
-      → onLine line (λ wanted next. onKey (keyLine text next) (asked (fourLines text .catalogue) wanted)) ≡ some a → InForm text a
+      → onNumber line (λ wanted next. onKey (keyLine text next) (asked (fourLines text .catalogue) wanted)) ≡ some a → InForm text a
   wanted-read (Value wanted next) f e =
       key-read wanted next (line-read wantedName text (fourLines text .next) wanted next f) (keyLine text next) refl e
   wanted-read Refused f e = none-some e

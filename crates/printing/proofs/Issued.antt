@@ -18,7 +18,7 @@ use Rattle.session.specs.Calls.{queryOf, beginFaults, beginVerdict, begin, issu
 use Rattle.session.proofs.Begin.{Begins, begin-passed, begin-says, begin-done, key-kept, new-sound}
 use Rattle.session.proofs.Issue.{issue-accepted, issue-goes}
 use Rattle.printing.specs.Input.{Asked, inputAsks}
-use Rattle.printing.specs.Output.{askedVerdict, askedQuery, queryLines, linesBy, answerTo, outputBy, printed}
+use Rattle.printing.specs.Output.{askedVerdict, askedQuery, queryLines, printBy, answerTo, outputBy, printed}
 
 module _ (schemeOf : Catalogue → Scheme) where
   -- the session that what is asked for begins
@@ -65,7 +65,7 @@ module _ (schemeOf : Catalogue → Scheme) where
   printed-as-issued input a asks accepted =
       let e = first-accepted (beginFaults schemeOf (a .catalogue) (a .wanted) (a .key)) _ accepted .0 in
       record {
-        output = ap (outputBy schemeOf) asks ∙ ap (λ (v : Verdict). linesBy schemeOf v a) accepted;
+        output = ap (outputBy schemeOf) asks ∙ ap (λ (v : Verdict). printBy schemeOf v a) accepted;
         begun = begin-says schemeOf (a .catalogue) (a .wanted) (a .key) ∙ e;
         issued = λ server buffer below roomy. rw (begun-new a e) (issues a e server buffer below roomy);
       }

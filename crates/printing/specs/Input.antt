@@ -13,7 +13,7 @@ use Rattle.catalogue.specs.declared.Catalogue.{Catalogue}
 use Rattle.text_lines.specs.Lines.{begins, numberText, numberLine}
 use Rattle.catalogue_text.specs.Text.{textOf}
 use Rattle.catalogue_text.specs.Parsing.{fourLines}
-use Rattle.number_lists.specs.NumberLists.{onLine, numbersAt, spaced}
+use Rattle.number_lists.specs.NumberLists.{onNumber, numbersAt, spaced}
 
 -- What an input asks for. The numbers of the key are as they stand, above 255 too
 pub record Asked : Type 0 where
@@ -52,7 +52,7 @@ unfoldable pub linesAsk : List ℕ → Option Asked
 linesAsk text =
     let found = fourLines text in
     onCatalogue (found .verdict)
-    (onLine (numberLine wantedName text (found .next)) λ wanted next.
+    (onNumber (numberLine wantedName text (found .next)) λ wanted next.
     onKey (keyLine text next) (asked (found .catalogue) wanted))
 
 unfoldable pub inputAsks : List ℕ → Option Asked

@@ -51,12 +51,12 @@ module _ (schemeOf : Catalogue → Scheme) where
   unfoldable pub queryLines : Asked → List ℕ
   queryLines a = flatMap (λ server. queryLine server (askedQuery a server)) (range 0 (a .catalogue .servers))
 
-  abbrev pub linesBy : Verdict → Asked → List ℕ
-  linesBy Accepted a = queryLines a
-  linesBy (Refused refusal) a = refusalLine refusal
+  abbrev pub printBy : Verdict → Asked → List ℕ
+  printBy Accepted a = queryLines a
+  printBy (Refused refusal) a = refusalLine refusal
 
   unfoldable pub answerTo : Asked → List ℕ
-  answerTo a = linesBy (askedVerdict a) a
+  answerTo a = printBy (askedVerdict a) a
 
   abbrev pub outputBy : Option Asked → List ℕ
   outputBy none = refusalLine (refusalOf 1)

@@ -38,10 +38,10 @@ refusalOf n = withNumber n refusals
 abbrev pub order : List ℕ
 order = 1 ∷ 2 ∷ 3 ∷ 4 ∷ 5 ∷ 6 ∷ 7 ∷ 8 ∷ 9 ∷ 10 ∷ 11 ∷ 12 ∷ []
 
-abbrev placeIn : List ℕ → ℕ → ℕ
-placeIn [] n = 0
-placeIn (m ∷ numbers) n = cond (eqb n m) 0 (1 + placeIn numbers n)
+abbrev rankIn : List ℕ → ℕ → ℕ
+rankIn [] n = 0
+rankIn (m ∷ numbers) n = cond (eqb n m) 0 (1 + rankIn numbers n)
 
 -- a refusal's place in the order
 abbrev pub rank : Refusal → ℕ
-rank refusal = placeIn order (numberOf refusal)
+rank refusal = rankIn order (numberOf refusal)

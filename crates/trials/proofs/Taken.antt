@@ -1,4 +1,4 @@
--- The count of a part from the start on, the way round in which a call asks for it.
+-- The count of a part from the start on, the way round in which a call asks for it: `taken`.
 use mathlib.Core.Path.{_≡_, sym}
 use Prim.Native.Nat.{ℕ, _≤_}
 use mathlib.Core.List.{List}

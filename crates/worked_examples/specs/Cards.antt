@@ -41,8 +41,8 @@ pub data Card : Type 0 where
   begins : Catalogue → ℕ → List ℕ → Verdict → Card
 
 -- the buffer of an answer: no byte of it is 0, so that a byte which is written shows
-abbrev pub lent : List ℕ
-lent = 201 ∷ 202 ∷ 203 ∷ 204 ∷ []
+abbrev pub lentBytes : List ℕ
+lentBytes = 201 ∷ 202 ∷ 203 ∷ 204 ∷ []
 
 unfoldable pub Holds : Card → Type 0
 Holds (prints input output) = printed schemeOf input ≡ output
@@ -50,7 +50,7 @@ Holds (asks c wanted key queries) = map (λ server. schemeOf c .query wanted ser
 Holds (recovers c store wanted key got message) =
     let honest = honestAnswers (schemeOf c) (c .servers) store wanted key in
     honest ++ (schemeOf c .recover wanted key honest ∷ []) ≡ got ++ (message ∷ [])
-Holds (answers c server store query outcome) = answering schemeOf c server store query lent ≡ record { outcome = outcome; buffer = lent }
+Holds (answers c server store query outcome) = answering schemeOf c server store query lentBytes ≡ record { outcome = outcome; buffer = lentBytes }
 Holds (rows N K many) = evenRows N K ∷ length (layout N K) ∷ [] ≡ many ∷ many ∷ []
 Holds (judges c verdict) = catalogueVerdict c ≡ verdict
 Holds (begins c wanted key verdict) = beginVerdict schemeOf c wanted key ≡ verdict
@@ -68,8 +68,8 @@ abbrev pub filled : List ℕ
 filled = range 1 24
 
 -- both permutations 0 1 2 3
-abbrev plain : List ℕ
-plain = 0 ∷ 1 ∷ 2 ∷ 3 ∷ 0 ∷ 1 ∷ 2 ∷ 3 ∷ []
+abbrev identities : List ℕ
+identities = 0 ∷ 1 ∷ 2 ∷ 3 ∷ 0 ∷ 1 ∷ 2 ∷ 3 ∷ []
 
 unfoldable pub cards : List Card
 cards =
@@ -87,9 +87,9 @@ cards =
     ∷ answers (cat Short 3 3 4) 0 filled (0 ∷ 1 ∷ 3 ∷ []) (NoValue (refusalOf 7))
     ∷ answers (cat Short 3 3 4) 0 filled (0 ∷ 0 ∷ 0 ∷ []) (Value 0)
     -- B7
-    ∷ asks (cat Even 2 2 1) 0 plain ((0 ∷ 0 ∷ 2 ∷ 1 ∷ []) ∷ (1 ∷ 1 ∷ 3 ∷ 0 ∷ []) ∷ [])
+    ∷ asks (cat Even 2 2 1) 0 identities ((0 ∷ 0 ∷ 2 ∷ 1 ∷ []) ∷ (1 ∷ 1 ∷ 3 ∷ 0 ∷ []) ∷ [])
     -- B8
-    ∷ asks (cat Even 2 2 1) 1 plain ((0 ∷ 0 ∷ 1 ∷ 2 ∷ []) ∷ (1 ∷ 1 ∷ 0 ∷ 3 ∷ []) ∷ [])
+    ∷ asks (cat Even 2 2 1) 1 identities ((0 ∷ 0 ∷ 1 ∷ 2 ∷ []) ∷ (1 ∷ 1 ∷ 0 ∷ 3 ∷ []) ∷ [])
     -- B9
     ∷ rows 3 3 13
     ∷ rows 2 8 255

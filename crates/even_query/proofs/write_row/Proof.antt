@@ -12,19 +12,19 @@ use Rattle.even_places.specs.Rule.{members}
 use Rattle.even_layout.specs.Layout.{setIn}
 use Rattle.even_layout.proofs.Bytes.{membersFrom, members-kept, members-skipped}
 use Rattle.even_ranks.specs.declared.Origin.{Origin}
-use Rattle.even_ranks.specs.Walk.{placeOf}
+use Rattle.even_ranks.specs.Walk.{originPlace}
 use Rattle.even_query.proofs.write_row.Statement.{statement}
 use Rattle.even_query.proofs.write_row.Tie as tie
 
 -- the places of the set's messages from p on
 abbrev placesFrom : ℕ → ℕ → ℕ → List ℕ → List ℕ → Origin → ℕ → ℕ → List ℕ
-placesFrom n k wanted totals ranks o p rest = map (placeOf n wanted totals ranks o) (membersFrom k p rest)
+placesFrom n k wanted totals ranks o p rest = map (originPlace n wanted totals ranks o) (membersFrom k p rest)
 
 abbrev Inv-loop : tie.InvT-loop
 Inv-loop n k wanted totals taken ranks o set out₀ at rest₀ end₀ p₀ out rest end p =
     (p ≤ k)
     × Below 256 (placesFrom n k wanted totals ranks o p rest)
-    × Pending at (map (placeOf n wanted totals ranks o) (members 0 (setIn k set))) out₀ end (placesFrom n k wanted totals ranks o p rest) out
+    × Pending at (map (originPlace n wanted totals ranks o) (members 0 (setIn k set))) out₀ end (placesFrom n k wanted totals ranks o p rest) out
 
 abbrev μ-loop : tie.MeasureT-loop
 μ-loop n k wanted totals taken ranks o set out₀ at rest₀ end₀ p₀ out rest end p = k - p
@@ -33,7 +33,7 @@ loop-holds : tie.Need-loop-holds Inv-loop μ-loop
 loop-holds c =
     let start = c .before .before .before .before in
     let a = start .args in
-    let many = length-map (members 0 (setIn (a .k) (a .set))) (placeOf (a .n) (a .wanted) (a .totals .now) (a .ranks .now) (a .o)) in
+    let many = length-map (members 0 (setIn (a .k) (a .set))) (originPlace (a .n) (a .wanted) (a .totals .now) (a .ranks .now) (a .o)) in
     (omega arith, rw (sub-zero (a .k)) (start .pre .4), rw (sub-zero (a .k)) (pending-start (omega (arith, many, start .pre .5))))
 
 place-requires : tie.Need-place-requires Inv-loop μ-loop
@@ -114,7 +114,7 @@ returns c =
     let a = start .args in
     let none : a .k - at .loop .p ≡ 0 = omega arith in
     let left = rw none at (at .loop .inv .2) in
-    let many = length-map (members 0 (setIn (a .k) (a .set))) (placeOf (a .n) (a .wanted) (a .totals .now) (a .ranks .now) (a .o)) in
+    let many = length-map (members 0 (setIn (a .k) (a .set))) (originPlace (a .n) (a .wanted) (a .totals .now) (a .ranks .now) (a .o)) in
     (omega (arith, pending-ends left, many), pending-done left)
 
 pub write-row-spec : {M : Type 1} → statement M
