@@ -8,7 +8,7 @@ ghost use mathlib.Core.Path.{_≡_};
 ghost use Prim.Native.Nat.{_^_, _<_};
 ghost use lib.IntN.{pos, negℤ};
 ghost use Rattle.refusal.specs.Numbers.{numberOf};
-ghost use Rattle.gozimpe.specs.Host.{signed, answeringText as answers, longestAnswer};
+ghost use Rattle.gozimpe.specs.Host.{signed, answeringText, longestAnswer};
 
 // A length, as a signed number.
 fn plus(length: usize) -> i64
@@ -35,8 +35,10 @@ pub extern "C" fn gozimpe_answer(
     request: &[u8],
     answer: &mut [u8],
 ) -> i64
-    ensures { λ r. ⌜ r ≡ signed (answers (now (catalogue .entry)) mirror (now (store .entry)) (now (request .entry)) (now (answer .entry)) .outcome) ⌝ }
-    ensures { λ _. ⌜ now (answer .exit) ≡ answers (now (catalogue .entry)) mirror (now (store .entry)) (now (request .entry)) (now (answer .entry)) .buffer ⌝ }
+    ensures { λ r. ⌜ r
+        ≡ signed (answeringText (now (catalogue .entry)) mirror (now (store .entry)) (now (request .entry)) (now (answer .entry)) .outcome) ⌝ }
+    ensures { λ _. ⌜ now (answer .exit)
+        ≡ answeringText (now (catalogue .entry)) mirror (now (store .entry)) (now (request .entry)) (now (answer .entry)) .buffer ⌝ }
 {
     let reading = catalogue_text::read(catalogue);
     let verdict = reading.verdict;
