@@ -9,7 +9,5 @@ pub mod fields;
 pub mod input;
 // What is printed.
 pub mod show;
-// Single calls.
-pub mod single;
 // What stands between two calls.
 pub mod state;

@@ -1,12 +1,12 @@
 // Single calls, each printed on a line of its own: what it gave, then the whole of the buffer that it was lent to write, filled before with one byte,
 // and the session that it handed back.
-use crate::draw;
-use crate::input::Line;
-use crate::show;
-use crate::state::State;
 use catalogue::Catalogue;
 use catalogue::Code;
 use catalogue::Measured;
+use trials::draw;
+use trials::input::Line;
+use trials::show;
+use trials::state::State;
 
 // t: reads a catalogue's text, as a whole and as the start of a longer one; the catalogue handed back is the next calls'.
 pub fn text(s: State, text: &[u8]) -> State {

@@ -1,8 +1,8 @@
 -- `on_buffer` is safe: each part that is lent is no longer than its buffer.
 use Rattle.trials.proofs.Taken.{taken}
 use borrow.Author.Needs.{needs}
-use Rattle.conformance.proofs.on_buffer.Statement.{statement}
-use Rattle.conformance.proofs.on_buffer.Tie as tie
+use Rattle.trial_lines.proofs.on_buffer.Statement.{statement}
+use Rattle.trial_lines.proofs.on_buffer.Tie as tie
 
 key-requires : tie.Need-key-requires
 key-requires c κs = search needs
