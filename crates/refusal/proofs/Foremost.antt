@@ -4,8 +4,8 @@ use mathlib.Core.Path.{_≡_, refl, sym, ap, _∙_}
 use mathlib.Core.Bool.{Bool, true, false, cond, _&&_}
 use mathlib.Core.List.{List, [], _∷_, _++_}
 use Prim.Native.Nat.{ℕ}
-use native.Mathlib.Omega.{arith}
 use lib.Dec.{leb}
+use Rattle.lists.proofs.Both.{both-true}
 use Rattle.refusal.specs.declared.Refusal.{Refusal}
 use Rattle.refusal.specs.declared.Verdict.{Verdict}
 use Rattle.refusal.specs.declared.Verdict.the-variants.{Accepted, Refused}
@@ -13,10 +13,6 @@ use Rattle.refusal.specs.Numbers.{rank}
 use Rattle.refusal.specs.Foremost.{Fault, earlier, foremost}
 use Rattle.refusal.specs.Chain.{andThen, chain}
 use Rattle.refusal.proofs.Chain.{chain-after}
-
-both : (t u : Bool) → t && u ≡ true → (t ≡ true) × (u ≡ true)
-both true u e = (refl, e)
-both false u e = absurd (let z : _≡_ {A = ℕ} 0 1 = cc in let w : ⊥ = omega arith in w)
 
 module _ (test : Refusal → Bool) where
   abbrev pub ofFaults : List Fault → Bool
@@ -39,7 +35,7 @@ module _ (test : Refusal → Bool) where
   unfolding foremost
   of-foremost [] e = refl
   of-foremost (f ∷ faults) e =
-      let p = both (test (f .refusal)) (ofFaults faults) e in go (f .there) (p .0) (of-foremost faults (p .1))
+      let p = both-true (test (f .refusal)) (ofFaults faults) e in go (f .there) (p .0) (of-foremost faults (p .1))
     where
       go : (t : Bool) → test (f .refusal) ≡ true → ofVerdict (foremost faults) ≡ true
           → ofVerdict (cond t (earlier (f .refusal) (foremost faults)) (foremost faults)) ≡ true
@@ -63,7 +59,7 @@ pub foremost-chain : (faults : List Fault) → ascending faults ≡ true → for
 unfolding foremost
 foremost-chain [] e = refl
 foremost-chain (f ∷ faults) e =
-    let p = both (ofFaults (from (rank (f .refusal))) faults) (ascending faults) e in
+    let p = both-true (ofFaults (from (rank (f .refusal))) faults) (ascending faults) e in
     go (f .there) (earlier-is (f .refusal) (foremost faults) (of-foremost (from (rank (f .refusal))) faults (p .0))) (foremost-chain faults (p .1))
   where
     go : (t : Bool) → earlier (f .refusal) (foremost faults) ≡ Refused (f .refusal) → foremost faults ≡ chain faults

@@ -1,6 +1,6 @@
 -- What is given of several faults, said without the definition: a refusal is that of a fault which is there, and no fault which is there comes before it
 -- in the order (`foremost-given`), nor has a smaller number, among the numbers up to 12 (`smallest-number`).
-use mathlib.Core.Path.{_≡_, refl, sym, ap, _∙_}
+use mathlib.Core.Path.{_≡_, refl, sym, _∙_}
 use mathlib.Core.Bool.{Bool, true, false, cond}
 use mathlib.Core.List.{List, [], _∷_}
 use Prim.Native.Nat.{ℕ, _≤_}

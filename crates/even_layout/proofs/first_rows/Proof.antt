@@ -3,7 +3,7 @@ use mathlib.Core.Path.{_≡_, refl, sym, _∙_}
 use mathlib.Core.List.{[]}
 use Prim.Native.Nat.{_-_, _*_, _≤_, _<_}
 use native.Mathlib.Omega.{arith}
-use lib.ListN.{length, getD, drop, replicate, length-set, drop-of-length-le}
+use lib.ListN.{length, getD, drop, length-set, drop-of-length-le}
 use Rattle.even_places.specs.Rule.{allSets}
 use Rattle.even_layout.specs.Layout.{rowsOf}
 use Rattle.even_layout.proofs.Blocks.{subsets-few, all-length}

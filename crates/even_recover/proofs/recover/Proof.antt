@@ -4,11 +4,10 @@ use mathlib.Core.List.{List}
 use Prim.Native.Nat.{ℕ, _-_, _≤_}
 use native.Mathlib.Nat.{one-le-pow}
 use native.Mathlib.Omega.{arith}
-use lib.ListN.{length, replicate}
+use lib.ListN.{length}
 use lib.Seq.{length-take-le}
 use Rattle.parameters.proofs.Bounds.{even-bounds}
 use Rattle.symbol.specs.Operations.{sumOf}
-use Rattle.even_places.specs.Rule.{allSets}
 use Rattle.lists.specs.Assembled.{assemble}
 use Rattle.even_layout.specs.Layout.{firstRows}
 use Rattle.even_layout.proofs.Blocks.{subsets-few}
