@@ -14,8 +14,8 @@ use Rattle.catalogue.specs.declared.Code.the-variants.{Short, Even}
 use Rattle.catalogue.specs.declared.Catalogue.{Catalogue}
 use Rattle.catalogue.specs.Catalogue.{fits, Admitted, sizesBy, sizesOf}
 use Rattle.catalogue.proofs.Admitted.{admitted-fits}
-use Rattle.short_code.specs.Short.{shortScheme}
-use Rattle.short_code.proofs.Promises.{short-laws}
+use Rattle.short_scheme.specs.Short.{shortScheme}
+use Rattle.short_scheme.proofs.Promises.{short-laws}
 use Rattle.even_scheme.specs.Even.{evenScheme}
 use Rattle.even_scheme.proofs.Promises.{even-laws}
 use Rattle.codes.specs.Codes.{operation, schemeBy, schemeOf}

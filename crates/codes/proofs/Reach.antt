@@ -8,7 +8,7 @@ use Rattle.catalogue.specs.declared.Code.{Code}
 use Rattle.catalogue.specs.declared.Code.the-variants.{Short, Even}
 use Rattle.catalogue.specs.declared.Catalogue.{Catalogue}
 use Rattle.catalogue.specs.Catalogue.{Admitted}
-use Rattle.short_code.proofs.Reach.{short-one-key}
+use Rattle.short_scheme.proofs.Reach.{short-one-key}
 use Rattle.even_scheme.proofs.EqualReach.{even-reach}
 use Rattle.codes.specs.Codes.{operation, schemeOf}
 use Rattle.codes.proofs.Promises.{admitted-even, scheme-short, scheme-even}

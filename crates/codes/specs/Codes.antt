@@ -8,7 +8,7 @@ use Rattle.scheme.specs.Scheme.{Scheme}
 use Rattle.catalogue.specs.declared.Code.{Code}
 use Rattle.catalogue.specs.declared.Code.the-variants.{Short, Even}
 use Rattle.catalogue.specs.declared.Catalogue.{Catalogue}
-use Rattle.short_code.specs.Short.{shortScheme}
+use Rattle.short_scheme.specs.Short.{shortScheme}
 use Rattle.even_scheme.specs.Even.{evenScheme}
 
 -- what symbols are combined by

@@ -48,7 +48,7 @@ pub fn admits(c: Catalogue, server: usize, query: &[u8]) -> bool
     let code = c.code;
     match code {
         Code::Short => short_code::admits(c.servers, c.messages, server, query),
-        Code::Even => even_answer::admits(c.servers, c.messages, server, query),
+        Code::Even => even_admission::admits(c.servers, c.messages, server, query),
     }
 }
 

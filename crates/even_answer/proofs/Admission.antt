@@ -1,71 +1,21 @@
--- Admission is the pass over the query: `admits-pass`. And an admitted query can be answered: `admitted-answerable`.
-use mathlib.Core.Path.{_≡_, refl, sym, _∙_}
-use mathlib.Core.Bool.{Bool, true, false, _&&_}
-use mathlib.Core.List.{List, zipWith}
-use Prim.Native.Nat.{ℕ, _-_, _*_, _^_, _≤_, _<_}
-use native.Mathlib.Nat.{pow-le-pow-right}
-use native.Mathlib.Omega.{arith}
-use borrow.Author.Tests.{eq-eqb, eqb-true}
+-- An admitted query can be answered: `admitted-answerable`.
+use mathlib.Core.Path.{_≡_}
+use mathlib.Core.Bool.{true, _&&_}
+use mathlib.Core.List.{List}
+use Prim.Native.Nat.{ℕ, _-_, _*_, _^_, _≤_}
+use borrow.Author.Tests.{eqb-true}
 use lib.Dec.{eqb}
-use lib.ListN.{length, take, replicate}
-use Rattle.lists.specs.Below.{allBelow, Below}
+use lib.ListN.{length}
+use Rattle.lists.specs.Below.{allBelow}
 use Rattle.lists.specs.Distinct.{distinct}
-use Rattle.lists.specs.Padded.{padded}
 use Rattle.lists.specs.Ranges.{every}
 use Rattle.lists.proofs.Below.{allBelow-below}
 use Rattle.lists.proofs.Both.{both-true}
-use Rattle.lists.proofs.Cuts.{front-is, front-fits}
-use Rattle.lists.proofs.Each.{All-get, All-flatMap, All-imp}
 use Rattle.parameters.specs.Bounds.{evenFits}
 use Rattle.parameters.specs.Measures.{evenSizes}
-use Rattle.even_places.specs.Rule.{members, positions}
-use Rattle.even_places.proofs.AllSets.{layout-long}
-use Rattle.even_places.proofs.Positions.{positions-length}
 use Rattle.even_scheme.specs.Even.{numbersOf, evenAdmits}
-use Rattle.even_layout.specs.Layout.{LayoutBounds}
-use Rattle.even_answer.specs.Answering.{Answerable, cellOf}
-use Rattle.even_answer.proofs.Fresh.{distinct-cells}
-use Rattle.even_answer.proofs.RowLaws.{members-all}
+use Rattle.even_answer.specs.Answering.{Answerable}
 
--- at each position stands one of the messages
-pub positions-below : (N K : ℕ) → Below K (positions N K)
-unfolding positions
-positions-below N K i h = All-get 0 (All-flatMap (members 0) (All-imp (λ A e. members-all A e) (layout-long N K))) i h
-
-pub power-less : (N K : ℕ) → LayoutBounds N K → N ^ (K - 1) ≤ 256
-power-less N K bounds =
-    omega (
-      arith,
-      pow-le-pow-right {n = N} (let w : 0 < N = omega (arith, bounds .servers-low) in w)
-          (let w : K - 1 ≤ K = omega arith in w),
-      bounds .symbols-high,
-    )
-
--- the positions of a query of the right length, from the table
-pub positions-front : (N K : ℕ) (table query : List ℕ) → LayoutBounds N K → table ≡ padded 1024 (positions N K) → length query ≡ K * N ^ (K - 1)
-    → take (length query) table ≡ positions N K
-positions-front N K table query bounds e f =
-    front-is (length query) table (positions N K) (replicate (1024 - length (positions N K)) 0) e
-    (positions-length N K (bounds .servers-low) (bounds .messages-low) ∙ sym f)
-
-pub positions-fit : (N K : ℕ) (table query : List ℕ) → LayoutBounds N K → table ≡ padded 1024 (positions N K) → length query ≡ K * N ^ (K - 1)
-    → length query ≤ length table
-positions-fit N K table query bounds e f =
-    front-fits (length query) table (positions N K) (replicate (1024 - length (positions N K)) 0) e
-    (positions-length N K (bounds .servers-low) (bounds .messages-low) ∙ sym f)
-
--- the pass over a query of the right length decides
-pub admits-pass : (N K server : ℕ) (query : List ℕ) → length query ≡ K * N ^ (K - 1)
-    → allBelow (N ^ K) query && distinct (zipWith (cellOf (N ^ K)) (positions N K) query) ≡ evenAdmits N K server query
-unfolding evenAdmits numbersOf
-admits-pass N K server query e = rw (eq-eqb (length query) (K * N ^ (K - 1)) e) (go (allBelow (N ^ K) query) refl)
-  where
-    go : (t : Bool) → allBelow (N ^ K) query ≡ t
-        → t && distinct (zipWith (cellOf (N ^ K)) (positions N K) query) ≡ t && every K (λ p. distinct (numbersOf N K p query))
-    go true t = distinct-cells (N ^ K) K (positions N K) query (positions-below N K) (allBelow-below (N ^ K) query t)
-    go false t = refl
-
--- an admitted query can be answered
 pub admitted-answerable : (N K S server : ℕ) (store query out : List ℕ) → evenFits N K S ≡ true → length store ≡ evenSizes N K S .store
     → evenAdmits N K server query ≡ true → evenSizes N K S .slot ≤ length out → Answerable N K S store query out
 unfolding evenAdmits evenSizes

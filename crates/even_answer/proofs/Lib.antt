@@ -1,4 +1,3 @@
-pub mod Fresh
 pub mod RowLaws
 pub mod Admission
 pub mod SetRows

@@ -16,12 +16,12 @@ use Rattle.lists.specs.Below.{Below}
 use Rattle.lists.specs.Sums.{bit, sum as summed, All, allNil, allCons}
 use Rattle.lists.proofs.Below.{below-take, below-drop}
 use Rattle.lists.proofs.Cuts.{cut-length}
-use Rattle.lists.proofs.Each.{All-imp}
 use Rattle.parameters.specs.Measures.{evenSizes}
 use Rattle.symbol.specs.Sum.{Symbol, Sum, totalFrom, total}
 use Rattle.symbol.specs.Group.{KeepsLength, AbelianGroup, Symbols}
 use Rattle.symbol.proofs.Totals.{total-symbol}
 use Rattle.even_places.specs.Rule.{onesIn, members}
+use Rattle.even_places.proofs.Positions.{members-below}
 use Rattle.even_scheme.specs.Even.{symbolOf, rowAnswer, rowAnswers}
 use Rattle.even_answer.specs.Answering.{added}
 
@@ -30,18 +30,6 @@ unfolding members onesIn summed bit
 members-length q [] = refl
 members-length q (true ∷ A) = omega (arith, members-length (suc q) A)
 members-length q (false ∷ A) = omega (arith, members-length (suc q) A)
-
-members-below : (q : ℕ) (A : List Bool) → All (λ p. p < q + length A) (members q A)
-unfolding members
-members-below q [] = allNil
-members-below q (a ∷ A) = go a (All-imp (λ p h. omega (arith, h)) (members-below (suc q) A))
-  where
-    go : (t : Bool) → All (λ p. p < q + suc (length A)) (members (suc q) A) → All (λ p. p < q + suc (length A)) (members q (t ∷ A))
-    go true r = allCons (let w : q < q + suc (length A) = omega arith in w) r
-    go false r = r
-
-pub members-all : {K : ℕ} (A : List Bool) → length A ≡ K → All (λ p. p < K) (members 0 A)
-members-all A e = All-imp (λ p h. omega (arith, h)) (members-below 0 A)
 
 -- what the row becomes, from the symbols that are left of it: none was taken yet, or `out` is what was made of those before
 abbrev pub resumed : Sum → Bool → ℕ → List ℕ → List (List ℕ) → List ℕ
@@ -103,7 +91,7 @@ module _ (sum : Sum) (N K S : ℕ) (store : List ℕ) (whole : length store ≡ 
     -- a row's answer is a symbol
     pub row-is : (A : List Bool) (numbers : List ℕ) → length A ≡ K → Below (N ^ K) numbers → Symbol S (rowAnswer sum N K S store A numbers)
     unfolding rowAnswer
-    row-is A numbers e b = total-symbol sum S (group) (symbols-are numbers (members-all A e) b)
+    row-is A numbers e b = total-symbol sum S (group) (symbols-are numbers (members-below K 0 A (omega arith)) b)
 
     -- one symbol more of a row
     pub row-more : (p taken : ℕ) (messages numbers out : List ℕ) → p < K → taken < length numbers → Below (N ^ K) numbers

@@ -18,7 +18,7 @@ use Rattle.even_places.specs.Rule.{onesIn, members, allSets, layout}
 use Rattle.even_places.proofs.Positions.{positions-length}
 use Rattle.even_places.proofs.AllSets.{layout-by-set}
 use Rattle.even_scheme.specs.Even.{rowAnswer, rowAnswers}
-use Rattle.even_layout.specs.Layout.{LayoutBounds, rowsOf}
+use Rattle.even_sets.specs.Sets.{LayoutBounds, rowsOf}
 use Rattle.even_layout.proofs.Tables.{setPositions, positionsFrom, positions-all, positions-more}
 use Rattle.even_answer.proofs.RowLaws.{members-length, answers-length}
 

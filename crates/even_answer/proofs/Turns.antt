@@ -19,11 +19,11 @@ use Rattle.symbol.specs.Sum.{Sum}
 use Rattle.symbol.specs.Group.{AbelianGroup}
 use Rattle.even_places.specs.Rule.{byteOf, onesIn, allSets}
 use Rattle.even_scheme.specs.Even.{rowAnswer, rowAnswers, evenAnswer}
-use Rattle.even_layout.specs.Layout.{setIn, rowsOf}
+use Rattle.even_sets.specs.Sets.{setIn, rowsOf}
+use Rattle.even_sets.proofs.Fits.{layout-fits}
+use Rattle.even_sets.proofs.SetBytes.{setIn-length, byte-at}
 use Rattle.even_layout.proofs.Bytes.{membersFrom, members-kept}
-use Rattle.even_layout.proofs.Fits.{layout-fits}
-use Rattle.even_layout.proofs.Firsts.{setIn-length}
-use Rattle.even_layout.proofs.Tables.{byte-at, positionsFrom}
+use Rattle.even_layout.proofs.Tables.{positionsFrom}
 use Rattle.even_answer.specs.Answering.{Answerable, SetAnswerable}
 use Rattle.even_answer.proofs.RowLaws.{symbol-room, row-is, set-more}
 use Rattle.even_answer.proofs.SetRows.{rowsFrom, numbers-more, answers-more, set-length}

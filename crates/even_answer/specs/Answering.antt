@@ -1,8 +1,8 @@
--- What the answering end of the even code is given, and its single steps (document 01, 'Even code').
+-- What answering in the even code is given, and its single steps (document 01, 'Even code').
 use mathlib.Core.Path.{_≡_}
 use mathlib.Core.Bool.{Bool, true, cond}
 use mathlib.Core.List.{List}
-use Prim.Native.Nat.{ℕ, _+_, _*_, _^_, _≤_}
+use Prim.Native.Nat.{ℕ, _*_, _^_, _≤_}
 use lib.ListN.{length}
 use lib.Count.{ones as count}
 use Rattle.lists.specs.Below.{Below}
@@ -10,11 +10,7 @@ use Rattle.parameters.specs.Bounds.{evenFits}
 use Rattle.parameters.specs.Measures.{evenSizes}
 use Rattle.symbol.specs.Sum.{Sum}
 use Rattle.even_places.specs.Rule.{onesIn}
-use Rattle.even_layout.specs.Layout.{setIn}
-
--- where message p's number is marked
-abbrev pub cellOf : ℕ → ℕ → ℕ → ℕ
-cellOf size p number = p * size + number
+use Rattle.even_sets.specs.Sets.{setIn}
 
 -- a symbol combined into what stands there, or put there if it is the first
 abbrev pub added : Sum → Bool → List ℕ → List ℕ → List ℕ

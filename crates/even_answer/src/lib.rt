@@ -1,51 +1,13 @@
-// The answering end of the even code: which queries a server admits, and the answer to one (document 01, 'Even code').
+// The answer to an admitted query of the even code (document 01, 'Even code').
 use symbol::Operation;
 ghost use mathlib.Core.Path.{_≡_};
-ghost use mathlib.Core.Bool.{_&&_};
-ghost use mathlib.Core.List.{zipWith};
 ghost use Prim.Native.Nat.{_+_, _*_, _^_, _≤_};
 ghost use lib.ListN.{length, replicate};
 ghost use Rattle.lists.specs.Parts.{cut, put};
-ghost use Rattle.lists.specs.Below.{allBelow, Below};
-ghost use Rattle.lists.specs.Distinct.{distinct};
 ghost use Rattle.symbol.specs.Operations.{sumOf};
-ghost use Rattle.even_scheme.specs.Even.{evenAdmits, rowAnswer, rowAnswers, evenAnswer};
-ghost use Rattle.even_layout.specs.Layout.{LayoutBounds, setIn};
-ghost use Rattle.even_answer.specs.Answering.{Answerable, SetAnswerable, cellOf, added};
-
-// Whether the numbers are below `size`, none twice for the same message; message p's number x is marked at p × `size` + x.
-fn all_fresh(size: usize, messages: &[u8], numbers: &[u8]) -> bool
-    requires { ⌜ (size ≤ 256) × (length (now messages) ≡ length (now numbers)) × Below 8 (now messages) ⌝ }
-    ensures { λ r. ⌜ r ≡ allBelow size (now (numbers .entry)) && distinct (zipWith (cellOf size) (now (messages .entry)) (now (numbers .entry))) ⌝ }
-{
-    let mut marks = [false; 2048];
-    let mut i = 0;
-    while i < numbers.len() {
-        let number = numbers[i] as usize;
-        if size <= number {
-            return false;
-        }
-        let cell = messages[i] as usize * size + number;
-        if marks[cell] {
-            return false;
-        }
-        marks[cell] = true;
-        i += 1;
-    }
-    true
-}
-
-// Whether a server admits the query, which is the same at every server.
-pub fn admits(n: usize, k: usize, server: usize, query: &[u8]) -> bool
-    requires { ⌜ LayoutBounds n k ⌝ }
-    ensures { λ r. ⌜ r ≡ evenAdmits n k server (now (query .entry)) ⌝ }
-{
-    if query.len() != k * parameters::power(n, k - 1) {
-        return false;
-    }
-    let messages = even_layout::positions(n, k);
-    all_fresh(parameters::power(n, k), &messages[..query.len()], query)
-}
+ghost use Rattle.even_scheme.specs.Even.{rowAnswer, rowAnswers, evenAnswer};
+ghost use Rattle.even_sets.specs.Sets.{setIn};
+ghost use Rattle.even_answer.specs.Answering.{Answerable, SetAnswerable, added};
 
 // Combines the symbol of the store that begins at `start` into `out`, or copies it there if it is the first of its row.
 fn add_symbol(op: Operation, first: bool, store: &[u8], start: usize, out: &mut [u8])
@@ -141,14 +103,14 @@ pub fn answer(
     ensures { λ _. ⌜ now (out .exit) ≡ put 0 (evenAnswer (sumOf op) n k s (now (store .entry)) (now (query .entry))) (now (out .entry)) ⌝ }
 {
     let symbols = parameters::power(n, k);
-    let sets = even_layout::ordered_sets(k);
+    let sets = even_sets::ordered_sets(k);
     let count = parameters::power(2, k) - 1;
     let mut at = 0;
     let mut end = 0;
     let mut i = 0;
     while i < count {
         let set = sets[i];
-        let rows = even_layout::rows_of(n, set);
+        let rows = even_sets::rows_of(n, set);
         answer_set(
             op,
             n,

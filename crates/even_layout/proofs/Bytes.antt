@@ -9,7 +9,7 @@ use native.Mathlib.Omega.{arith}
 use borrow.Author.Tests.{eq-eqb, ne-eqb}
 use lib.ListN.{replicate}
 use Rattle.even_places.specs.Rule.{members}
-use Rattle.even_layout.specs.Layout.{setIn}
+use Rattle.even_sets.specs.Sets.{setIn}
 
 -- the members from message p on, where `rest` is what is left of the set's byte
 abbrev pub membersFrom : ℕ → ℕ → ℕ → List ℕ

@@ -25,8 +25,9 @@ use Rattle.even_places.proofs.Rows.{below}
 use Rattle.even_places.proofs.Bytes.{byte-ones, byte-below}
 use Rattle.even_places.proofs.AllSets.{IsSet, all-sets, alike-all, layout-by-set}
 use Rattle.even_places.proofs.SetRuns.{first-here, first-later}
-use Rattle.even_layout.specs.Layout.{LayoutBounds, setIn, rowsOf, firstRowOf, firstRows}
-use Rattle.even_layout.proofs.Tables.{set-in, rows-low}
+use Rattle.even_sets.specs.Sets.{LayoutBounds, setIn, rowsOf}
+use Rattle.even_sets.proofs.SetBytes.{set-in, setIn-length, rows-low}
+use Rattle.even_layout.specs.Layout.{firstRowOf, firstRows}
 
 -- the table with the first row of each set in turn, where the rows before these sets are `row` many
 unfoldable pub filled : ℕ → ℕ → List (List Bool) → List ℕ → List ℕ
@@ -87,11 +88,6 @@ filled-at N K row X table bounds e h (allCons {x = A} {xs = L} s a) one =
         ih (omega arith) ∙ add-assoc row (rowsOf N A) (firstRow X (rowsAll N L)) ∙ ap (λ (n : ℕ). row + n) (sym (first-later X A (rowsOf N A) (rowsAll N L) t))
 
 -- ---- Bytes and sets
-
-pub setIn-length : (K x : ℕ) → length (setIn K x) ≡ K
-unfolding setIn
-setIn-length zero x = refl
-setIn-length (suc K) x = ap suc (setIn-length K (x / 2))
 
 byte-setIn : (K x : ℕ) → x < 2 ^ K → byteOf (setIn K x) ≡ x
 unfolding setIn byteOf

@@ -1,5 +1,3 @@
-pub mod Blocks
 pub mod Bytes
 pub mod Tables
 pub mod Firsts
-pub mod Fits

@@ -1,21 +1,24 @@
 -- Where things stand: the message at each position of a query, the same at every server and for every wanted message (`same-members`),
--- how many positions there are (`positions-length`), and the row that a wanted row is joined from, by number (`joined-at`).
-use Prim.Native.Nat.{ℕ, suc, _+_, _*_, _-_, _^_, _<_}
+-- one of the K messages (`positions-below`), how many positions there are (`positions-length`), and the row that a wanted row is joined from,
+-- by number (`joined-at`).
+use Prim.Native.Nat.{ℕ, suc, _+_, _*_, _-_, _^_, _≤_, _<_}
 use native.Mathlib.Omega.{arith}
 use mathlib.Core.Path.{_≡_, refl, sym, ap, _∙_, fun-ext}
 use mathlib.Core.List.{List, [], _∷_, map, flatMap}
 use mathlib.Core.Bool.{Bool, true, false}
 use mathlib.Core.Option.{none, some}
 use lib.ListN.{length, getD, set, length-replicate, length-set, length-map, List·getD-map}
-use Rattle.lists.specs.Sums.{bit, sum}
+use Rattle.lists.specs.Below.{Below}
+use Rattle.lists.specs.Sums.{bit, sum, All, allNil, allCons}
 use Rattle.lists.proofs.Joined.{map-flatMap, flatMap-map, flatMap-at}
-use Rattle.lists.proofs.Each.{All-imp}
+use Rattle.lists.proofs.Each.{All-get, All-imp, All-flatMap}
 use Rattle.even_places.specs.Rule.{has, onesIn, members, Row, others, isSome, same, ofSet, cells, rows, queryCells, layout, positions}
 use Rattle.even_places.specs.Counting.{block}
 use Rattle.even_places.proofs.Others.{others-length, others-below}
 use Rattle.even_places.proofs.SetLaws.{setOf, keep-sets, ones-drop}
 use Rattle.even_places.proofs.Joined.{same-layout, group-size, joined}
 use Rattle.even_places.proofs.Flat.{query-length}
+use Rattle.even_places.proofs.AllSets.{layout-long}
 
 cells-members : (q : ℕ) (r : Row) → map (λ e. e .0) (cells q r) ≡ members q (setOf r)
 unfolding cells members setOf isSome
@@ -31,6 +34,17 @@ same-members N K k n wide known l =
     ∙ ap (λ g. flatMap g (rows N K k n)) (fun-ext (cells-members 0))
     ∙ sym (flatMap-map (members 0) setOf (rows N K k n))
     ∙ ap (flatMap (members 0)) (same-layout N K k wide known n l)
+
+pub members-below : (K q : ℕ) (A : List Bool) → q + length A ≤ K → All (λ p. p < K) (members q A)
+unfolding members
+members-below K q [] h = allNil
+members-below K q (true ∷ A) h = allCons {x = q} (omega arith) (members-below K (suc q) A (omega arith))
+members-below K q (false ∷ A) h = members-below K (suc q) A (omega arith)
+
+-- at each position stands one of the messages
+pub positions-below : (N K : ℕ) → Below K (positions N K)
+unfolding positions
+positions-below N K i h = All-get 0 (All-flatMap (members 0) (All-imp (λ A e. members-below K 0 A (omega (arith, e))) (layout-long N K))) i h
 
 pub positions-length : (N K : ℕ) → 1 < N → 0 < K → length (positions N K) ≡ K * N ^ (K - 1)
 unfolding positions

@@ -18,8 +18,8 @@ use Rattle.lists.proofs.Cuts.{cut-length}
 use Rattle.lists.proofs.Below.{below-front, below-back}
 use Rattle.lists.proofs.Writing.{Pending, pending-part}
 use Rattle.even_places.specs.Rule.{onesIn, members, allSets}
-use Rattle.even_layout.specs.Layout.{LayoutBounds, setIn, rowsOf}
-use Rattle.even_layout.proofs.Tables.{rows-high}
+use Rattle.even_sets.specs.Sets.{LayoutBounds, setIn, rowsOf}
+use Rattle.even_sets.proofs.SetBytes.{rows-high}
 use Rattle.even_ranks.specs.Counts.{Stands, countersOf, setCounted}
 use Rattle.even_ranks.specs.Walk.{originPlace, plain, joined, originOf, rowPlaces, setPlaces, setsPlaces}
 use Rattle.even_ranks.specs.declared.Origin.{Origin}

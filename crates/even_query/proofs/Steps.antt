@@ -18,10 +18,10 @@ use Rattle.lists.proofs.Mapped.{mapped-length, mapped-at}
 use Rattle.even_places.specs.Rule.{has, onesIn}
 use Rattle.even_places.proofs.Bytes.{byte-has}
 use Rattle.even_places.proofs.AllSets.{ones-most}
-use Rattle.even_layout.specs.Layout.{setIn}
+use Rattle.even_sets.specs.Sets.{setIn}
+use Rattle.even_sets.proofs.SetBytes.{setIn-length}
 use Rattle.even_ranks.specs.Counts.{Stands, takers, taken, takenTable}
 use Rattle.even_ranks.specs.Walk.{placeAmong, plain, joined, isJoined, originOf}
-use Rattle.even_layout.proofs.Firsts.{setIn-length}
 use Rattle.even_ranks.proofs.Steps.{stands-count}
 use Rattle.even_query.specs.Query.{Tables, OriginWithin}
 

@@ -4,7 +4,7 @@ use mathlib.Core.Path.{_≡_}
 use mathlib.Core.List.{List, zipWith}
 use Prim.Native.Nat.{ℕ, _+_, _-_, _*_, _≤_, _<_}
 use lib.ListN.{length, getD}
-use Rattle.even_layout.specs.Layout.{LayoutBounds}
+use Rattle.even_sets.specs.Sets.{LayoutBounds}
 use Rattle.even_ranks.specs.Counts.{takenTable}
 use Rattle.even_ranks.specs.declared.Origin.{Origin}
 

@@ -13,7 +13,7 @@ ghost use Rattle.lists.specs.Padded.{padded};
 ghost use Rattle.lists.specs.Parts.{put};
 ghost use Rattle.even_places.specs.Rule.{byteOf, members, queryCells, allSets};
 ghost use Rattle.even_scheme.specs.Even.{evenQuery};
-ghost use Rattle.even_layout.specs.Layout.{setIn};
+ghost use Rattle.even_sets.specs.Sets.{setIn};
 ghost use Rattle.even_ranks.specs.Counts.{Stands, noCounts};
 ghost use Rattle.even_ranks.specs.Walk.{placeAmong, originPlace, setPlaces, setsPlaces};
 ghost use Rattle.even_query.specs.Query.{Asks, Tables, OriginWithin, Keyed, entries};
@@ -136,7 +136,7 @@ fn write_set(
 {
     let ones = u8::count_ones(set) as usize;
     let joins = origins::is_joined(wanted, set);
-    let rows = even_layout::rows_of(n, set);
+    let rows = even_sets::rows_of(n, set);
     let mut end = at;
     let mut i = 0;
     while i < rows {
@@ -191,7 +191,7 @@ pub fn places(n: usize, k: usize, wanted: usize, server: usize) -> [u8; 1024]
     requires { ⌜ Asks n k wanted server ⌝ }
     ensures { λ r. ⌜ r ≡ padded 1024 (map (λ cell. cell .1) (queryCells n k wanted server)) ⌝ }
 {
-    let table = even_layout::ordered_sets(k);
+    let table = even_sets::ordered_sets(k);
     let count = parameters::power(2, k) - 1;
     let sets = &table[..count];
     let totals = even_ranks::totals(k, wanted, sets);

@@ -24,10 +24,9 @@ use Rattle.even_places.specs.Rule.{has, byteOf, onesIn, after, allSets}
 use Rattle.even_places.proofs.Rows.{after-length}
 use Rattle.even_places.proofs.Bytes.{byte-has, byte-ones}
 use Rattle.even_places.proofs.AllSets.{IsSet, all-sets}
-use Rattle.even_layout.specs.Layout.{setIn}
-use Rattle.even_layout.proofs.Blocks.{all-length, subsets-few}
-use Rattle.even_layout.proofs.Tables.{byte-at}
-use Rattle.even_layout.proofs.Firsts.{setIn-length}
+use Rattle.even_sets.specs.Sets.{setIn}
+use Rattle.even_sets.proofs.Blocks.{all-length, subsets-few}
+use Rattle.even_sets.proofs.SetBytes.{setIn-length, byte-at}
 use Rattle.even_ranks.proofs.Counters.{room, countedAll-length}
 use Rattle.even_ranks.specs.Counts.{counter, noCounts, Stands, countersOf, setCounted, countedAll, totalsOf, takers, taken, takenTable}
 

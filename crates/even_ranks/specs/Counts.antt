@@ -11,7 +11,7 @@ use Rattle.lists.specs.Parts.{cut, put}
 use Rattle.lists.specs.Ranges.{range}
 use Rattle.lists.specs.Sums.{bit, sum}
 use Rattle.even_places.specs.Rule.{has, byteOf, onesIn, after, allSets}
-use Rattle.even_layout.specs.Layout.{setIn}
+use Rattle.even_sets.specs.Sets.{setIn}
 
 -- where the counter of message p stands
 unfoldable pub counter : Bool → ℕ → ℕ → ℕ

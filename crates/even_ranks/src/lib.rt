@@ -8,7 +8,7 @@ ghost use lib.Dec.{eqb};
 ghost use lib.ListN.{length};
 ghost use Rattle.lists.specs.Below.{Below};
 ghost use Rattle.even_places.specs.Rule.{byteOf, after, allSets};
-ghost use Rattle.even_layout.specs.Layout.{setIn};
+ghost use Rattle.even_sets.specs.Sets.{setIn};
 ghost use Rattle.even_ranks.specs.Counts.{«counter» as counterAt, Stands, setCounted, totalsOf, «takers» as takersOf, taken, takenTable};
 
 // Where the places of a row come from.

@@ -25,10 +25,10 @@ use Rattle.even_places.proofs.WantedCells.{cellsOf}
 use Rattle.even_places.proofs.AllSets.{ones-most}
 use Rattle.lists.specs.Assembled.{assemble}
 use Rattle.even_scheme.specs.Even.{recoveredPart, serverParts, evenScheme}
-use Rattle.even_layout.specs.Layout.{rowsOf}
-use Rattle.even_layout.proofs.Blocks.{all-length, subsets-few}
-use Rattle.even_layout.proofs.Fits.{layout-bounds}
-use Rattle.even_layout.proofs.Tables.{SetByte, byte-at}
+use Rattle.even_sets.specs.Sets.{rowsOf}
+use Rattle.even_sets.proofs.Blocks.{all-length, subsets-few}
+use Rattle.even_sets.proofs.Fits.{layout-bounds}
+use Rattle.even_sets.proofs.SetBytes.{SetByte, byte-at}
 use Rattle.even_recover.specs.declared.ServerRows.{ServerRows}
 use Rattle.even_recover.specs.Rows.{serverRowsOf, groupParts, groupOf, setParts, Held, Ready}
 use Rattle.even_recover.proofs.Groups.{Reads, WantedSet, group-grouped}

@@ -11,7 +11,7 @@ use Rattle.scheme.specs.Scheme.{answersIn}
 use Rattle.even_places.specs.Rule.{byteOf, allSets}
 use Rattle.lists.specs.Assembled.{assemble}
 use Rattle.even_scheme.specs.Even.{serverParts, recoveredParts, evenScheme}
-use Rattle.even_layout.proofs.Blocks.{all-bytes}
+use Rattle.even_sets.proofs.Blocks.{all-bytes}
 use Rattle.lists.proofs.Assembled.{assemble-list}
 
 pub record Front (K count : ℕ) (table : List ℕ) : Type 0 where

@@ -103,7 +103,7 @@ fn group_of(here: ServerRows, set: u8, cell: usize, firsts: &[usize]) -> Group
     requires { ⌜ Given here set cell (now firsts) ⌝ }
     ensures { λ r. ⌜ r ≡ groupOf here set cell (now (firsts .entry)) ⌝ }
 {
-    let count = even_layout::rows_of(here.servers, set);
+    let count = even_sets::rows_of(here.servers, set);
     Group {
         messages: u8::count_ones(set) as usize,
         count,
@@ -190,7 +190,7 @@ fn from_server(
     while j < sets.len() {
         let set = sets[j];
         from_set(op, here, set, cell, firsts, &asked, answers, message);
-        cell += even_layout::rows_of(n, set) * u8::count_ones(set) as usize;
+        cell += even_sets::rows_of(n, set) * u8::count_ones(set) as usize;
         j += 1;
     }
 }
@@ -214,7 +214,7 @@ pub fn recover(
         ≡ assemble (recoveredParts (sumOf op) n k s wanted (now (key .entry))
         (answersIn (evenScheme (sumOf op) n k s) n wanted (now (key .entry)) (now (answers .entry)))) (now (message .entry)) ⌝ }
 {
-    let sets = even_layout::ordered_sets(k);
+    let sets = even_sets::ordered_sets(k);
     let count = parameters::power(2, k) - 1;
     let firsts = even_layout::first_rows(n, k);
     let mut server = 0;

@@ -1,9 +1,9 @@
 -- An answer has one symbol for each row of the query (`answer-length`), so it fills its slot (`answer-fits`). Rests on the number of
 -- rows of a layout (`layout-length`).
 use mathlib.Core.Path.{_≡_, sym, ap, _∙_}
-use mathlib.Core.Bool.{Bool, true, false}
+use mathlib.Core.Bool.{Bool, true}
 use mathlib.Core.List.{List, [], _∷_, zipWith}
-use Prim.Native.Nat.{ℕ, suc, _+_, _-_, _*_, _^_, _≤_, _<_}
+use Prim.Native.Nat.{ℕ, suc, _-_, _*_, _^_, _≤_, _<_}
 use native.Mathlib.Nat.{suc-mul, zero-mul}
 use native.Mathlib.Omega.{arith}
 use lib.ListN.{length, drop, length-append, length-map, length-replicate}
@@ -15,11 +15,12 @@ use Rattle.parameters.specs.Measures.{evenSizes, evenRows}
 use Rattle.parameters.proofs.Bounds.{even-bounds}
 use Rattle.symbol.specs.Sum.{Sum, zeros, total, totalFrom}
 use Rattle.symbol.specs.Group.{KeepsLength}
-use Rattle.even_places.specs.Rule.{onesIn, members, rows, layout}
+use Rattle.even_places.specs.Rule.{onesIn, rows, layout}
 use Rattle.even_places.proofs.Counts.{rows-length}
 use Rattle.even_places.proofs.Joined.{same-layout}
 use Rattle.even_places.proofs.SetLaws.{setOf}
 use Rattle.even_places.proofs.AllSets.{layout-long}
+use Rattle.even_places.proofs.Positions.{members-below}
 use Rattle.even_scheme.specs.Even.{symbolOf, rowAnswer, rowAnswers, evenAnswer, evenScheme}
 use Rattle.even_scheme.proofs.Measures.{rows-counted}
 use Rattle.even_scheme.proofs.Reach.{admitted}
@@ -31,12 +32,6 @@ layout-length N K wide some =
     ∙ length-map (rows N K 0 0) setOf
     ∙ rows-length N K 0 wide some 0 (omega arith)
     ∙ sym (rows-counted N K wide some)
-
-members-below : (K q : ℕ) (A : List Bool) → q + length A ≤ K → All (λ p. p < K) (members q A)
-unfolding members
-members-below K q [] h = allNil
-members-below K q (true ∷ A) h = allCons {x = q} (omega arith) (members-below K (suc q) A (omega arith))
-members-below K q (false ∷ A) h = members-below K (suc q) A (omega arith)
 
 module _ (sum : Sum) (N K S : ℕ) (keeps : KeepsLength (sum .plus) S) where
   total-long : {xs : List (List ℕ)} → All (λ x. length x ≡ S) xs → length (total sum S xs) ≡ S

@@ -16,9 +16,9 @@ use Rattle.catalogue.specs.declared.Catalogue.{Catalogue}
 use Rattle.catalogue.proofs.Faults.{after-catalogue}
 use Rattle.session.specs.declared.Session.{Session}
 use Rattle.session.specs.Fields.{markIssued}
-use Rattle.session.specs.Calls.{codeOf, queryOf, serverFaults, issueVerdict, issueBy, issue}
-use Rattle.session.proofs.Sound.{Sound}
-use Rattle.session.proofs.Links.{holds-sound, server-passed}
+use Rattle.session.specs.Calls.{codeOf, queryOf, askFaults, issueVerdict, issueBy, issue}
+use Rattle.session_checks.proofs.Links.{server-passed}
+use Rattle.session.proofs.Sound.{Sound, holds-sound}
 use Rattle.session.proofs.Goes.{Goes, goes}
 
 module _ (schemeOf : Catalogue → Scheme) (s : Session) (server : ℕ) where
@@ -31,8 +31,8 @@ module _ (schemeOf : Catalogue → Scheme) (s : Session) (server : ℕ) where
   pub issue-passed : (room : ℕ) → issueVerdict schemeOf s server room ≡ Accepted → Issues room
   unfolding issueVerdict
   issue-passed room e =
-      let p = first-accepted (serverFaults schemeOf s server) _ e in
-      let a = server-passed schemeOf s server (p .0) in
+      let p = first-accepted (askFaults schemeOf s server) _ e in
+      let a = server-passed schemeOf (s .catalogue) (s .wanted) (s .key) server (p .0) in
       record {
         sound = holds-sound schemeOf s (a .holds) (not-false _ (p .1 .1 .0));
         below = a .below;

@@ -1,7 +1,6 @@
 pub mod Places
 pub mod Goes
 pub mod Sound
-pub mod Links
 pub mod Begin
 pub mod Issue
 pub mod Take
@@ -9,5 +8,3 @@ pub mod Recover
 pub mod Slots
 pub mod Promised
 pub mod ByteBound
-pub mod Numbers
-pub mod Unused

@@ -17,9 +17,9 @@ use Rattle.scheme.specs.Scheme.{Scheme}
 use Rattle.catalogue.specs.declared.Catalogue.{Catalogue}
 use Rattle.session.specs.declared.Session.{Session}
 use Rattle.session_parts.specs.Marks.{allTaken}
-use Rattle.session.specs.Calls.{codeOf, slotsOf, sessionFaults, recoveredMessage, recoverVerdict, recoverBy, recover}
-use Rattle.session.proofs.Sound.{Sound}
-use Rattle.session.proofs.Links.{holds-sound, sound-holds, session-passed, session-accepted}
+use Rattle.session.specs.Calls.{codeOf, slotsOf, ownFaults, recoveredMessage, recoverVerdict, recoverBy, recover}
+use Rattle.session_checks.proofs.Links.{session-passed, session-accepted}
+use Rattle.session.proofs.Sound.{Sound, holds-sound, sound-holds}
 use Rattle.session.proofs.Goes.{Goes, goes}
 
 module _ (schemeOf : Catalogue → Scheme) (s : Session) where
@@ -33,10 +33,10 @@ module _ (schemeOf : Catalogue → Scheme) (s : Session) where
   pub recover-passed : (answersRoom room : ℕ) → recoverVerdict schemeOf s answersRoom room ≡ Accepted → Recovers answersRoom room
   unfolding recoverVerdict
   recover-passed answersRoom room e =
-      let p = first-accepted (sessionFaults schemeOf s) _ e in
+      let p = first-accepted (ownFaults schemeOf s) _ e in
       let n = p .1 in
       record {
-        sound = holds-sound schemeOf s (session-passed schemeOf s (p .0)) (not-false _ (n .1 .1 .0));
+        sound = holds-sound schemeOf s (session-passed schemeOf (s .catalogue) (s .wanted) (s .key) (p .0)) (not-false _ (n .1 .1 .0));
         slots-fit = ltb-false answersRoom (slotsOf schemeOf (s .catalogue)) (n .0);
         roomy = ltb-false room (codeOf schemeOf s .sizes .message) (n .1 .0);
         all-taken = not-false _ (n .1 .1 .1 .0);
@@ -49,8 +49,8 @@ module _ (schemeOf : Catalogue → Scheme) (s : Session) where
       (refuseIf (ltb room (codeOf schemeOf s .sizes .message)) 9 (refuseIf (not (allTaken (s .catalogue .servers) (s .taken))) 12 Accepted))
   unfolding recoverVerdict
   recover-verdict sound answersRoom room =
-      sym (after-first (sessionFaults schemeOf s) _ refl refl Accepted _ (sym (session-accepted schemeOf s (sound-holds schemeOf s sound)))
-      (rw (sound .marks)))
+      let own = session-accepted schemeOf (s .catalogue) (s .wanted) (s .key) (sound-holds schemeOf s sound) in
+      sym (after-first (ownFaults schemeOf s) _ refl refl Accepted _ (sym own) (rw (sound .marks)))
 
   module _ (answers buffer : List ℕ) where
     pub recover-goes : Goes (recover schemeOf s answers buffer) (recoverVerdict schemeOf s (length answers) (length buffer))

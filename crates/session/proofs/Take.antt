@@ -18,9 +18,9 @@ use Rattle.catalogue.proofs.Faults.{after-catalogue}
 use Rattle.session.specs.declared.Session.{Session}
 use Rattle.session_parts.specs.Marks.{marked}
 use Rattle.session.specs.Fields.{markTaken}
-use Rattle.session.specs.Calls.{codeOf, queryOf, slotsOf, serverFaults, takeVerdict, takeBy, takeAnswer}
-use Rattle.session.proofs.Sound.{Sound}
-use Rattle.session.proofs.Links.{holds-sound, server-passed}
+use Rattle.session.specs.Calls.{codeOf, queryOf, slotsOf, askFaults, takeVerdict, takeBy, takeAnswer}
+use Rattle.session_checks.proofs.Links.{server-passed}
+use Rattle.session.proofs.Sound.{Sound, holds-sound}
 use Rattle.session.proofs.Goes.{Goes, goes}
 
 module _ (schemeOf : Catalogue → Scheme) (s : Session) (server : ℕ) where
@@ -36,8 +36,8 @@ module _ (schemeOf : Catalogue → Scheme) (s : Session) (server : ℕ) where
   pub take-passed : (size room : ℕ) → takeVerdict schemeOf s server size room ≡ Accepted → Takes size room
   unfolding takeVerdict
   take-passed size room e =
-      let p = first-accepted (serverFaults schemeOf s server) _ e in
-      let a = server-passed schemeOf s server (p .0) in
+      let p = first-accepted (askFaults schemeOf s server) _ e in
+      let a = server-passed schemeOf (s .catalogue) (s .wanted) (s .key) server (p .0) in
       let due = p .1 .1 .1 in
       record {
         sound = holds-sound schemeOf s (a .holds) (not-false _ (due .0));

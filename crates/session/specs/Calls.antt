@@ -6,7 +6,7 @@ use mathlib.Core.Bool.{not}
 use mathlib.Core.List.{List, [], _∷_, _++_}
 use Prim.Native.Nat.{ℕ, _*_}
 use lib.Dec.{leb, ltb, eqb}
-use lib.ListN.{length, take}
+use lib.ListN.{length}
 use Rattle.lists.specs.Parts.{put}
 use Rattle.refusal.specs.declared.Verdict.{Verdict}
 use Rattle.refusal.specs.declared.Verdict.the-variants.{Accepted, Refused}
@@ -18,7 +18,7 @@ use Rattle.catalogue.specs.declared.Catalogue.{Catalogue}
 use Rattle.catalogue.specs.Catalogue.{catalogueFaults, catalogueVerdict}
 use Rattle.session.specs.declared.Session.{Session}
 use Rattle.session.specs.declared.Handed.{Handed}
-use Rattle.session_parts.specs.Marks.{marked, marksGood, allTaken}
+use Rattle.session_checks.specs.Checks.{usedPlaces, sessionFaults, serverFaults, marksFault, dueFaults, missingFault}
 use Rattle.session.specs.Fields.{newSession, zeroSession, markIssued, markTaken}
 
 -- What issue, take and recover do: what they hand back, and how they leave the buffer that they may write (the query's, the answers', the message's)
@@ -39,25 +39,13 @@ abbrev pub callBy : Session → List ℕ → Session → List ℕ → Verdict �
 callBy s buffer after written Accepted = out Accepted after written
 callBy s buffer after written (Refused refusal) = out (Refused refusal) s buffer
 
--- marks that no history of calls gives
-abbrev pub marksFault : Session → Fault
-marksFault s = fault 11 (not (marksGood (s .catalogue .servers) (s .issued) (s .taken)))
-
--- the server's answer is not due: no query was issued to it, or its answer was taken
-abbrev pub dueFaults : Session → ℕ → List Fault
-dueFaults s server = fault 11 (not (marked (s .issued) server)) ∷ fault 11 (marked (s .taken) server) ∷ []
-
--- an answer is missing
-abbrev pub missingFault : Session → Fault
-missingFault s = fault 12 (not (allTaken (s .catalogue .servers) (s .taken)))
-
 module _ (schemeOf : Catalogue → Scheme) where
   abbrev pub codeOf : Session → Scheme
   codeOf s = schemeOf (s .catalogue)
 
   -- the places of the session's key that are used
   abbrev pub keyOf : Session → List ℕ
-  keyOf s = take (codeOf s .sizes .key) (s .key)
+  keyOf s = usedPlaces schemeOf (s .catalogue) (s .key)
 
   -- the query that the session's message and key call for at a server
   abbrev pub queryOf : Session → ℕ → List ℕ
@@ -67,16 +55,12 @@ module _ (schemeOf : Catalogue → Scheme) where
   abbrev pub slotsOf : Catalogue → ℕ
   slotsOf c = c .servers * schemeOf c .sizes .slot
 
-  -- wanted and key of a session are checked again
-  abbrev pub fieldFaults : Session → List Fault
-  fieldFaults s = fault 4 (leb (s .catalogue .messages) (s .wanted)) ∷ fault 6 (not (codeOf s .keyGood (keyOf s))) ∷ []
+  -- what a call checks of the session's fields, and of the server that it names
+  abbrev pub ownFaults : Session → List Fault
+  ownFaults s = sessionFaults schemeOf (s .catalogue) (s .wanted) (s .key)
 
-  abbrev pub sessionFaults : Session → List Fault
-  sessionFaults s = catalogueFaults (s .catalogue) ++ fieldFaults s
-
-  -- of a call that names a server
-  abbrev pub serverFaults : Session → ℕ → List Fault
-  serverFaults s server = catalogueFaults (s .catalogue) ++ (fault 3 (leb (s .catalogue .servers) server) ∷ fieldFaults s)
+  abbrev pub askFaults : Session → ℕ → List Fault
+  askFaults s = serverFaults schemeOf (s .catalogue) (s .wanted) (s .key)
 
   -- begin catalogue wanted key
   abbrev pub beginFaults : Catalogue → ℕ → List ℕ → List Fault
@@ -99,7 +83,8 @@ module _ (schemeOf : Catalogue → Scheme) where
 
   -- issue session server buffer: the query, at the start of the buffer
   abbrev pub issueFaults : Session → ℕ → ℕ → List Fault
-  issueFaults s server room = serverFaults s server ++ (fault 9 (ltb room (codeOf s .sizes .query)) ∷ marksFault s ∷ [])
+  issueFaults s server room =
+      askFaults s server ++ (fault 9 (ltb room (codeOf s .sizes .query)) ∷ marksFault (s .catalogue .servers) (s .issued) (s .taken) ∷ [])
 
   unfoldable pub issueVerdict : Session → ℕ → ℕ → Verdict
   issueVerdict s server room = foremost (issueFaults s server room)
@@ -114,11 +99,11 @@ module _ (schemeOf : Catalogue → Scheme) where
   -- query that the session calls for there, issued or not
   abbrev pub takeFaults : Session → ℕ → ℕ → ℕ → List Fault
   takeFaults s server size room =
-      serverFaults s server
+      askFaults s server
       ++ (fault 9 (ltb room (slotsOf (s .catalogue)))
       ∷ fault 10 (not (eqb size (codeOf s .answerLength (queryOf s server))))
-      ∷ marksFault s
-      ∷ dueFaults s server)
+      ∷ marksFault (s .catalogue .servers) (s .issued) (s .taken)
+      ∷ dueFaults (s .issued) (s .taken) server)
 
   unfoldable pub takeVerdict : Session → ℕ → ℕ → ℕ → Verdict
   takeVerdict s server size room = foremost (takeFaults s server size room)
@@ -132,11 +117,11 @@ module _ (schemeOf : Catalogue → Scheme) where
   -- recover session answers buffer: the message, at the start of the buffer, from the answers in their slots; the session as it was
   abbrev pub recoverFaults : Session → ℕ → ℕ → List Fault
   recoverFaults s answersRoom room =
-      sessionFaults s
+      ownFaults s
       ++ (fault 9 (ltb answersRoom (slotsOf (s .catalogue)))
       ∷ fault 9 (ltb room (codeOf s .sizes .message))
-      ∷ marksFault s
-      ∷ missingFault s
+      ∷ marksFault (s .catalogue .servers) (s .issued) (s .taken)
+      ∷ missingFault (s .catalogue .servers) (s .taken)
       ∷ [])
 
   unfoldable pub recoverVerdict : Session → ℕ → ℕ → Verdict

@@ -1,4 +1,2 @@
 pub mod Fields
 pub mod Calls
-pub mod Numbers
-pub mod Unused

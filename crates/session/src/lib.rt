@@ -1,19 +1,17 @@
 // The session: one fetch, from its key to its message, passed from call to call by value. Its calls are defined in specs/Calls.antt.
 // Each has a function for its verdict; refused, it hands back what it was given, else it writes, and marks the session.
 ghost use mathlib.Core.Path.{_≡_};
-ghost use mathlib.Core.Bool.{true};
 ghost use Prim.Native.Nat.{_≤_, _<_};
 ghost use lib.ListN.{length};
-ghost use Rattle.lists.specs.Parts.{put};
-ghost use Rattle.catalogue.specs.Catalogue.{Admitted};
 ghost use Rattle.codes.specs.Codes.{schemeOf};
 ghost use Rattle.session.specs.Fields.{zeroSession, newSession, markIssued, markTaken};
-ghost use Rattle.session.specs.Calls.{Did, codeOf, keyOf, slotsOf, recoveredMessage};
+ghost use Rattle.session.specs.Calls.{Did};
 ghost use Rattle.session.specs.Calls.{begin as begin·, issue as issue·, takeAnswer, recover as recover·, bound as bound·};
 use catalogue::Catalogue;
 use catalogue::Code;
 use refusal::Outcome;
 use refusal::Verdict;
+use session_checks::keyed;
 
 // The verdict of each call.
 mod verdicts;
@@ -52,21 +50,6 @@ fn new_session(catalogue: Catalogue, wanted: usize, key: &[u8]) -> Session
     }
 }
 
-// Writes the message that the answers in their slots give at the start of `message`.
-fn write_message(s: Session, answers: &[u8], message: &mut [u8])
-    requires { ⌜ Admitted (s .catalogue) ⌝ }
-    requires { ⌜ s .wanted < s .catalogue .messages ⌝ }
-    requires { ⌜ codeOf schemeOf s .keyGood (keyOf schemeOf s) ≡ true ⌝ }
-    requires { ⌜ slotsOf schemeOf (s .catalogue) ≤ length (now answers) ⌝ }
-    requires { ⌜ codeOf schemeOf s .sizes .message ≤ length (now message) ⌝ }
-    ensures { λ _. ⌜ now (message .exit) ≡ put 0 (recoveredMessage schemeOf s (now (answers .entry))) (now (message .entry)) ⌝ }
-{
-    let sizes = verdicts::sizes_of(s.catalogue);
-    let size = sizes.key;
-    let key = s.key;
-    codes::recover(s.catalogue, s.wanted, &key[..size], answers, message);
-}
-
 // An upper bound on the bytes that a fetch receives: N slots.
 pub fn bound(catalogue: Catalogue) -> Outcome
     ensures { λ r. ⌜ r ≡ bound· schemeOf catalogue ⌝ }
@@ -74,7 +57,7 @@ pub fn bound(catalogue: Catalogue) -> Outcome
     if let Verdict::Refused(refusal) = catalogue::verdict(catalogue) {
         return Outcome::Refused(refusal);
     }
-    let sizes = verdicts::sizes_of(catalogue);
+    let sizes = keyed::sizes_of(catalogue);
     Outcome::Value(catalogue.servers * sizes.slot)
 }
 
@@ -125,7 +108,8 @@ impl Session {
                 session: self,
             };
         }
-        verdicts::write_query(self, server, query);
+        let key = self.key;
+        keyed::write_query(self.catalogue, self.wanted, &key, server, query);
         Handed {
             verdict: Verdict::Accepted,
             session: self.mark_issued(server),
@@ -143,7 +127,7 @@ impl Session {
                 session: self,
             };
         }
-        let sizes = verdicts::sizes_of(self.catalogue);
+        let sizes = keyed::sizes_of(self.catalogue);
         session_parts::put_answer(answers, server * sizes.slot, answer);
         Handed {
             verdict: Verdict::Accepted,
@@ -162,7 +146,8 @@ impl Session {
                 session: self,
             };
         }
-        write_message(self, answers, message);
+        let key = self.key;
+        keyed::write_message(self.catalogue, self.wanted, &key, answers, message);
         Handed {
             verdict: Verdict::Accepted,
             session: self,

@@ -1,9 +1,12 @@
 // The short code of Tian, Sun and Chen: keys, queries, admission, answers and recovery, for n servers and k messages of n - 1
-// symbols of s bytes. The rule is specs/Short.antt. Rows are answered in rows.rt and recovered from in recovering.rt.
+// symbols of s bytes. The rule is short_scheme/specs/Short.antt; rows are answered and recovered from in short_rows.
+use short_rows::answering;
+use short_rows::digits;
+use short_rows::recovering;
 use symbol::Operation;
 ghost use mathlib.Core.Path.{_≡_};
 ghost use mathlib.Core.Bool.{true};
-ghost use Prim.Native.Nat.{_+_, _*_, _%_, _≤_, _<_};
+ghost use Prim.Native.Nat.{_*_, _≤_, _<_};
 ghost use lib.ListN.{length, getD};
 ghost use Rattle.lists.specs.Parts.{put};
 ghost use Rattle.lists.specs.Below.{allBelow};
@@ -12,51 +15,8 @@ ghost use Rattle.parameters.specs.Bounds.{shortFits};
 ghost use Rattle.parameters.specs.Measures.{shortSizes};
 ghost use Rattle.symbol.specs.Operations.{sumOf};
 ghost use Rattle.scheme.specs.Scheme.{Valid, recoverIn};
-ghost use Rattle.short_code.specs.Short.{digitSum, balancing, shortQuery, shortAdmits, shortAnswerLength, shortAnswer, shortScheme};
-ghost use Rattle.short_code.specs.Steps.{DigitRow};
-
-pub mod recovering;
-pub mod rows;
-
-// Whether every digit is below n.
-pub fn all_below(n: usize, digits: &[u8]) -> bool
-    ensures { λ r. ⌜ r ≡ allBelow n (now (digits .entry)) ⌝ }
-{
-    let mut i = 0;
-    while i < digits.len() {
-        if n <= digits[i] as usize {
-            return false;
-        }
-        i += 1;
-    }
-    true
-}
-
-// (a + b) modulo n, without a division.
-pub fn add_modulo(n: usize, a: usize, b: usize) -> usize
-    requires { ⌜ (a < n) × (b < n) ⌝ }
-    ensures { λ r. ⌜ r ≡ (a + b) % n ⌝ }
-{
-    let left = n - a;
-    if b < left {
-        return a + b;
-    }
-    b - left
-}
-
-// The digits summed up, modulo n.
-pub fn digit_sum(n: usize, digits: &[u8]) -> usize
-    requires { ⌜ allBelow n (now digits) ≡ true ⌝ }
-    ensures { λ r. ⌜ r ≡ digitSum (now (digits .entry)) % n ⌝ }
-{
-    let mut sum = 0;
-    let mut i = 0;
-    while i < digits.len() {
-        sum = add_modulo(n, sum, digits[i] as usize);
-        i += 1;
-    }
-    sum
-}
+ghost use Rattle.short_scheme.specs.Short.{balancing, shortQuery, shortAdmits, shortAnswerLength, shortAnswer, shortScheme};
+ghost use Rattle.short_scheme.specs.Rows.{DigitRow};
 
 // The digit that makes the key's digits sum up to the server's number, modulo n.
 fn balancing_digit(n: usize, server: usize, key: &[u8]) -> usize
@@ -64,7 +24,7 @@ fn balancing_digit(n: usize, server: usize, key: &[u8]) -> usize
     requires { ⌜ allBelow n (now key) ≡ true ⌝ }
     ensures { λ r. ⌜ r ≡ balancing n server (now (key .entry)) ⌝ }
 {
-    let sum = digit_sum(n, key);
+    let sum = digits::digit_sum(n, key);
     if sum <= server {
         return server - sum;
     }
@@ -75,7 +35,7 @@ fn balancing_digit(n: usize, server: usize, key: &[u8]) -> usize
 pub fn key_good(n: usize, key: &[u8]) -> bool
     ensures { λ r. ⌜ r ≡ allBelow n (now (key .entry)) ⌝ }
 {
-    all_below(n, key)
+    digits::all_below(n, key)
 }
 
 // Digit p of the key with `digit` inserted at position `wanted`.
@@ -124,17 +84,17 @@ pub fn admits(n: usize, k: usize, server: usize, query: &[u8]) -> bool
     if query.len() != k {
         return false;
     }
-    if !all_below(n, query) {
+    if !digits::all_below(n, query) {
         return false;
     }
-    digit_sum(n, query) == server
+    digits::digit_sum(n, query) == server
 }
 
 // The bytes that the query calls for.
 pub fn answer_length(s: usize, query: &[u8]) -> usize
     ensures { λ r. ⌜ r ≡ shortAnswerLength s (now (query .entry)) ⌝ }
 {
-    if all_below(1, query) {
+    if digits::all_below(1, query) {
         return 0;
     }
     s
@@ -167,7 +127,7 @@ pub fn answer(
     requires { ⌜ shortAnswerLength s (now query) ≤ length (now out) ⌝ }
     ensures { λ _. ⌜ now (out .exit) ≡ put 0 (shortAnswer (sumOf op) n s (now (store .entry)) (now (query .entry))) (now (out .entry)) ⌝ }
 {
-    rows::answer(op, 0, n - 1, s, store, query, out);
+    answering::answer(op, 0, n - 1, s, store, query, out);
 }
 
 // Writes the wanted message, from the slots of the answer buffer. The key is enough: k and `wanted` say which fetch it is.
@@ -189,7 +149,7 @@ pub fn recover(
         ≡ put 0 (recoverIn (shortScheme (sumOf op) n k s) n wanted (now (key .entry)) (now (answers .entry))) (now (message .entry)) ⌝ }
 {
     let starts = recovering::slot_starts(s);
-    let t = digit_sum(n, key);
-    let empty = all_below(1, key);
+    let t = digits::digit_sum(n, key);
+    let empty = digits::all_below(1, key);
     recovering::recover_row(op, n, s, t, empty, &starts, answers, message);
 }

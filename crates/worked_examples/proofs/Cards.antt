@@ -15,7 +15,7 @@ use Rattle.catalogue.specs.Catalogue.{catalogueVerdict}
 use Rattle.text_lines.specs.Decimal.{decimalIn, decimal, digitCount, valueFrom}
 use Rattle.text_lines.specs.Lines.{begins, isNumeral, numberAt, numberLine}
 use Rattle.catalogue_text.specs.Parsing.{codeLine, fourLines}
-use Rattle.short_code.specs.Short.{digitSum, shortQuery, shortAdmits, shortAnswerLength, named, shortAnswer, orZeros, recovered, shortRecover}
+use Rattle.short_scheme.specs.Short.{digitSum, shortQuery, shortAdmits, shortAnswerLength, named, shortAnswer, orZeros, recovered, shortRecover}
 use Rattle.even_places.specs.Rule.{sets, queryCells, layout}
 use Rattle.even_scheme.specs.Even.{permutation, entryAt, evenKeyGood, evenQuery}
 use Rattle.codes.specs.Codes.{schemeOf}

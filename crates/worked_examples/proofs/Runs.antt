@@ -15,7 +15,7 @@ use Rattle.scheme.specs.Scheme.{answersIn}
 use Rattle.catalogue.specs.declared.Catalogue.{Catalogue}
 use Rattle.catalogue.specs.declared.Code.the-variants.{Short}
 use Rattle.catalogue.specs.Catalogue.{catalogueVerdict}
-use Rattle.short_code.specs.Short.{digitSum, shortQuery, shortAdmits, shortAnswerLength, named, shortAnswer, orZeros, recovered, shortRecover}
+use Rattle.short_scheme.specs.Short.{digitSum, shortQuery, shortAdmits, shortAnswerLength, named, shortAnswer, orZeros, recovered, shortRecover}
 use Rattle.codes.specs.Codes.{schemeOf}
 use Rattle.server.specs.Answering.{answerVerdict, answering}
 use Rattle.session.specs.Calls.{beginVerdict, begin, issueVerdict, issue, takeVerdict, takeAnswer, recoverVerdict, recover}

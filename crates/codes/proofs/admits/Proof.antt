@@ -1,5 +1,5 @@
 -- `codes::admits` meets its contract: each arm asks the code that the catalogue names.
-use Rattle.even_layout.proofs.Fits.{layout-fits}
+use Rattle.even_sets.proofs.Fits.{layout-fits}
 use Rattle.codes.proofs.Promises.{admitted-even, scheme-short, scheme-even}
 use borrow.Author.Needs.{needs}
 use Rattle.codes.proofs.admits.Statement.{statement}

@@ -1,6 +1,6 @@
 -- `codes::answer` meets its contract: a query that the catalogue's code admits can be answered by that code.
 use Rattle.parameters.specs.Measures.{evenSizes}
-use Rattle.short_code.proofs.Queries.{admits-row}
+use Rattle.short_scheme.proofs.Queries.{admits-row}
 use Rattle.even_answer.proofs.Admission.{admitted-answerable}
 use Rattle.codes.proofs.Promises.{admitted-short, admitted-even, scheme-short, scheme-even}
 use borrow.Author.Needs.{needs}

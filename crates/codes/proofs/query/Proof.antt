@@ -3,7 +3,7 @@ use Prim.Native.Nat.{_-_}
 use native.Mathlib.Omega.{arith}
 use Rattle.parameters.specs.Measures.{shortSizes, evenSizes}
 use Rattle.parameters.proofs.Bounds.{short-bounds, even-bounds}
-use Rattle.even_layout.proofs.Fits.{layout-fits}
+use Rattle.even_sets.proofs.Fits.{layout-fits}
 use Rattle.codes.proofs.Promises.{admitted-short, admitted-even, scheme-short, scheme-even}
 use borrow.Author.Needs.{needs}
 use Rattle.codes.proofs.query.Statement.{statement}

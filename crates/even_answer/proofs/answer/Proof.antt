@@ -19,10 +19,11 @@ use Rattle.even_places.specs.Rule.{allSets, layout}
 use Rattle.even_places.proofs.AllSets.{layout-long}
 use Rattle.even_scheme.specs.Even.{rowAnswers, evenAnswer}
 use Rattle.even_scheme.proofs.Answers.{layout-length}
-use Rattle.even_layout.specs.Layout.{setIn}
-use Rattle.even_layout.proofs.Blocks.{subsets-few, all-length}
-use Rattle.even_layout.proofs.Fits.{layout-fits}
-use Rattle.even_layout.proofs.Tables.{byte-at, positionsFrom}
+use Rattle.even_sets.specs.Sets.{setIn}
+use Rattle.even_sets.proofs.Blocks.{subsets-few, all-length}
+use Rattle.even_sets.proofs.Fits.{layout-fits}
+use Rattle.even_sets.proofs.SetBytes.{byte-at}
+use Rattle.even_layout.proofs.Tables.{positionsFrom}
 use Rattle.even_answer.proofs.RowLaws.{answers-length}
 use Rattle.even_answer.proofs.SetRows.{rowsFrom, rows-all, rows-none, numbers-all}
 use Rattle.even_answer.proofs.Turns.{SetTurn, set-turn}

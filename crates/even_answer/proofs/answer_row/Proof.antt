@@ -16,7 +16,7 @@ use Rattle.symbol.specs.Operations.{sumOf}
 use Rattle.symbol.proofs.Operations.{group-of}
 use Rattle.even_places.specs.Rule.{members}
 use Rattle.even_scheme.specs.Even.{symbolOf, rowAnswer}
-use Rattle.even_layout.specs.Layout.{setIn}
+use Rattle.even_sets.specs.Sets.{setIn}
 use Rattle.even_layout.proofs.Bytes.{membersFrom, members-kept, members-skipped}
 use Rattle.even_answer.specs.Answering.{added}
 use Rattle.even_answer.proofs.RowLaws.{members-length, resumed, row-more, symbol-place, symbol-is, added-length}

@@ -15,8 +15,8 @@ use Rattle.lists.proofs.Writing.{Pending, pending-start, pending-as, pending-do
 use Rattle.symbol.specs.Operations.{sumOf}
 use Rattle.symbol.proofs.Operations.{group-of}
 use Rattle.even_scheme.specs.Even.{rowAnswer, rowAnswers}
-use Rattle.even_layout.specs.Layout.{setIn}
-use Rattle.even_layout.proofs.Firsts.{setIn-length}
+use Rattle.even_sets.specs.Sets.{setIn}
+use Rattle.even_sets.proofs.SetBytes.{setIn-length}
 use Rattle.even_answer.proofs.RowLaws.{answers-length}
 use Rattle.even_answer.proofs.Turns.{row-turn, row-given, row-long, row-done}
 use Rattle.even_answer.proofs.answer_set.Statement.{statement}

@@ -5,9 +5,9 @@ use Prim.Native.Nat.{_-_, _*_, _≤_, _<_}
 use native.Mathlib.Omega.{arith}
 use lib.ListN.{length, getD, drop, length-set, drop-of-length-le}
 use Rattle.even_places.specs.Rule.{allSets}
-use Rattle.even_layout.specs.Layout.{rowsOf}
-use Rattle.even_layout.proofs.Blocks.{subsets-few, all-length}
-use Rattle.even_layout.proofs.Tables.{SetByte, byte-at}
+use Rattle.even_sets.specs.Sets.{rowsOf}
+use Rattle.even_sets.proofs.Blocks.{subsets-few, all-length}
+use Rattle.even_sets.proofs.SetBytes.{SetByte, byte-at}
 use Rattle.even_layout.proofs.Firsts.{filled, filled-more, filled-firsts}
 use Rattle.even_layout.proofs.first_rows.Statement.{statement}
 use Rattle.even_layout.proofs.first_rows.Tie as tie

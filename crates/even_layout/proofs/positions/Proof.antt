@@ -7,9 +7,9 @@ use lib.ListN.{length, getD, replicate, length-append}
 use Rattle.lists.proofs.Writing.{Pending, pending-start, pending-part, pending-as, pending-done}
 use Rattle.lists.proofs.Puts.{put-padded}
 use Rattle.even_places.specs.Rule.{allSets, positions}
-use Rattle.even_layout.proofs.Blocks.{subsets-few, all-length}
-use Rattle.even_layout.proofs.Tables.{SetByte, byte-at, set-positions, setPositions}
-use Rattle.even_layout.proofs.Tables.{positionsFrom, positions-all, positions-none, positions-more, positions-room}
+use Rattle.even_sets.proofs.Blocks.{subsets-few, all-length}
+use Rattle.even_sets.proofs.SetBytes.{SetByte, byte-at}
+use Rattle.even_layout.proofs.Tables.{setPositions, set-positions, positionsFrom, positions-all, positions-none, positions-more, positions-room}
 use Rattle.even_layout.proofs.positions.Statement.{statement}
 use Rattle.even_layout.proofs.positions.Tie as tie
 

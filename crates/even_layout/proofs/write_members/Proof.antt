@@ -6,7 +6,7 @@ use native.Mathlib.Nat.{sub-zero}
 use native.Mathlib.Omega.{arith}
 use Rattle.lists.proofs.Writing.{Pending, pending-start, pending-byte, pending-as, pending-ends, pending-done}
 use Rattle.even_places.specs.Rule.{members}
-use Rattle.even_layout.specs.Layout.{setIn}
+use Rattle.even_sets.specs.Sets.{setIn}
 use Rattle.even_layout.proofs.Bytes.{membersFrom, members-kept, members-skipped}
 use Rattle.even_layout.proofs.write_members.Statement.{statement}
 use Rattle.even_layout.proofs.write_members.Tie as tie

@@ -7,7 +7,7 @@ use native.Mathlib.Omega.{arith}
 use lib.ListN.{replicate, length-append}
 use Rattle.lists.proofs.Writing.{Pending, pending-start, pending-part, pending-as, pending-ends, pending-done}
 use Rattle.even_places.specs.Rule.{members}
-use Rattle.even_layout.specs.Layout.{setIn}
+use Rattle.even_sets.specs.Sets.{setIn}
 use Rattle.even_layout.proofs.Bytes.{rows-more}
 use Rattle.even_layout.proofs.write_rows.Statement.{statement}
 use Rattle.even_layout.proofs.write_rows.Tie as tie

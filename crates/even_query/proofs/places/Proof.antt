@@ -9,7 +9,7 @@ use Rattle.lists.specs.Parts.{put}
 use Rattle.lists.proofs.Puts.{put-padded}
 use Rattle.lists.proofs.Cuts.{front-is, front-fits}
 use Rattle.even_places.specs.Rule.{byteOf, queryCells, allSets}
-use Rattle.even_layout.proofs.Blocks.{all-length, subsets-few, all-bytes}
+use Rattle.even_sets.proofs.Blocks.{all-length, subsets-few, all-bytes}
 use Rattle.even_ranks.proofs.Steps.{totals-length, totals-below}
 use Rattle.even_query.proofs.Whole.{places-are, places-below, places-length, query-room}
 use Rattle.even_query.proofs.places.Statement.{statement}

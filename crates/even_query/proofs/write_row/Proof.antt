@@ -9,7 +9,7 @@ use lib.ListN.{set, length-map}
 use Rattle.lists.specs.Below.{Below}
 use Rattle.lists.proofs.Writing.{Pending, pending-start, pending-byte, pending-as, pending-ends, pending-done}
 use Rattle.even_places.specs.Rule.{members}
-use Rattle.even_layout.specs.Layout.{setIn}
+use Rattle.even_sets.specs.Sets.{setIn}
 use Rattle.even_layout.proofs.Bytes.{membersFrom, members-kept, members-skipped}
 use Rattle.even_ranks.specs.declared.Origin.{Origin}
 use Rattle.even_ranks.specs.Walk.{originPlace}

@@ -8,7 +8,7 @@ use lib.Dec.{eqb}
 use Rattle.lists.specs.Below.{Below}
 use Rattle.lists.proofs.Writing.{Pending, pending-start, pending-as, pending-ends, pending-done}
 use Rattle.even_places.specs.Rule.{onesIn}
-use Rattle.even_layout.specs.Layout.{setIn}
+use Rattle.even_sets.specs.Sets.{setIn}
 use Rattle.even_ranks.specs.Walk.{setPlaces}
 use Rattle.even_ranks.proofs.Steps.{stands-count}
 use Rattle.even_query.proofs.Steps.{joined-two}

@@ -9,8 +9,8 @@ use Rattle.lists.specs.Below.{Below}
 use Rattle.lists.proofs.Below.{below-zeros}
 use Rattle.lists.proofs.Writing.{Pending, pending-start, pending-as, pending-done}
 use Rattle.even_places.specs.Rule.{byteOf, allSets}
-use Rattle.even_layout.specs.Layout.{setIn}
-use Rattle.even_layout.proofs.Blocks.{all-length, subsets-few}
+use Rattle.even_sets.specs.Sets.{setIn}
+use Rattle.even_sets.proofs.Blocks.{all-length, subsets-few}
 use Rattle.even_ranks.specs.Counts.{noCounts, Stands}
 use Rattle.even_ranks.specs.Walk.{setsPlaces}
 use Rattle.even_ranks.proofs.Counters.{counted-length}

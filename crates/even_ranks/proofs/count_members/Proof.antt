@@ -6,7 +6,7 @@ use native.Mathlib.Omega.{arith}
 use lib.ListN.{length, getD, length-set}
 use lib.Seq.{getD-set-other}
 use Rattle.even_places.specs.Rule.{after}
-use Rattle.even_layout.specs.Layout.{setIn}
+use Rattle.even_sets.specs.Sets.{setIn}
 use Rattle.even_ranks.proofs.Steps.{countsFrom, counts-start, counts-more, counts-done}
 use Rattle.even_ranks.proofs.count_members.Statement.{statement}
 use Rattle.even_ranks.proofs.count_members.Tie as tie

@@ -9,8 +9,8 @@ use lib.ListN.{length, getD, drop, length-map, drop-of-length-le}
 use Rattle.lists.specs.Below.{Below}
 use Rattle.lists.proofs.Below.{below-zeros}
 use Rattle.even_places.specs.Rule.{byteOf, allSets}
-use Rattle.even_layout.specs.Layout.{setIn}
-use Rattle.even_layout.proofs.Blocks.{all-length, subsets-few}
+use Rattle.even_sets.specs.Sets.{setIn}
+use Rattle.even_sets.proofs.Blocks.{all-length, subsets-few}
 use Rattle.even_ranks.specs.Counts.{noCounts, setCounted, countedAll, totalsOf}
 use Rattle.even_ranks.proofs.Counters.{counted-length}
 use Rattle.even_ranks.proofs.Steps.{stands-at, stands-set, counted-below, counted-more}

@@ -7,7 +7,7 @@ use lib.ListN.{length, getD, replicate}
 use Rattle.symbol.specs.Operations.{sumOf}
 use Rattle.even_recover.proofs.Fetched.{Fetched, set-near, bit-some, set-is, cells-near, set-ready, fetched-more, fetched-done}
 use Rattle.parameters.proofs.Bounds.{even-bounds}
-use Rattle.even_layout.proofs.Fits.{layout-bounds}
+use Rattle.even_sets.proofs.Fits.{layout-bounds}
 use Rattle.even_query.specs.Query.{Asks}
 use Rattle.even_recover.proofs.Sized.{sized}
 use Rattle.even_recover.proofs.Started.{fetched-none}

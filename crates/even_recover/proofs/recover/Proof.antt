@@ -9,9 +9,9 @@ use lib.Seq.{length-take-le}
 use Rattle.parameters.proofs.Bounds.{even-bounds}
 use Rattle.symbol.specs.Operations.{sumOf}
 use Rattle.lists.specs.Assembled.{assemble}
+use Rattle.even_sets.proofs.Blocks.{subsets-few}
+use Rattle.even_sets.proofs.Fits.{layout-fits}
 use Rattle.even_layout.specs.Layout.{firstRows}
-use Rattle.even_layout.proofs.Blocks.{subsets-few}
-use Rattle.even_layout.proofs.Fits.{layout-fits}
 use Rattle.even_recover.proofs.Servers.{Front, sets-front, partsBefore, before-none, before-more, before-all}
 use Rattle.even_recover.proofs.Started.{firsts-length}
 use Rattle.even_recover.proofs.recover.Statement.{statement}

@@ -6,7 +6,7 @@ use borrow.Author.Needs.{needs}
 use Rattle.refusal.specs.declared.Outcome.the-variants.{Value}
 use Rattle.parameters.specs.declared.Sizes.{Sizes}
 use Rattle.codes.specs.Codes.{schemeOf}
-use Rattle.session.proofs.Promised.{sizes-small}
+use Rattle.session_checks.proofs.Keys.{sizes-small}
 use Rattle.session.proofs.ByteBound.{bound-done, bound-refused}
 use Rattle.session.proofs.bound.Statement.{statement}
 use Rattle.session.proofs.bound.Tie as tie

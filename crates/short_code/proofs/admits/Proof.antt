@@ -7,7 +7,7 @@ use borrow.Author.Tests.{eq-eqb, ne-eqb, not-true, not-false}
 use lib.Dec.{eqb}
 use lib.ListN.{length}
 use Rattle.lists.specs.Below.{allBelow}
-use Rattle.short_code.specs.Short.{shortAdmits}
+use Rattle.short_scheme.specs.Short.{shortAdmits}
 use Rattle.short_code.proofs.admits.Statement.{statement}
 use Rattle.short_code.proofs.admits.Tie as tie
 

@@ -2,8 +2,8 @@
 use native.Mathlib.Omega.{arith}
 use Rattle.parameters.specs.Measures.{shortSizes}
 use Rattle.parameters.proofs.Bounds.{short-bounds}
-use Rattle.short_code.specs.Short.{shortAnswer}
-use Rattle.short_code.proofs.Named.{query-stored}
+use Rattle.short_scheme.specs.Short.{shortAnswer}
+use Rattle.short_scheme.proofs.Named.{query-stored}
 use borrow.Author.Needs.{needs}
 use Rattle.short_code.proofs.answer.Statement.{statement}
 use Rattle.short_code.proofs.answer.Tie as tie

@@ -2,7 +2,7 @@
 use mathlib.Core.Path.{sym, ap, _∙_}
 use mathlib.Core.Bool.{Bool, cond}
 use borrow.Author.Needs.{needs}
-use Rattle.short_code.specs.Short.{shortAnswerLength}
+use Rattle.short_scheme.specs.Short.{shortAnswerLength}
 use Rattle.short_code.proofs.answer_length.Statement.{statement}
 use Rattle.short_code.proofs.answer_length.Tie as tie
 

@@ -3,8 +3,8 @@ use mathlib.Core.Path.{_≡_, sym, ap, _∙_}
 use Prim.Native.Nat.{ℕ, _+_, _-_, _%_, _<_}
 use native.Mathlib.Nat.{mod-lt}
 use native.Mathlib.Omega.{arith}
-use Rattle.short_code.specs.Short.{digitSum, keySum}
-use Rattle.short_code.proofs.Digits.{balance-low, balance-high}
+use Rattle.short_scheme.specs.Short.{digitSum, keySum}
+use Rattle.short_scheme.proofs.Digits.{balance-low, balance-high}
 use Rattle.short_code.proofs.balancing_digit.Statement.{statement}
 use Rattle.short_code.proofs.balancing_digit.Tie as tie
 

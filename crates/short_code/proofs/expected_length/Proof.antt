@@ -4,8 +4,8 @@ use mathlib.Core.Bool.{Bool, cond}
 use Prim.Native.Nat.{ℕ}
 use native.Mathlib.Omega.{arith}
 use borrow.Author.Needs.{needs}
-use Rattle.short_code.specs.Short.{shortQuery, shortAnswerLength}
-use Rattle.short_code.proofs.ZeroRow.{query-zeros, query-some, length-some}
+use Rattle.short_scheme.specs.Short.{shortQuery, shortAnswerLength}
+use Rattle.short_scheme.proofs.ZeroRow.{query-zeros, query-some, length-some}
 use Rattle.short_code.proofs.expected_length.Statement.{statement}
 use Rattle.short_code.proofs.expected_length.Tie as tie
 

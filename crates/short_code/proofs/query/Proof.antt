@@ -5,8 +5,8 @@ use native.Mathlib.Omega.{arith}
 use borrow.Author.Needs.{needs}
 use Rattle.lists.specs.Inserts.{insertAt}
 use Rattle.lists.specs.Parts.{put}
-use Rattle.short_code.specs.Short.{balancing, shortQuery}
-use Rattle.short_code.proofs.Digits.{balance-below}
+use Rattle.short_scheme.specs.Short.{balancing, shortQuery}
+use Rattle.short_scheme.proofs.Digits.{balance-below}
 use Rattle.short_code.proofs.query.Statement.{statement}
 use Rattle.short_code.proofs.query.Tie as tie
 

@@ -15,9 +15,10 @@ use Rattle.parameters.specs.Measures.{shortSizes}
 use Rattle.parameters.proofs.Bounds.{short-bounds}
 use Rattle.symbol.specs.Operations.{sumOf}
 use Rattle.symbol.proofs.Operations.{group-of}
-use Rattle.short_code.specs.Short.{digitSum}
-use Rattle.short_code.specs.Steps.{Placed, fromPlaces}
-use Rattle.short_code.proofs.Slots.{InSlots, starts-in-slots, slots-placed, recover-slots}
+use Rattle.short_scheme.specs.Short.{digitSum}
+use Rattle.short_rows.specs.Steps.{Placed, fromPlaces}
+use Rattle.short_rows.proofs.Places.{InSlots, starts-in-slots, slots-placed}
+use Rattle.short_code.proofs.Slots.{recover-slots}
 use Rattle.short_code.proofs.recover.Statement.{statement}
 use Rattle.short_code.proofs.recover.Tie as tie
 

@@ -3,7 +3,7 @@ use native.Mathlib.Omega.{arith}
 use mathlib.Core.Path.{refl, sym, _∙_}
 use Rattle.codes.specs.Codes.{schemeOf}
 use Rattle.session.proofs.Begin.{begin-passed, begin-refused, begin-done}
-use Rattle.session.proofs.Promised.{sizes-small}
+use Rattle.session_checks.proofs.Keys.{sizes-small}
 use borrow.Author.Needs.{needs}
 use Rattle.session.proofs.Session.begin.Statement.{statement}
 use Rattle.session.proofs.Session.begin.Tie as tie

@@ -4,7 +4,8 @@ use mathlib.Core.Path.{refl, sym, _∙_}
 use lib.ListN.{length}
 use Rattle.codes.specs.Codes.{schemeOf}
 use Rattle.session.proofs.Issue.{issue-passed, issue-goes}
-use Rattle.session.proofs.Promised.{sizes-small}
+use Rattle.session_checks.proofs.Keys.{sizes-small}
+use Rattle.session.proofs.Places.{key-places}
 use borrow.Author.Needs.{needs}
 use Rattle.session.proofs.Session.issue.Statement.{statement}
 use Rattle.session.proofs.Session.issue.Tie as tie
@@ -26,19 +27,22 @@ returns c =
 enum-told-2 : tie.Need-enum-told-2
 enum-told-2 c = search needs
 
+slice-aggregate-write-query : tie.Need-slice-aggregate-write-query
+slice-aggregate-write-query c = search needs
+
 write-query-requires : tie.Need-write-query-requires
 write-query-requires c κs =
-    let told = c .before in
+    let told = c .before .before .before in
     let asked = told .before .before in
     let start = asked .before .before in
     let args = start .args in
     let v = asked .issue-verdict in
     let i = issue-passed schemeOf (args .self) (args .server) (length (args .query .now)) (sym (v .ensures) ∙ told .enum-told2 .given .1) in
-    (i .sound .admitted, ((i .sound .inside, i .below), (i .sound .good, i .roomy)))
+    (i .sound .admitted, (key-places (args .self) _ (start .good .0), ((i .sound .inside, i .below), (i .sound .good, i .roomy))))
 
 mark-issued-requires : tie.Need-mark-issued-requires
 mark-issued-requires c κs =
-    let told = c .before .before .before .before in
+    let told = c .before .before .before .before .before .before in
     let asked = told .before .before in
     let start = asked .before .before in
     let args = start .args in
@@ -52,7 +56,7 @@ same-length c = search needs
 returns-2 : tie.Need-returns-2
 returns-2 c =
     let written = c .before .before .before in
-    let told = written .before .before in
+    let told = written .before .before .before .before in
     let asked = told .before .before in
     let start = asked .before .before in
     let args = start .args in
@@ -69,6 +73,7 @@ issue-spec =
     enum-told
     returns
     enum-told-2
+    slice-aggregate-write-query
     write-query-requires
     mark-issued-requires
     same-length

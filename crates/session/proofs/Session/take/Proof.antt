@@ -9,7 +9,8 @@ use Rattle.parameters.specs.declared.Sizes.{Sizes}
 use Rattle.codes.specs.Codes.{schemeOf}
 use Rattle.session.proofs.Take.{take-passed, take-goes}
 use Rattle.session.proofs.Places.{key-places}
-use Rattle.session.proofs.Promised.{sizes-small, slot-holds}
+use Rattle.session_checks.proofs.Keys.{sizes-small}
+use Rattle.session.proofs.Promised.{slot-holds}
 use borrow.Author.Needs.{needs}
 use Rattle.session.proofs.Session.take.Statement.{statement}
 use Rattle.session.proofs.Session.take.Tie as tie

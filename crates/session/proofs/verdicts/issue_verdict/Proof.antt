@@ -1,4 +1,4 @@
--- `session::verdicts::issue_verdict` meets its contract: the first links are `server_verdict`'s, the last `marks_verdict`'s.
+-- `session::verdicts::issue_verdict` meets its contract: the first faults are `server_verdict`'s, the last `marks_verdict`'s.
 use mathlib.Core.Path.{_≡_, refl, sym, _∙_}
 use borrow.Author.Needs.{needs}
 use borrow.Author.Tests.{lt-ltb, le-ltb}
@@ -6,13 +6,17 @@ use Rattle.refusal.specs.declared.Verdict.the-variants.{Accepted}
 use Rattle.refusal.specs.Foremost.{foremost}
 use Rattle.refusal.proofs.Foremost.{after-first}
 use Rattle.codes.specs.Codes.{schemeOf}
-use Rattle.session.specs.Calls.{serverFaults, issueVerdict}
-use Rattle.session.proofs.Links.{Asks, server-passed}
+use Rattle.session.specs.Calls.{askFaults, issueVerdict}
+use Rattle.session_checks.proofs.Links.{Asks, server-passed}
+use Rattle.session.proofs.Places.{key-places}
 use Rattle.session.proofs.verdicts.issue_verdict.Statement.{statement}
 use Rattle.session.proofs.verdicts.issue_verdict.Tie as tie
 
+slice-aggregate-server-verdict : tie.Need-slice-aggregate-server-verdict
+slice-aggregate-server-verdict c = search needs
+
 server-verdict-requires : tie.Need-server-verdict-requires
-server-verdict-requires c κs = search needs
+server-verdict-requires c κs = let start = c .before .before .before in key-places (start .args .t1) _ (start .good .0)
 
 enum-known-refusal : tie.Need-enum-known-refusal
 enum-known-refusal c = search needs
@@ -21,27 +25,32 @@ returns : tie.Need-returns
 unfolding issueVerdict
 returns c =
     let asked = c .before .before .before in
-    let args = asked .before .args in
-    after-first (serverFaults schemeOf (args .s) (args .server)) _ refl refl _ _ (asked .server-verdict .ensures) (rw (c .before .refusal .given .1))
+    let args = asked .before .before .before .before .args in
+    after-first (askFaults schemeOf (args .t1) (args .server)) _ refl refl _ _ (asked .server-verdict .ensures) (rw (c .before .refusal .given .1))
 
 enum-told : tie.Need-enum-told
 enum-told c = search needs
 
 -- once the first links are passed
-accepted : (c : tie.After-enum-told) → let args = c .before .before .before .args in foremost (serverFaults schemeOf (args .s) (args .server)) ≡ Accepted
+accepted : (c : tie.After-enum-told)
+    → let args = c .before .before .before .before .before .before .args in foremost (askFaults schemeOf (args .t1) (args .server)) ≡ Accepted
 accepted c = sym (c .before .before .server-verdict .ensures) ∙ c .enum-told .given .1
 
-asks : (c : tie.After-enum-told) → let args = c .before .before .before .args in Asks schemeOf (args .s) (args .server)
-asks c = let args = c .before .before .before .args in server-passed schemeOf (args .s) (args .server) (accepted c)
+asks : (c : tie.After-enum-told) → let args = c .before .before .before .before .before .before .args in
+    let s = args .t1 in Asks schemeOf (s .catalogue) (s .wanted) (s .key) (args .server)
+asks c =
+    let args = c .before .before .before .before .before .before .args in
+    let s = args .t1 in
+    server-passed schemeOf (s .catalogue) (s .wanted) (s .key) (args .server) (accepted c)
 
 sizes-of-requires : tie.Need-sizes-of-requires
-sizes-of-requires c κs = asks c .holds .admitted
+sizes-of-requires c κs = asks (c .before) .holds .admitted
 
 returns-2 : tie.Need-returns-2
 unfolding issueVerdict
 returns-2 c =
     let sized = c .before .before in
-    after-first _ _ refl refl Accepted _ (sym (accepted (sized .before))) (rw (← sized .sizes-of .ensures, lt-ltb _ _ (c .if1 .taken)))
+    after-first _ _ refl refl Accepted _ (sym (accepted (sized .before .before))) (rw (← sized .sizes-of .ensures, lt-ltb _ _ (c .if1 .taken)))
 
 marks-verdict-requires : tie.Need-marks-verdict-requires
 marks-verdict-requires c κs = search needs
@@ -49,15 +58,16 @@ marks-verdict-requires c κs = search needs
 returns-3 : tie.Need-returns-3
 unfolding issueVerdict
 returns-3 c =
-    let first = c .before in
+    let first = c .before .before .before .before in
     let sized = first .before .before in
-    after-first _ _ refl refl Accepted _ (sym (accepted (sized .before)))
+    after-first _ _ refl refl Accepted _ (sym (accepted (sized .before .before)))
     (rw (← sized .sizes-of .ensures, le-ltb _ _ (first .if1 .left)) (c .marks-verdict .ensures))
 
 pub issue-verdict-spec : {M : Type 1} → statement M
 issue-verdict-spec =
     tie.close
     (tie.spec
+    slice-aggregate-server-verdict
     server-verdict-requires
     enum-known-refusal
     returns

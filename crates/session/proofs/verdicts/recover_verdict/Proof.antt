@@ -1,4 +1,4 @@
--- `session::verdicts::recover_verdict` meets its contract: the first links are `session_verdict`'s, the last `missing_verdict`'s.
+-- `session::verdicts::recover_verdict` meets its contract: the first faults are `session_verdict`'s, the last `missing_verdict`'s.
 use mathlib.Core.Path.{_≡_, refl, sym, _∙_}
 use native.Mathlib.Omega.{arith}
 use borrow.Author.Needs.{needs}
@@ -8,14 +8,18 @@ use Rattle.refusal.specs.Foremost.{foremost}
 use Rattle.refusal.proofs.Foremost.{after-first}
 use Rattle.catalogue.specs.Catalogue.{Admitted}
 use Rattle.codes.specs.Codes.{schemeOf}
-use Rattle.session.specs.Calls.{sessionFaults, recoverVerdict}
-use Rattle.session.proofs.Links.{session-passed}
-use Rattle.session.proofs.Promised.{sizes-small}
+use Rattle.session.specs.Calls.{ownFaults, recoverVerdict}
+use Rattle.session_checks.proofs.Links.{session-passed}
+use Rattle.session_checks.proofs.Keys.{sizes-small}
+use Rattle.session.proofs.Places.{key-places}
 use Rattle.session.proofs.verdicts.recover_verdict.Statement.{statement}
 use Rattle.session.proofs.verdicts.recover_verdict.Tie as tie
 
+slice-aggregate-session-verdict : tie.Need-slice-aggregate-session-verdict
+slice-aggregate-session-verdict c = search needs
+
 session-verdict-requires : tie.Need-session-verdict-requires
-session-verdict-requires c κs = search needs
+session-verdict-requires c κs = let start = c .before .before .before in key-places (start .args .t1) _ (start .good .0)
 
 enum-known-refusal : tie.Need-enum-known-refusal
 enum-known-refusal c = search needs
@@ -24,60 +28,66 @@ returns : tie.Need-returns
 unfolding recoverVerdict
 returns c =
     let asked = c .before .before .before in
-    after-first (sessionFaults schemeOf (asked .before .args .s)) _ refl refl _ _ (asked .session-verdict .ensures) (rw (c .before .refusal .given .1))
+    let s = asked .before .before .before .before .args .t1 in
+    after-first (ownFaults schemeOf s) _ refl refl _ _ (asked .session-verdict .ensures) (rw (c .before .refusal .given .1))
 
 enum-told : tie.Need-enum-told
 enum-told c = search needs
 
 -- once the first links are passed
-accepted : (c : tie.After-enum-told) → let args = c .before .before .before .args in foremost (sessionFaults schemeOf (args .s)) ≡ Accepted
+accepted : (c : tie.After-enum-told) → foremost (ownFaults schemeOf (c .before .before .before .before .before .before .args .t1)) ≡ Accepted
 accepted c = sym (c .before .before .session-verdict .ensures) ∙ c .enum-told .given .1
 
-admitted : (c : tie.After-enum-told) → Admitted (c .before .before .before .args .s .catalogue)
-admitted c = session-passed schemeOf (c .before .before .before .args .s) (accepted c) .admitted
+admitted : (c : tie.After-enum-told) → Admitted (c .before .before .before .before .before .before .args .t1 .catalogue)
+admitted c =
+    let s = c .before .before .before .before .before .before .args .t1 in
+    session-passed schemeOf (s .catalogue) (s .wanted) (s .key) (accepted c) .admitted
 
 sizes-of-requires : tie.Need-sizes-of-requires
-sizes-of-requires c κs = admitted c
+sizes-of-requires c κs = admitted (c .before)
 
 mul-if1 : tie.Need-mul-if1
 mul-if1 c =
-    let sized = c .before .before in
-    let s = sized .before .before .before .before .args .s in
-    omega (arith, sizes-small (s .catalogue) (sized .sizes-of .result) (admitted (sized .before)) (sized .sizes-of .ensures) .slots)
+    let sized = c .before in
+    let told = sized .before .before in
+    let s = told .before .before .before .before .before .before .args .t1 in
+    omega (arith, sizes-small (s .catalogue) (sized .sizes-of .result) (admitted told) (sized .sizes-of .ensures) .slots)
 
 returns-2 : tie.Need-returns-2
 unfolding recoverVerdict
 returns-2 c =
-    let sized = c .before .before .before in
-    after-first _ _ refl refl Accepted _ (sym (accepted (sized .before))) (rw (← sized .sizes-of .ensures, lt-ltb _ _ (c .if1 .taken)))
+    let sized = c .before .before in
+    after-first _ _ refl refl Accepted _ (sym (accepted (sized .before .before))) (rw (← sized .sizes-of .ensures, lt-ltb _ _ (c .if1 .taken)))
 
 returns-3 : tie.Need-returns-3
 unfolding recoverVerdict
 returns-3 c =
     let first = c .before .before in
-    let sized = first .before .before .before in
-    after-first _ _ refl refl Accepted _ (sym (accepted (sized .before)))
+    let sized = first .before .before in
+    after-first _ _ refl refl Accepted _ (sym (accepted (sized .before .before)))
     (rw (← sized .sizes-of .ensures, le-ltb _ _ (first .if1 .left), lt-ltb _ _ (c .if2 .taken)))
 
 missing-verdict-requires : tie.Need-missing-verdict-requires
 missing-verdict-requires c κs =
-    let sized = c .before .before .before .before .before in
-    let s = sized .before .before .before .before .args .s in
-    omega (arith, sizes-small (s .catalogue) (sized .sizes-of .result) (admitted (sized .before)) (sized .sizes-of .ensures) .servers)
+    let sized = c .before .before .before .before .before .before .before in
+    let told = sized .before .before in
+    let s = told .before .before .before .before .before .before .args .t1 in
+    omega (arith, sizes-small (s .catalogue) (sized .sizes-of .result) (admitted told) (sized .sizes-of .ensures) .servers)
 
 returns-4 : tie.Need-returns-4
 unfolding recoverVerdict
 returns-4 c =
-    let second = c .before in
+    let second = c .before .before .before .before in
     let first = second .before .before in
-    let sized = first .before .before .before in
-    after-first _ _ refl refl Accepted _ (sym (accepted (sized .before)))
+    let sized = first .before .before in
+    after-first _ _ refl refl Accepted _ (sym (accepted (sized .before .before)))
     (rw (← sized .sizes-of .ensures, le-ltb _ _ (first .if1 .left), le-ltb _ _ (second .if2 .left)) (c .missing-verdict .ensures))
 
 pub recover-verdict-spec : {M : Type 1} → statement M
 recover-verdict-spec =
     tie.close
     (tie.spec
+    slice-aggregate-session-verdict
     session-verdict-requires
     enum-known-refusal
     returns

@@ -1,0 +1,103 @@
+// What the calls of a session check of its fields: the catalogue, the wanted message and the key, and the marks of its servers. The code's
+// calls by such a key are in keyed.rt; the faults are specs/Checks.antt.
+ghost use mathlib.Core.Path.{_≡_};
+ghost use mathlib.Core.List.{[], _∷_};
+ghost use Prim.Native.Nat.{_≤_, _<_};
+ghost use lib.ListN.{length};
+ghost use Rattle.refusal.specs.Foremost.{foremost};
+ghost use Rattle.refusal.specs.Chain.{chain};
+ghost use Rattle.catalogue.specs.Catalogue.{Admitted};
+ghost use Rattle.codes.specs.Codes.{schemeOf};
+ghost use Rattle.session_checks.specs.Checks.{fieldFaults, sessionFaults, serverFaults, marksFault, dueFaults, missingFault};
+use catalogue::Catalogue;
+use refusal::Refusal;
+use refusal::Verdict;
+
+pub mod keyed;
+
+// Whether wanted message and key are good.
+fn fields_verdict(c: Catalogue, wanted: usize, places: &[u8]) -> Verdict
+    requires { ⌜ Admitted c ⌝ }
+    requires { ⌜ length (now places) ≡ 2048 ⌝ }
+    ensures { λ r. ⌜ r ≡ chain (fieldFaults schemeOf c wanted (now (places .entry))) ⌝ }
+{
+    if c.messages <= wanted {
+        return Verdict::Refused(Refusal::Wanted);
+    }
+    if !keyed::key_good(c, places) {
+        return Verdict::Refused(Refusal::KeyEntry);
+    }
+    Verdict::Accepted
+}
+
+// Whether a session with these fields can ask this server.
+pub fn server_verdict(c: Catalogue, wanted: usize, places: &[u8], server: usize) -> Verdict
+    requires { ⌜ length (now places) ≡ 2048 ⌝ }
+    ensures { λ r. ⌜ r ≡ foremost (serverFaults schemeOf c wanted (now (places .entry)) server) ⌝ }
+{
+    if let Verdict::Refused(refusal) = catalogue::verdict(c) {
+        return Verdict::Refused(refusal);
+    }
+    if c.servers <= server {
+        return Verdict::Refused(Refusal::Server);
+    }
+    fields_verdict(c, wanted, places)
+}
+
+// Whether a session with these fields can be recovered from, its answers and buffers apart.
+pub fn session_verdict(c: Catalogue, wanted: usize, places: &[u8]) -> Verdict
+    requires { ⌜ length (now places) ≡ 2048 ⌝ }
+    ensures { λ r. ⌜ r ≡ foremost (sessionFaults schemeOf c wanted (now (places .entry))) ⌝ }
+{
+    if let Verdict::Refused(refusal) = catalogue::verdict(c) {
+        return Verdict::Refused(refusal);
+    }
+    fields_verdict(c, wanted, places)
+}
+
+// Whether some history of calls gives these marks.
+pub fn marks_verdict<'a>(servers: usize, issued: &'a [bool; 16], taken: &'a [bool; 16]) -> Verdict
+    ensures { λ r. ⌜ r ≡ chain (marksFault servers (now (issued .entry)) (now (taken .entry)) ∷ []) ⌝ }
+{
+    if session_parts::marks_good(servers, issued, taken) {
+        Verdict::Accepted
+    } else {
+        Verdict::Refused(Refusal::History)
+    }
+}
+
+// Whether the answer of a server is due.
+pub fn due_verdict<'a>(
+    servers: usize,
+    issued: &'a [bool; 16],
+    taken: &'a [bool; 16],
+    server: usize,
+) -> Verdict
+    requires { ⌜ server < 16 ⌝ }
+    ensures { λ r. ⌜ r ≡ chain (marksFault servers (now (issued .entry)) (now (taken .entry)) ∷ dueFaults (now (issued .entry)) (now (taken .entry)) server) ⌝ }
+{
+    if let Verdict::Refused(refusal) = marks_verdict(servers, issued, taken) {
+        return Verdict::Refused(refusal);
+    }
+    if !issued[server] {
+        return Verdict::Refused(Refusal::History);
+    }
+    if taken[server] {
+        return Verdict::Refused(Refusal::History);
+    }
+    Verdict::Accepted
+}
+
+// Whether every answer was taken.
+pub fn missing_verdict<'a>(servers: usize, issued: &'a [bool; 16], taken: &'a [bool; 16]) -> Verdict
+    requires { ⌜ servers ≤ 16 ⌝ }
+    ensures { λ r. ⌜ r ≡ chain (marksFault servers (now (issued .entry)) (now (taken .entry)) ∷ missingFault servers (now (taken .entry)) ∷ []) ⌝ }
+{
+    if let Verdict::Refused(refusal) = marks_verdict(servers, issued, taken) {
+        return Verdict::Refused(refusal);
+    }
+    if !session_parts::all_taken(servers, taken) {
+        return Verdict::Refused(Refusal::Missing);
+    }
+    Verdict::Accepted
+}

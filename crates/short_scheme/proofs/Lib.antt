@@ -1,0 +1,10 @@
+pub mod Digits
+pub mod Offsets
+pub mod Named
+pub mod ZeroRow
+pub mod Queries
+pub mod Answers
+pub mod Recovery
+pub mod Exchange
+pub mod Reach
+pub mod Promises
