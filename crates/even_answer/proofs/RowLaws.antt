@@ -4,18 +4,16 @@ use mathlib.Core.Path.{_≡_, refl, sym, ap, _∙_}
 use mathlib.Core.Bool.{Bool, true, false, cond}
 use mathlib.Core.List.{List, [], _∷_, _++_, zipWith}
 use Prim.Native.Nat.{ℕ, suc, _+_, _-_, _*_, _^_, _≤_, _<_}
-use native.Mathlib.Nat.{mul-assoc, suc-mul, zero-mul, mul-le-mul}
+use native.Mathlib.Nat.{suc-mul}
 use native.Mathlib.Numerals.{add-one}
 use native.Mathlib.Omega.{arith}
 use borrow.Author.Tests.{ne-eqb}
 use lib.Dec.{eqb}
-use lib.ListN.{length, getD, drop, replicate, length-append}
+use lib.ListN.{length, getD, drop, replicate}
 use lib.Seq.{drop-cons, drop-drop}
 use Rattle.lists.specs.Parts.{cut}
 use Rattle.lists.specs.Below.{Below}
 use Rattle.lists.specs.Sums.{bit, sum as summed, All, allNil, allCons}
-use Rattle.lists.proofs.Below.{below-take, below-drop}
-use Rattle.lists.proofs.Cuts.{cut-length}
 use Rattle.parameters.specs.Measures.{evenSizes}
 use Rattle.symbol.specs.Sum.{Symbol, Sum, totalFrom, total}
 use Rattle.symbol.specs.Group.{KeepsLength, AbelianGroup, Symbols}
@@ -23,6 +21,7 @@ use Rattle.symbol.proofs.Totals.{total-symbol}
 use Rattle.even_places.specs.Rule.{onesIn, members}
 use Rattle.even_places.proofs.Positions.{members-below}
 use Rattle.even_scheme.specs.Even.{symbolOf, rowAnswer, rowAnswers}
+use Rattle.even_scheme.proofs.Symbols.{symbol-end, symbol-symbol}
 use Rattle.even_answer.specs.Answering.{added}
 
 pub members-length : (q : ℕ) (A : List Bool) → length (members q A) ≡ onesIn A
@@ -49,22 +48,11 @@ pub added-length : (sum : Sum) (S : ℕ) → KeepsLength (sum .plus) S → (firs
 added-length sum S keeps true old x e f = f
 added-length sum S keeps false old x e f = keeps old x e f
 
-module _ (N K S : ℕ) (store : List ℕ) (whole : length store ≡ evenSizes N K S .store) where
-  -- each symbol lies in the store
-  symbol-end : (p i : ℕ) → p < K → i < N ^ K → (p * N ^ K + i) * S + S ≤ length store
-  unfolding evenSizes
-  symbol-end p i h l =
-      let M = N ^ K in
-      let next : suc (p * M + i) * S ≡ (p * M + i) * S + S = suc-mul (p * M + i) S in
-      let message : suc p * M ≡ p * M + M = suc-mul p M in
-      let up : suc (p * M + i) * S ≤ suc p * M * S =
-      mul-le-mul (let w : suc (p * M + i) ≤ suc p * M = omega arith in w) (let w : S ≤ S = omega arith in w) in
-      let all : suc p * (M * S) ≤ K * (M * S) = mul-le-mul h (let w : M * S ≤ M * S = omega arith in w) in
-      omega (arith, mul-assoc (suc p) M S)
-
-  -- where a symbol is combined from, in a message of `symbols` symbols
-  pub symbol-room : (symbols p i : ℕ) → symbols ≡ N ^ K → p < K → i < N ^ K → (p * symbols + i) * S + S ≤ length store
-  symbol-room symbols p i e h l = rw e (symbol-end p i h l)
+-- where a symbol is combined from, in a message of `symbols` symbols
+pub symbol-room : (N K S : ℕ) (store : List ℕ) → length store ≡ evenSizes N K S .store → (symbols p i : ℕ) → symbols ≡ N ^ K → p < K → i < N ^ K
+    → (p * symbols + i) * S + S ≤ length store
+unfolding evenSizes
+symbol-room N K S store whole symbols p i e h l = rw e (symbol-end N K S store whole p i h l)
 
 module _ (sum : Sum) (N K S : ℕ) (store : List ℕ) (whole : length store ≡ evenSizes N K S .store) where
   pub symbol-place : (symbols p i size : ℕ) → symbols ≡ N ^ K → size ≡ S
@@ -74,11 +62,8 @@ module _ (sum : Sum) (N K S : ℕ) (store : List ℕ) (whole : length store ≡ 
 
   module _ (group : AbelianGroup sum S) (bytes : Below 256 store) where
     pub symbol-is : (p i : ℕ) → p < K → i < N ^ K → Symbol S (symbolOf sum N K S store p i)
-    unfolding symbolOf
-    symbol-is p i h l = record {
-      long = cut-length ((p * N ^ K + i) * S) S store (symbol-end N K S store whole p i h l);
-      bytes = below-take 256 S (drop ((p * N ^ K + i) * S) store) (below-drop 256 ((p * N ^ K + i) * S) store bytes);
-    }
+    unfolding evenSizes
+    symbol-is p i h l = symbol-symbol sum N K S store whole p i h l bytes
 
     symbols-are : {messages : List ℕ} (numbers : List ℕ) → All (λ p. p < K) messages → Below (N ^ K) numbers
         → Symbols S (zipWith (symbolOf sum N K S store) messages numbers)
@@ -104,16 +89,6 @@ module _ (sum : Sum) (N K S : ℕ) (store : List ℕ) (whole : length store ≡ 
         (rw (add-one taken) at
         (resumed-more sum S group taken out (symbolOf sum N K S store p (getD numbers taken 0))
         (zipWith (symbolOf sum N K S store) messages (drop (suc taken) numbers)) (symbol-is p (getD numbers taken 0) h (b taken l))))
-
-    -- the answers to rows are as many symbols
-    pub answers-length : {L : List (List Bool)} (numbers : List ℕ) → All (λ A. length A ≡ K) L → Below (N ^ K) numbers
-        → length (rowAnswers sum N K S store L numbers) ≡ length L * S
-    unfolding rowAnswers
-    answers-length numbers allNil b = sym (zero-mul S)
-    answers-length numbers (allCons {x = A} {xs = L} e a) b =
-        let rest = drop (onesIn A) numbers in
-        let many = length-append (rowAnswer sum N K S store A numbers) (rowAnswers sum N K S store L rest) in
-        omega (arith, many, row-is A numbers e b .long, answers-length rest a (below-drop (N ^ K) (onesIn A) numbers b), suc-mul (length L) S)
 
 -- one row more of a set, whose rows have `size` numbers each
 pub set-more : (sum : Sum) (N K S : ℕ) (store : List ℕ) (A : List Bool) (numbers : List ℕ) (rows row size : ℕ)

@@ -13,14 +13,15 @@ use Rattle.lists.specs.Below.{Below}
 use Rattle.lists.proofs.Each.{All-replicate}
 use Rattle.parameters.specs.Measures.{evenSizes}
 use Rattle.symbol.specs.Sum.{Sum}
-use Rattle.symbol.specs.Group.{AbelianGroup}
+use Rattle.symbol.specs.Group.{KeepsLength}
 use Rattle.even_places.specs.Rule.{onesIn, members, allSets, layout}
 use Rattle.even_places.proofs.Positions.{positions-length}
 use Rattle.even_places.proofs.AllSets.{layout-by-set}
 use Rattle.even_scheme.specs.Even.{rowAnswer, rowAnswers}
+use Rattle.even_scheme.proofs.Answers.{answers-length}
 use Rattle.even_sets.specs.Sets.{LayoutBounds, rowsOf}
 use Rattle.even_layout.proofs.Tables.{setPositions, positionsFrom, positions-all, positions-more}
-use Rattle.even_answer.proofs.RowLaws.{members-length, answers-length}
+use Rattle.even_answer.proofs.RowLaws.{members-length}
 
 -- the rows of the sets from i on
 unfoldable pub rowsFrom : ℕ → ℕ → ℕ → List (List Bool)
@@ -87,7 +88,8 @@ module _ (sum : Sum) (N K S : ℕ) (store : List ℕ) where
       (drop-drop (rowsOf N A * onesIn A) at query ∙ ap (λ (m : ℕ). drop (at + m) query) (sym e))
 
   -- the answers to the rows of a set
-  pub set-length : AbelianGroup sum S → (A : List Bool) (n : ℕ) (numbers : List ℕ) → length store ≡ evenSizes N K S .store → Below 256 store
+  pub set-length : KeepsLength (sum .plus) S → (A : List Bool) (n : ℕ) (numbers : List ℕ) → length store ≡ evenSizes N K S .store
       → length A ≡ K → Below (N ^ K) numbers → length (rowAnswers sum N K S store (replicate n A) numbers) ≡ n * S
-  set-length group A n numbers whole bytes e b =
-      answers-length sum N K S store whole group bytes numbers (All-replicate n A e) b ∙ ap (λ (m : ℕ). m * S) (length-replicate n A)
+  unfolding evenSizes
+  set-length keeps A n numbers whole e b =
+      answers-length sum N K S keeps store whole (All-replicate n A e) numbers b ∙ ap (λ (m : ℕ). m * S) (length-replicate n A)

@@ -115,7 +115,7 @@ set-turn {sum} {N} {K} {S} {end} {rows} {store} {query} {buffer} {out} {table} i
     let below = below-drop (N ^ K) at query (given .named) in
     let front = rowAnswers sum N K S store (replicate rows (setIn K set)) (drop at query) in
     let left = rowAnswers sum N K S store (rowsFrom N K (i + 1)) (drop (at + rows * count set) query) in
-    let long : length front ≡ rows * S = set-length sum N K S store group (setIn K set) rows (drop at query) (given .whole) bytes (setIn-length K set) below in
+    let long : length front ≡ rows * S = set-length sum N K S store (group .plus-length) (setIn K set) rows (drop at query) (given .whole) (setIn-length K set) below in
     let same : rowAnswers sum N K S store (replicate (rowsOf N A) A) (drop at query) ≡ front =
     sym (ap₂ (λ (m : ℕ) (B : List Bool). rowAnswers sum N K S store (replicate m B) (drop at query)) many (b .decoded)) in
     let q = pending-as refl (sym (answers-more sum N K S store i at (rows * count set) query h taken ∙ ap (λ (l : List ℕ). l ++ left) same)) refl p in

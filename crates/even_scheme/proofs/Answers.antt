@@ -1,5 +1,5 @@
--- An answer has one symbol for each row of the query (`answer-length`), so it fills its slot (`answer-fits`). Rests on the number of
--- rows of a layout (`layout-length`).
+-- An answer has one symbol for each row of the query (`answers-length`, `answer-length`), so it fills its slot (`answer-fits`). Rests on the
+-- number of rows of a layout (`layout-length`).
 use mathlib.Core.Path.{_≡_, sym, ap, _∙_}
 use mathlib.Core.Bool.{Bool, true}
 use mathlib.Core.List.{List, [], _∷_, zipWith}
@@ -51,16 +51,17 @@ module _ (sum : Sum) (N K S : ℕ) (keeps : KeepsLength (sum .plus) S) where
     named-long (allCons {x = p} h a) (i ∷ numbers) b =
         allCons (symbol-long sum N K S store long p i h (b 0 (omega arith))) (named-long a numbers (λ j l. b (suc j) (omega arith)))
 
-    rows-long : {sets : List (List Bool)} → All (λ A. length A ≡ K) sets → (query : List ℕ) → Below (N ^ K) query
+    -- the answers to rows are as many symbols
+    pub answers-length : {sets : List (List Bool)} → All (λ A. length A ≡ K) sets → (query : List ℕ) → Below (N ^ K) query
         → length (rowAnswers sum N K S store sets query) ≡ length sets * S
     unfolding rowAnswers rowAnswer
-    rows-long allNil query b = sym (zero-mul S)
-    rows-long (allCons {x = A} {xs = sets} h a) query b =
+    answers-length allNil query b = sym (zero-mul S)
+    answers-length (allCons {x = A} {xs = sets} h a) query b =
         length-append (rowAnswer sum N K S store A query) (rowAnswers sum N K S store sets (drop (onesIn A) query))
         ∙ omega (
           arith,
           total-long (named-long (members-below K 0 A (omega arith)) query b),
-          rows-long a (drop (onesIn A) query) (below-drop (N ^ K) (onesIn A) query b),
+          answers-length a (drop (onesIn A) query) (below-drop (N ^ K) (onesIn A) query b),
           suc-mul (length sets) S,
         )
 
@@ -71,7 +72,7 @@ module _ (sum : Sum) (N K S : ℕ) (keeps : KeepsLength (sum .plus) S) (fits : e
   unfolding evenAnswer evenSizes
   answer-length server store query long admits =
       let bounds = even-bounds N K S fits in
-      rows-long sum N K S keeps store long (layout-long N K) query (admitted N K server query admits .low)
+      answers-length sum N K S keeps store long (layout-long N K) query (admitted N K server query admits .low)
       ∙ ap (λ (rows : ℕ). rows * S) (layout-length N K (bounds .servers-low) (bounds .messages-low))
 
 pub answer-fits : (sum : Sum) (N K S server : ℕ) (query : List ℕ) → evenScheme sum N K S .admits server query ≡ true

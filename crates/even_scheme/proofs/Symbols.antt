@@ -1,4 +1,4 @@
--- The symbols that a valid key's numbers name: each lies whole in the store (`symbol-long`, `symbol-symbol`), and in its message at
+-- The symbols that a valid key's numbers name: each lies whole in the store (`symbol-end`, `symbol-symbol`), and in its message at
 -- its number (`symbol-part`).
 use mathlib.Core.Path.{_≡_, sym, ap, _∙_}
 use mathlib.Core.Bool.{true}
@@ -33,7 +33,7 @@ number-below N K key p place good h some = go (decLt place (N ^ K))
 
 -- ---- The symbols of a store of K messages
 
-module _ (sum : Sum) (N K S : ℕ) (store : List ℕ) (long : length store ≡ K * (N ^ K * S)) (p i : ℕ) (hp : p < K) (hi : i < N ^ K) where
+module _ (N K S : ℕ) (store : List ℕ) (long : length store ≡ K * (N ^ K * S)) (p i : ℕ) (hp : p < K) (hi : i < N ^ K) where
   -- symbol i's end in message p, and message p's end in the store
   within-message : i * S + S ≤ N ^ K * S
   within-message = omega (arith, suc-mul i S, mul-le-mul-right S hi)
@@ -44,9 +44,14 @@ module _ (sum : Sum) (N K S : ℕ) (store : List ℕ) (long : length store ≡ K
   offset : (p * N ^ K + i) * S ≡ p * (N ^ K * S) + i * S
   offset = omega (arith, add-mul (p * N ^ K) i S, mul-assoc p (N ^ K) S)
 
+  -- and in the store
+  pub symbol-end : (p * N ^ K + i) * S + S ≤ length store
+  symbol-end = omega (arith, offset, within-message, within-store)
+
+module _ (sum : Sum) (N K S : ℕ) (store : List ℕ) (long : length store ≡ K * (N ^ K * S)) (p i : ℕ) (hp : p < K) (hi : i < N ^ K) where
   pub symbol-long : length (symbolOf sum N K S store p i) ≡ S
   unfolding symbolOf
-  symbol-long = cut-length ((p * N ^ K + i) * S) S store (omega (arith, offset, within-message, within-store))
+  symbol-long = cut-length ((p * N ^ K + i) * S) S store (symbol-end N K S store long p i hp hi)
 
   pub symbol-symbol : Below 256 store → Symbol S (symbolOf sum N K S store p i)
   unfolding symbolOf
@@ -56,4 +61,6 @@ module _ (sum : Sum) (N K S : ℕ) (store : List ℕ) (long : length store ≡ K
   -- symbol i of message p is that part of the message
   pub symbol-part : symbolOf sum N K S store p i ≡ cut (i * S) S (cut (p * (N ^ K * S)) (N ^ K * S) store)
   unfolding symbolOf
-  symbol-part = ap (λ (at : ℕ). cut at S store) offset ∙ sym (cut-cut (i * S) S (p * (N ^ K * S)) (N ^ K * S) store within-message)
+  symbol-part =
+      ap (λ (at : ℕ). cut at S store) (offset N K S store long p i hp hi)
+      ∙ sym (cut-cut (i * S) S (p * (N ^ K * S)) (N ^ K * S) store (within-message N K S store long p i hp hi))

@@ -6,7 +6,6 @@ use native.Mathlib.Nat.{zero-add}
 use native.Mathlib.Omega.{arith}
 use lib.Count.{ones-le}
 use lib.ListN.{length, getD, take, drop, replicate, length-drop}
-use Rattle.lists.specs.Below.{Below}
 use Rattle.lists.specs.Parts.{put}
 use Rattle.lists.proofs.Writing.{Pending, pending-start, pending-as, pending-done}
 use Rattle.lists.proofs.Cuts.{to-end}
@@ -18,13 +17,12 @@ use Rattle.symbol.proofs.Operations.{group-of}
 use Rattle.even_places.specs.Rule.{allSets, layout}
 use Rattle.even_places.proofs.AllSets.{layout-long}
 use Rattle.even_scheme.specs.Even.{rowAnswers, evenAnswer}
-use Rattle.even_scheme.proofs.Answers.{layout-length}
+use Rattle.even_scheme.proofs.Answers.{layout-length, answers-length}
 use Rattle.even_sets.specs.Sets.{setIn}
 use Rattle.even_sets.proofs.Blocks.{subsets-few, all-length}
 use Rattle.even_sets.proofs.Fits.{layout-fits}
 use Rattle.even_sets.proofs.SetBytes.{byte-at}
 use Rattle.even_layout.proofs.Tables.{positionsFrom}
-use Rattle.even_answer.proofs.RowLaws.{answers-length}
 use Rattle.even_answer.proofs.SetRows.{rowsFrom, rows-all, rows-none, numbers-all}
 use Rattle.even_answer.proofs.Turns.{SetTurn, set-turn}
 use Rattle.even_answer.proofs.answer.Statement.{statement}
@@ -69,9 +67,8 @@ loop-holds c =
     let query = start .args .query .now in
     let given = start .pre in
     let bounds = layout-fits n k s (given .fits) in
-    let bytes : Below 256 store = λ j l. c .before .before .before .before .before .shared-slice-known .given j .fits in
-    let long = answers-length (sumOf (start .args .op)) n k s store (given .whole) (group-of (start .args .op) s) bytes query (layout-long n k)
-    (given .named) in
+    let keeps = group-of (start .args .op) s .plus-length in
+    let long = answers-length (sumOf (start .args .op)) n k s keeps store (given .whole) (layout-long n k) query (given .named) in
     let room : 0 + length (rowAnswers (sumOf (start .args .op)) n k s store (layout n k) query) ≤ length (start .args .out .now) =
     omega (arith, ap (λ (m : ℕ). m * s) (layout-length n k (bounds .servers-low) (bounds .messages-low)), given .room) in (
       omega arith,

@@ -6,18 +6,17 @@ use native.Mathlib.Nat.{sub-zero, zero-mul, add-sub-cancel-left}
 use native.Mathlib.Omega.{arith}
 use borrow.Author.Needs.{needs}
 use lib.Count.{ones as count, ones-le}
-use lib.ListN.{length, take, drop, replicate, length-replicate}
+use lib.ListN.{length, take, drop, replicate}
 use Rattle.lists.specs.Below.{Below}
 use Rattle.lists.proofs.Cuts.{cut-length, to-end}
 use Rattle.lists.proofs.Puts.{put-part}
-use Rattle.lists.proofs.Each.{All-replicate}
 use Rattle.lists.proofs.Writing.{Pending, pending-start, pending-as, pending-done}
 use Rattle.symbol.specs.Operations.{sumOf}
 use Rattle.symbol.proofs.Operations.{group-of}
 use Rattle.even_scheme.specs.Even.{rowAnswer, rowAnswers}
 use Rattle.even_sets.specs.Sets.{setIn}
 use Rattle.even_sets.proofs.SetBytes.{setIn-length}
-use Rattle.even_answer.proofs.RowLaws.{answers-length}
+use Rattle.even_answer.proofs.SetRows.{set-length}
 use Rattle.even_answer.proofs.Turns.{row-turn, row-given, row-long, row-done}
 use Rattle.even_answer.proofs.answer_set.Statement.{statement}
 use Rattle.even_answer.proofs.answer_set.Tie as tie
@@ -45,11 +44,10 @@ loop-holds c =
     let A = setIn k (start .args .set) in
     let numbers = start .args .numbers .now in
     let given = start .pre .0 in
-    let bytes : Below 256 store = λ i l. c .before .before .shared-slice-known .given i .fits in
-    let long = answers-length (sumOf (start .args .op)) n k s store (given .whole)
-    (group-of (start .args .op) s) bytes numbers (All-replicate rows A (setIn-length k (start .args .set))) (given .named) in
+    let keeps = group-of (start .args .op) s .plus-length in
+    let long = set-length (sumOf (start .args .op)) n k s store keeps A rows numbers (given .whole) (setIn-length k (start .args .set)) (given .named) in
     let room : 0 + length (rowAnswers (sumOf (start .args .op)) n k s store (replicate rows A) numbers) ≤ length (start .args .out .now) =
-    omega (arith, ap (λ (m : ℕ). m * s) (length-replicate rows A), start .pre .1) in
+    omega (arith, start .pre .1) in
     (omega arith, pending-as (zero-mul s) (rw (sub-zero rows, zero-mul (count (start .args .set))) refl) refl (pending-start room))
 
 mul-at : tie.Need-mul-at Inv-loop μ-loop
