@@ -16,7 +16,7 @@ use Rattle.lists.proofs.Below.{below-drop}
 use Rattle.lists.proofs.Cuts.{slot-end}
 use Rattle.lists.proofs.Writing.{Pending, pending-part, pending-as}
 use Rattle.symbol.specs.Sum.{Sum}
-use Rattle.symbol.specs.Group.{AbelianGroup}
+use Rattle.symbol.specs.Group.{KeepsLength, AbelianGroup}
 use Rattle.even_places.specs.Rule.{byteOf, onesIn, allSets}
 use Rattle.even_scheme.specs.Even.{rowAnswer, rowAnswers, evenAnswer}
 use Rattle.even_sets.specs.Sets.{setIn, rowsOf}
@@ -99,13 +99,12 @@ pub record SetTurn (sum : Sum) (N K S : ℕ) (store query buffer : List ℕ) (i 
       (rowAnswers sum N K S store (rowsFrom N K (i + 1)) (drop (at + rows * count set) query))
       (put end (rowAnswers sum N K S store (replicate rows (setIn K set)) (drop at query)) out)
 
-pub set-turn : {sum : Sum} {N K S end rows : ℕ} {store query buffer out table : List ℕ} (i at : ℕ) → AbelianGroup sum S
-    → Answerable N K S store query buffer → Below 256 store → table ≡ padded 256 (map byteOf (allSets K))
-    → i < length (allSets K)
+pub set-turn : {sum : Sum} {N K S end rows : ℕ} {store query buffer out table : List ℕ} (i at : ℕ) → KeepsLength (sum .plus) S
+    → Answerable N K S store query buffer → table ≡ padded 256 (map byteOf (allSets K)) → i < length (allSets K)
     → rows ≡ (N - 1) ^ (count (getD table i 0) - 1) → at + length (positionsFrom N K i) ≡ length query
     → Pending 0 (evenAnswer sum N K S store query) buffer end (rowAnswers sum N K S store (rowsFrom N K i) (drop at query)) out
     → SetTurn sum N K S store query buffer i at end (getD table i 0) rows out
-set-turn {sum} {N} {K} {S} {end} {rows} {store} {query} {buffer} {out} {table} i at group given bytes e h called read p =
+set-turn {sum} {N} {K} {S} {end} {rows} {store} {query} {buffer} {out} {table} i at keeps given e h called read p =
     let A = getD (allSets K) i [] in
     let set = getD table i 0 in
     let b = byte-at N K i table _ (layout-fits N K S (given .fits)) e h in
@@ -115,7 +114,8 @@ set-turn {sum} {N} {K} {S} {end} {rows} {store} {query} {buffer} {out} {table} i
     let below = below-drop (N ^ K) at query (given .named) in
     let front = rowAnswers sum N K S store (replicate rows (setIn K set)) (drop at query) in
     let left = rowAnswers sum N K S store (rowsFrom N K (i + 1)) (drop (at + rows * count set) query) in
-    let long : length front ≡ rows * S = set-length sum N K S store (group .plus-length) (setIn K set) rows (drop at query) (given .whole) (setIn-length K set) below in
+    let long : length front ≡ rows * S =
+    set-length sum N K S store keeps (setIn K set) rows (drop at query) (given .whole) (setIn-length K set) below in
     let same : rowAnswers sum N K S store (replicate (rowsOf N A) A) (drop at query) ≡ front =
     sym (ap₂ (λ (m : ℕ) (B : List Bool). rowAnswers sum N K S store (replicate m B) (drop at query)) many (b .decoded)) in
     let q = pending-as refl (sym (answers-more sum N K S store i at (rows * count set) query h taken ∙ ap (λ (l : List ℕ). l ++ left) same)) refl p in

@@ -105,8 +105,7 @@ turn-of c =
     let at = c .before .before in
     let start = at .before .before .before .before .before .before .before in
     let inside : at .loop .i < length (allSets (start .args .k)) = omega (arith, at .before .power2 .ensures, all-length (start .args .k)) in
-    set-turn (at .loop .i) (at .loop .at) (group-of (start .args .op) (start .args .s)) (start .pre)
-    (λ j l. at .before .before .before .before .before .before .shared-slice-known .given j .fits)
+    set-turn (at .loop .i) (at .loop .at) (group-of (start .args .op) (start .args .s) .plus-length) (start .pre)
     (at .before .before .ordered-sets .ensures) inside (c .rows-of .ensures) (at .loop .inv .1) (at .loop .inv .2)
 
 sub-answer-set : tie.Need-sub-answer-set Inv-loop μ-loop
