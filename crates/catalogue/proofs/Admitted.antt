@@ -1,19 +1,22 @@
--- What an admitted catalogue's numbers and sizes are bounded by (`admitted-numbers`, `admitted-small`), and that a catalogue which is not
--- admitted is refused 2 (`verdict-cases`). Rests on the bounds of each code.
-use mathlib.Core.Path.{_≡_, refl, ap, _∙_}
+-- What an admitted catalogue's numbers and sizes are bounded by (`admitted-numbers`, `admitted-small`). Which catalogue is admitted, in numbers
+-- (`admitted-exactly`), which is refused 2 (`refused-bounds`), and which 17 (`refused-one-message`). Rests on the bounds of each code.
+use mathlib.Core.Path.{_≡_, refl, sym, _∙_}
 use mathlib.Core.Bool.{Bool, true, false, not}
-use mathlib.Core.Logic.{_⊎_, inl, inr}
+use mathlib.Core.Logic.{_↔_}
 use Prim.Native.Nat.{ℕ, _≤_}
 use native.Mathlib.Omega.{arith}
-use borrow.Author.Tests.{not-false}
+use borrow.Author.Tests.{eqb-true, eqb-false, eq-eqb, ne-eqb, not-false}
+use lib.Dec.{eqb}
 use Rattle.refusal.specs.declared.Verdict.the-variants.{Accepted}
 use Rattle.refusal.specs.Chain.{refused, refuseIf}
+use Rattle.refusal.specs.Numbers.{refusalOf}
+use Rattle.refusal.proofs.Chain.{not-refused, other-number}
 use Rattle.refusal.proofs.Accepted.{accepted-none}
 use Rattle.parameters.proofs.Bounds.{short-bounds, even-bounds}
 use Rattle.catalogue.specs.declared.Code.{Code}
 use Rattle.catalogue.specs.declared.Code.the-variants.{Short, Even}
 use Rattle.catalogue.specs.declared.Catalogue.{Catalogue}
-use Rattle.catalogue.specs.Catalogue.{fits, catalogueFaults, catalogueVerdict, Admitted, sizesBy, sizesOf}
+use Rattle.catalogue.specs.Catalogue.{fits, inBounds, catalogueFaults, catalogueVerdict, Admitted, sizesBy, sizesOf}
 use Rattle.catalogue.proofs.Faults.{catalogue-chain}
 use Rattle.parameters.proofs.SmallSizes.{Small, short-small, even-small}
 
@@ -21,35 +24,60 @@ use Rattle.parameters.proofs.SmallSizes.{Small, short-small, even-small}
 pub record Numbers (N K S : ℕ) : Type 0 where
   pub servers-low : 2 ≤ N
   pub servers-high : N ≤ 16
-  pub messages-low : 1 ≤ K
+  pub messages-low : 2 ≤ K
   pub messages-high : K ≤ 32
   pub symbol-low : 1 ≤ S
   pub symbol-high : S ≤ 4096
 
-fits-numbers : (code : Code) (N K S : ℕ) → fits code N K S ≡ true → Numbers N K S
-fits-numbers Short N K S e = let b = short-bounds N K S e in omega arith
-fits-numbers Even N K S e = let b = even-bounds N K S e in omega arith
+fits-numbers : (code : Code) (N K S : ℕ) → fits code N K S ≡ true → (K ≡ 1 → ⊥) → Numbers N K S
+fits-numbers Short N K S e more = let b = short-bounds N K S e in omega arith
+fits-numbers Even N K S e more = let b = even-bounds N K S e in omega arith
 
 fits-small : (code : Code) (N K S : ℕ) → fits code N K S ≡ true → Small N (sizesBy code N K S)
 fits-small Short N K S e = short-small N K S (short-bounds N K S e)
 fits-small Even N K S e = even-small N K S (even-bounds N K S e)
 
-pub admitted-fits : (c : Catalogue) → Admitted c → fits (c .code) (c .servers) (c .messages) (c .symbol) ≡ true
+pub admitted-fits : (c : Catalogue) → Admitted c → inBounds c ≡ true
 unfolding catalogueVerdict
-admitted-fits c a =
-    not-false (fits (c .code) (c .servers) (c .messages) (c .symbol)) (accepted-none (catalogueFaults c) a .0)
+admitted-fits c a = not-false (inBounds c) (accepted-none (catalogueFaults c) a .0)
 
 pub admitted-numbers : (c : Catalogue) → Admitted c → Numbers (c .servers) (c .messages) (c .symbol)
-admitted-numbers c a = fits-numbers (c .code) (c .servers) (c .messages) (c .symbol) (admitted-fits c a)
+unfolding catalogueVerdict
+admitted-numbers c a =
+    let more = eqb-false (c .messages) 1 (accepted-none (catalogueFaults c) a .1 .0) in
+    fits-numbers (c .code) (c .servers) (c .messages) (c .symbol) (admitted-fits c a) more
 
 pub admitted-small : (c : Catalogue) → Admitted c → Small (c .servers) (sizesOf c)
 unfolding sizesOf
 admitted-small c a = fits-small (c .code) (c .servers) (c .messages) (c .symbol) (admitted-fits c a)
 
--- a value is admitted or refused 2
-pub verdict-cases : (c : Catalogue) → (Admitted c) ⊎ (catalogueVerdict c ≡ refused 2)
-verdict-cases c = go (not (fits (c .code) (c .servers) (c .messages) (c .symbol))) refl
-  where
-    go : (t : Bool) → not (fits (c .code) (c .servers) (c .messages) (c .symbol)) ≡ t → (Admitted c) ⊎ (catalogueVerdict c ≡ refused 2)
-    go true e = inr (catalogue-chain c ∙ ap (λ (f : Bool). refuseIf f 2 Accepted) e)
-    go false e = inl (catalogue-chain c ∙ ap (λ (f : Bool). refuseIf f 2 Accepted) e)
+-- ---- the verdict in numbers
+
+module _ (c : Catalogue) where
+  judged : (within one : Bool) → inBounds c ≡ within → eqb (c .messages) 1 ≡ one → catalogueVerdict c ≡ refuseIf (not within) 2 (refuseIf one 17 Accepted)
+  judged within one e f = catalogue-chain c ∙ rw (e, f)
+
+  -- admitted exactly if it is within the bounds of its code and has two messages or more
+  pub admitted-exactly : Admitted c ↔ ((inBounds c ≡ true) × (2 ≤ c .messages))
+  admitted-exactly =
+      (λ a. (admitted-fits c a, admitted-numbers c a .messages-low), λ h. judged true false (h .0) (ne-eqb (c .messages) 1 (λ e. omega (arith, h .1, e))))
+
+  -- refused 2 exactly if it is out of bounds, whatever its messages
+  pub refused-bounds : (catalogueVerdict c ≡ refused 2) ↔ (inBounds c ≡ false)
+  refused-bounds = (λ e. out (inBounds c) (eqb (c .messages) 1) refl refl e, λ e. judged false (eqb (c .messages) 1) e refl)
+    where
+      out : (within one : Bool) → inBounds c ≡ within → eqb (c .messages) 1 ≡ one → catalogueVerdict c ≡ refused 2 → inBounds c ≡ false
+      out false one i o e = i
+      out true true i o e = other-number (refusalOf 17) (refusalOf 2) refl (sym (judged true true i o) ∙ e)
+      out true false i o e = not-refused (refusalOf 2) (sym e ∙ judged true false i o)
+
+  -- refused 17 exactly if it is within its bounds and has one message
+  pub refused-one-message : (catalogueVerdict c ≡ refused 17) ↔ ((inBounds c ≡ true) × (c .messages ≡ 1))
+  refused-one-message =
+      (λ e. single (inBounds c) (eqb (c .messages) 1) refl refl e, λ h. judged true true (h .0) (eq-eqb (c .messages) 1 (h .1)))
+    where
+      single : (within one : Bool) → inBounds c ≡ within → eqb (c .messages) 1 ≡ one → catalogueVerdict c ≡ refused 17
+          → (inBounds c ≡ true) × (c .messages ≡ 1)
+      single false one i o e = other-number (refusalOf 2) (refusalOf 17) refl (sym (judged false one i o) ∙ e)
+      single true true i o e = (i, eqb-true (c .messages) 1 o)
+      single true false i o e = not-refused (refusalOf 17) (sym e ∙ judged true false i o)

@@ -15,7 +15,7 @@ use Rattle.refusal.specs.declared.Verdict.{Verdict}
 use Rattle.refusal.specs.declared.Verdict.the-variants.{Accepted, Refused}
 use Rattle.refusal.specs.Numbers.{numberOf, rank}
 use Rattle.refusal.specs.Foremost.{Fault, earlier, foremost}
-use Rattle.refusal.proofs.Chain.{not-refused}
+use Rattle.refusal.proofs.Chain.{not-refused, same-refusal}
 use Rattle.refusal.proofs.Accepted.{NoneThere, accepted-none}
 use Rattle.refusal.proofs.Numbers.{rank-by-number}
 
@@ -33,9 +33,6 @@ pub record Given (refusal : Refusal) (faults : List Fault) : Type 0 where
 
 not-there : {A : Type 0} {t : Bool} → t ≡ false → t ≡ true → A
 not-there {A} {t} e f = absurd (let z : _≡_ {A = ℕ} 0 1 = cc in let w : ⊥ = omega arith in w)
-
-same-refusal : {refusal other : Refusal} → Refused refusal ≡ Refused other → refusal ≡ other
-same-refusal {refusal} {other} e = cc
 
 none-before : (refusal : Refusal) (faults : List Fault) → NoneThere faults → All (NotBefore refusal) faults
 none-before refusal [] n = allNil
