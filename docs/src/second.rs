@@ -603,6 +603,17 @@ fn printer_inputs() -> Vec<Bytes> {
         text.truncate(at);
         all.push(text);
     }
+    // a single pack in a damaged text, and with everything else wrong
+    for even in [false, true] {
+        let c = Catalogue { even, n: 3, k: 1, s: 4 };
+        let one = input(c, 0, &draw.key(c));
+        for (from, to) in [("wanted=0", "wanted=00"), ("packs=1", "packs=01"), ("piece=4\n", "piece=4\n\n"), ("key=", "keys="), ("key=", "key= ")] {
+            all.push(one.replacen(from, to, 1).into_bytes());
+        }
+        all.push(one.trim_end().as_bytes().to_vec());
+        all.push(format!("{one}\n").into_bytes());
+        all.push(input(c, 7, &[9, 9, 99999, 9]).into_bytes());
+    }
     all.push(vec![b'0'; 65536]);
     all.push([good.as_bytes(), &vec![b' '; 65537 - good.len()]].concat());
     all.push((0..=255).collect());
@@ -852,7 +863,7 @@ fn expected(input: &[u8]) -> Bytes {
 
 fn all_even() -> Vec<Catalogue> {
     let pairs = (2..=16).flat_map(|n| (2..=8).map(move |k| Catalogue { even: true, n, k, s: 1 }));
-    pairs.filter(|&c| admitted(c)).collect()
+    pairs.filter(|&c| within(c)).collect()
 }
 
 /// The catalogue with the largest piece, up to `s`, for which the buffers of `conformance` have room.
@@ -1185,7 +1196,7 @@ fn fetches() {
     for n in 2..=16 {
         let even = (2..=8).map(|k| Catalogue { even: true, n, k, s: 2 });
         let short = [2, 5, 32].into_iter().map(|k| Catalogue { even: false, n, k, s: 3 });
-        for c in even.chain(short).filter(|&c| admitted(c)).collect::<Vec<_>>() {
+        for c in even.chain(short).filter(|&c| within(c)).collect::<Vec<_>>() {
             assert_eq!(read(write_text(c).as_bytes()), Ok(c));
             let store: Bytes = (0..c.k * pack_length(c)).map(|_| draw.below(256) as u8).collect();
             for wanted in 0..c.k {

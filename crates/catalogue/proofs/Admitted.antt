@@ -1,17 +1,21 @@
 -- What an admitted catalogue's numbers and sizes are bounded by (`admitted-numbers`, `admitted-small`). Which catalogue is admitted, in numbers
--- (`admitted-exactly`), which is refused 2 (`refused-bounds`), and which 17 (`refused-one-message`). Rests on the bounds of each code.
+-- (`admitted-exactly`), which is refused 2 (`refused-bounds`), and which 17 (`refused-one-message`); of every code one message is (`one-message`).
+-- Rests on the bounds of each code.
 use mathlib.Core.Path.{_≡_, refl, sym, _∙_}
 use mathlib.Core.Bool.{Bool, true, false, not}
 use mathlib.Core.Logic.{_↔_}
-use Prim.Native.Nat.{ℕ, _≤_}
+use Prim.Native.Nat.{ℕ, _^_, _≤_}
+use native.Mathlib.Nat.{pow-le-pow-left}
 use native.Mathlib.Omega.{arith}
-use borrow.Author.Tests.{eqb-true, eqb-false, eq-eqb, ne-eqb, not-false}
-use lib.Dec.{eqb}
+use borrow.Author.Tests.{eqb-true, eqb-false, eq-eqb, ne-eqb, leb-true, le-leb, not-false}
+use lib.Dec.{eqb, leb}
+use Rattle.lists.proofs.Both.{both-true}
 use Rattle.refusal.specs.declared.Verdict.the-variants.{Accepted}
 use Rattle.refusal.specs.Chain.{refused, refuseIf}
 use Rattle.refusal.specs.Numbers.{refusalOf}
 use Rattle.refusal.proofs.Chain.{not-refused, other-number}
 use Rattle.refusal.proofs.Accepted.{accepted-none}
+use Rattle.parameters.specs.Bounds.{serversFit, symbolFits, shortFits, evenFits}
 use Rattle.parameters.proofs.Bounds.{short-bounds, even-bounds}
 use Rattle.catalogue.specs.declared.Code.{Code}
 use Rattle.catalogue.specs.declared.Code.the-variants.{Short, Even}
@@ -20,7 +24,7 @@ use Rattle.catalogue.specs.Catalogue.{fits, inBounds, catalogueFaults, c
 use Rattle.catalogue.proofs.Faults.{catalogue-chain}
 use Rattle.parameters.proofs.SmallSizes.{Small, short-small, even-small}
 
--- the bounds that hold in every code
+-- the numbers of an admitted catalogue, in every code
 pub record Numbers (N K S : ℕ) : Type 0 where
   pub servers-low : 2 ≤ N
   pub servers-high : N ≤ 16
@@ -81,3 +85,18 @@ module _ (c : Catalogue) where
       single false one i o e = other-number (refusalOf 2) (refusalOf 17) refl (sym (judged false one i o) ∙ e)
       single true true i o e = (i, eqb-true (c .messages) 1 o)
       single true false i o e = not-refused (refusalOf 17) (sym e ∙ judged true false i o)
+
+-- one message is within the bounds of every code, where N and S are
+one-fits : (code : Code) (N S : ℕ) → serversFit N ≡ true → symbolFits S ≡ true → fits code N 1 S ≡ true
+unfolding shortFits evenFits
+one-fits Short N S n s = rw (n, s)
+one-fits Even N S n s =
+    let high = leb-true N 16 (both-true (leb 2 N) (leb N 16) n .1) in
+    let small : N ^ 1 ≤ 16 ^ 1 = pow-le-pow-left high 1 in
+    let few : leb (N ^ 1) 256 ≡ true = le-leb (N ^ 1) 256 (omega arith) in
+    rw (n, s, few)
+
+-- so that no code refuses it by 2
+pub one-message : (code : Code) (N S : ℕ) → serversFit N ≡ true → symbolFits S ≡ true
+    → catalogueVerdict (record { code = code; servers = N; messages = 1; symbol = S }) ≡ refused 17
+one-message code N S n s = refused-one-message (record { code = code; servers = N; messages = 1; symbol = S }) .1 (one-fits code N S n s, refl)
