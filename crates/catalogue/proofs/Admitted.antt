@@ -1,5 +1,5 @@
 -- What an admitted catalogue's numbers and sizes are bounded by (`admitted-numbers`, `admitted-small`). Which catalogue is admitted, in numbers
--- (`admitted-exactly`), which is refused 2 (`refused-bounds`), and which 17 (`refused-one-message`); of every code one message is (`one-message`).
+-- (`admitted-exactly`), which is refused 2 (`refused-bounds`), and which 17 (`refused-one-message`: one message is, in every code, `one-message`).
 -- Rests on the bounds of each code.
 use mathlib.Core.Path.{_≡_, refl, sym, _∙_}
 use mathlib.Core.Bool.{Bool, true, false, not}
@@ -61,6 +61,16 @@ module _ (c : Catalogue) where
   judged : (within one : Bool) → inBounds c ≡ within → eqb (c .messages) 1 ≡ one → catalogueVerdict c ≡ refuseIf (not within) 2 (refuseIf one 17 Accepted)
   judged within one e f = catalogue-chain c ∙ rw (e, f)
 
+  -- it is out of bounds and refused 2, or within them with one message and refused 17, or admitted
+  cases : {A : Type 0} → (inBounds c ≡ false → catalogueVerdict c ≡ refused 2 → A)
+      → (inBounds c ≡ true → c .messages ≡ 1 → catalogueVerdict c ≡ refused 17 → A) → (Admitted c → A) → A
+  cases {A} outside single admitted = go (inBounds c) (eqb (c .messages) 1) refl refl
+    where
+      go : (within one : Bool) → inBounds c ≡ within → eqb (c .messages) 1 ≡ one → A
+      go false one e f = outside e (judged false one e f)
+      go true true e f = single e (eqb-true (c .messages) 1 f) (judged true true e f)
+      go true false e f = admitted (judged true false e f)
+
   -- admitted exactly if it is within the bounds of its code and has two messages or more
   pub admitted-exactly : Admitted c ↔ ((inBounds c ≡ true) × (2 ≤ c .messages))
   admitted-exactly =
@@ -68,23 +78,17 @@ module _ (c : Catalogue) where
 
   -- refused 2 exactly if it is out of bounds, whatever its messages
   pub refused-bounds : (catalogueVerdict c ≡ refused 2) ↔ (inBounds c ≡ false)
-  refused-bounds = (λ e. out (inBounds c) (eqb (c .messages) 1) refl refl e, λ e. judged false (eqb (c .messages) 1) e refl)
-    where
-      out : (within one : Bool) → inBounds c ≡ within → eqb (c .messages) 1 ≡ one → catalogueVerdict c ≡ refused 2 → inBounds c ≡ false
-      out false one i o e = i
-      out true true i o e = other-number (refusalOf 17) (refusalOf 2) refl (sym (judged true true i o) ∙ e)
-      out true false i o e = not-refused (refusalOf 2) (sym e ∙ judged true false i o)
+  refused-bounds = (
+    λ e. cases (λ out v. out) (λ within one v. other-number (refusalOf 17) (refusalOf 2) refl (sym v ∙ e)) (λ a. not-refused (refusalOf 2) (sym e ∙ a)),
+    λ out. judged false (eqb (c .messages) 1) out refl,
+  )
 
   -- refused 17 exactly if it is within its bounds and has one message
   pub refused-one-message : (catalogueVerdict c ≡ refused 17) ↔ ((inBounds c ≡ true) × (c .messages ≡ 1))
-  refused-one-message =
-      (λ e. single (inBounds c) (eqb (c .messages) 1) refl refl e, λ h. judged true true (h .0) (eq-eqb (c .messages) 1 (h .1)))
-    where
-      single : (within one : Bool) → inBounds c ≡ within → eqb (c .messages) 1 ≡ one → catalogueVerdict c ≡ refused 17
-          → (inBounds c ≡ true) × (c .messages ≡ 1)
-      single false one i o e = other-number (refusalOf 2) (refusalOf 17) refl (sym (judged false one i o) ∙ e)
-      single true true i o e = (i, eqb-true (c .messages) 1 o)
-      single true false i o e = not-refused (refusalOf 17) (sym e ∙ judged true false i o)
+  refused-one-message = (
+    λ e. cases (λ out v. other-number (refusalOf 2) (refusalOf 17) refl (sym v ∙ e)) (λ within one v. (within, one)) (λ a. not-refused (refusalOf 17) (sym e ∙ a)),
+    λ h. judged true true (h .0) (eq-eqb (c .messages) 1 (h .1)),
+  )
 
 -- one message is within the bounds of every code, where N and S are
 one-fits : (code : Code) (N S : ℕ) → serversFit N ≡ true → symbolFits S ≡ true → fits code N 1 S ≡ true

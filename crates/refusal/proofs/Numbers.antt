@@ -1,7 +1,7 @@
--- Number and refusal turn into each other (`refusal-kept`, `number-kept`), and among the numbers 1 to 12 the rank goes by the number
--- (`rank-by-number`), which is document 01's rule of the smallest number. Each is one computed test over the table.
+-- Number and refusal turn into each other (`refusal-kept`, `number-kept`), no two refusals have one rank (`same-rank`), and among the numbers 1 to 12
+-- the rank goes by the number (`rank-by-number`), which is document 01's rule of the smallest number. Each is one computed test over the table.
 use Prim.Native.Nat.{ℕ, _≤_}
-use mathlib.Core.Path.{_≡_, refl, ap}
+use mathlib.Core.Path.{_≡_, refl, sym, ap, _∙_}
 use mathlib.Core.Bool.{Bool, true, cond, _&&_}
 use mathlib.Core.List.{List, map}
 use lib.Dec.{leb}
@@ -37,6 +37,16 @@ refusal-kept = at-each (λ (r : Refusal). refusalOf (numberOf r)) (λ (r : Refus
 
 pub number-kept : map (λ (n : ℕ). numberOf (refusalOf n)) order ≡ order
 number-kept = refl
+
+-- the refusal at a place of the order
+abbrev atRank : ℕ → Refusal
+atRank place = refusalOf (getD order place 0)
+
+rank-kept : (refusal : Refusal) → atRank (rank refusal) ≡ refusal
+rank-kept = at-each (λ (r : Refusal). atRank (rank r)) (λ (r : Refusal). r) refl
+
+pub same-rank : (a b : Refusal) → rank a ≡ rank b → a ≡ b
+same-rank a b e = sym (rank-kept a) ∙ ap atRank e ∙ rank-kept b
 
 -- both numbers are at most 12
 abbrev upTo12 : Refusal → Refusal → Bool
