@@ -760,7 +760,7 @@ impl Bench {
     fn catalogue(&mut self, c: Catalogue) -> String {
         self.cat = c;
         if let Err(refusal) = judged(c) {
-            return format!("c {refusal} -{refusal}\n");
+            return format!("c {refusal} -{refusal} -{refusal}\n");
         }
         let sizes = [pieces(c), pack_length(c), c.k * pack_length(c), key_length(c), request_length(c), slot(c), c.n * slot(c)];
         format!("c 0 {}\n", sizes.map(|x| x.to_string()).join(" "))
