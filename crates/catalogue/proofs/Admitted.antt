@@ -79,14 +79,16 @@ module _ (c : Catalogue) where
   -- refused 2 exactly if it is out of bounds, whatever its messages
   pub refused-bounds : (catalogueVerdict c ≡ refused 2) ↔ (inBounds c ≡ false)
   refused-bounds = (
-    λ e. cases (λ out v. out) (λ within one v. other-number (refusalOf 17) (refusalOf 2) refl (sym v ∙ e)) (λ a. not-refused (refusalOf 2) (sym e ∙ a)),
+    λ e. cases (λ out v. out) (λ within one v. other-number (refusalOf 17) (refusalOf 2) refl (sym v ∙ e))
+        (λ a. not-refused (refusalOf 2) (sym e ∙ a)),
     λ out. judged false (eqb (c .messages) 1) out refl,
   )
 
   -- refused 17 exactly if it is within its bounds and has one message
   pub refused-one-message : (catalogueVerdict c ≡ refused 17) ↔ ((inBounds c ≡ true) × (c .messages ≡ 1))
   refused-one-message = (
-    λ e. cases (λ out v. other-number (refusalOf 2) (refusalOf 17) refl (sym v ∙ e)) (λ within one v. (within, one)) (λ a. not-refused (refusalOf 17) (sym e ∙ a)),
+    λ e. cases (λ out v. other-number (refusalOf 2) (refusalOf 17) refl (sym v ∙ e)) (λ within one v. (within, one))
+        (λ a. not-refused (refusalOf 17) (sym e ∙ a)),
     λ h. judged true true (h .0) (eq-eqb (c .messages) 1 (h .1)),
   )
 
