@@ -26,6 +26,7 @@ static const char *meaning(int64_t number) {
     switch (number) {
     case GOZIMPE_TEXT: return "the catalogue is not in its text form";
     case GOZIMPE_BOUNDS: return "the catalogue is out of bounds";
+    case GOZIMPE_ONE_PACK: return "the catalogue has a single pack";
     case GOZIMPE_MIRROR: return "there is no such mirror in the catalogue";
     case GOZIMPE_REQUEST: return "this mirror does not admit the request";
     case GOZIMPE_STORE_LENGTH: return "the store's length is not the catalogue's";

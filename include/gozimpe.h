@@ -18,10 +18,12 @@
 extern "C" {
 #endif
 
-/* Why a call is refused. The result of gozimpe_answer is the number with a minus sign. */
+/* Why a call is refused. The result of gozimpe_answer is the number with a minus sign. Where several apply, the
+ * first of this list is given. */
 enum gozimpe_refusal {
     GOZIMPE_TEXT = 1,         /* the catalogue is not in its text form, or a byte follows its last line */
     GOZIMPE_BOUNDS = 2,       /* the catalogue's mirrors, packs or piece length are out of bounds */
+    GOZIMPE_ONE_PACK = 17,    /* the catalogue has a single pack: no request could hide which pack is wanted */
     GOZIMPE_MIRROR = 3,       /* the mirror number is not below the number of mirrors */
     GOZIMPE_REQUEST = 7,      /* the request is not one that this mirror admits */
     GOZIMPE_STORE_LENGTH = 8, /* the store is not packs x pieces x piece bytes long */
@@ -33,7 +35,8 @@ enum gozimpe_refusal {
  * catalogue: the catalogue's text, four lines, each ended by a newline (byte 10), nothing after them:
  *                code=short          (or code=even)
  *                mirrors=3           N, 2 to 16
- *                packs=3             K: short, 1 to 32; even, 1 or more with N to the power of K at most 256
+ *                packs=3             K: short, 2 to 32; even, 2 or more with N to the power of K at most 256;
+ *                                    1 is refused by a number of its own (GOZIMPE_ONE_PACK)
  *                piece=4             S, 1 to 4096: the bytes of a piece
  * mirror:    which mirror this is, 0 to N-1.
  * store:     the packs. A pack has N-1 pieces in the short code and N to the power of K in the even code,
@@ -44,7 +47,7 @@ enum gozimpe_refusal {
  *            N^(K-1) + (N^(K-1) - 1)/(N - 1).
  *
  * Returns the length of the answer, 0 or more, or a refusal number with a minus sign. Where several
- * refusals apply, the smallest number is given.
+ * refusals apply, the first of 1, 2, 17, 3, 7, 8, 9 is given.
  *
  * An answer of n bytes is written to answer[0] .. answer[n-1], and nothing else is written. 0 means an
  * empty answer: in the short code the row of zeros, which only mirror 0 can get, is answered with no bytes,
@@ -67,8 +70,8 @@ int64_t gozimpe_answer(const uint8_t *catalogue, size_t catalogue_len,
 
 /* The length of the longest answer under a catalogue: an answer buffer of this many bytes is always enough.
  *
- * catalogue: the catalogue's text, as above. Returns the length, 1 or more, or -GOZIMPE_TEXT or
- * -GOZIMPE_BOUNDS. Everything else is as for gozimpe_answer.
+ * catalogue: the catalogue's text, as above. Returns the length, 1 or more, or -GOZIMPE_TEXT,
+ * -GOZIMPE_BOUNDS or -GOZIMPE_ONE_PACK. Everything else is as for gozimpe_answer.
  */
 int64_t gozimpe_longest_answer(const uint8_t *catalogue, size_t catalogue_len);
 

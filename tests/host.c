@@ -228,35 +228,59 @@ static void refused_text(const char *what, const char *cat, size_t len, int64_t 
 }
 
 static void catalogues(void) {
-    static const char good[] = "code=short\nmirrors=2\npacks=1\npiece=1\n";
+    static const char good[] = "code=short\nmirrors=2\npacks=2\npiece=1\n";
     static const char *bad[] = {
-        "", "code=short\n", "code=short\nmirrors=2\npacks=1\npiece=1", "code=short\nmirrors=2\npacks=1\npiece=1\n\n",
-        "code=short\nmirrors=02\npacks=1\npiece=1\n", "code=short\nmirrors=2\npacks=000001\npiece=1\n",
-        "code=short\nmirrors=2\npacks=100000\npiece=1\n", "code=other\nmirrors=2\npacks=1\npiece=1\n",
-        "code=short\npacks=1\nmirrors=2\npiece=1\n", "code=short\nmirrors=\npacks=1\npiece=1\n", "code=short \nmirrors=2\npacks=1\npiece=1\n",
+        "", "code=short\n", "code=short\nmirrors=2\npacks=2\npiece=1", "code=short\nmirrors=2\npacks=2\npiece=1\n\n",
+        "code=short\nmirrors=02\npacks=2\npiece=1\n", "code=short\nmirrors=2\npacks=000002\npiece=1\n",
+        "code=short\nmirrors=2\npacks=100000\npiece=1\n", "code=other\nmirrors=2\npacks=2\npiece=1\n",
+        "code=short\npacks=2\nmirrors=2\npiece=1\n", "code=short\nmirrors=\npacks=2\npiece=1\n", "code=short \nmirrors=2\npacks=2\npiece=1\n",
+        "code=short\nmirrors=2\npacks=1\npiece=1", "code=even\nmirrors=2\npacks=1\npiece=1\n\n", "code=short\nmirrors=2\npacks=01\npiece=1\n",
     };
     static const char *out[] = {
-        "code=short\nmirrors=1\npacks=1\npiece=1\n", "code=short\nmirrors=17\npacks=1\npiece=1\n", "code=short\nmirrors=2\npacks=0\npiece=1\n",
-        "code=short\nmirrors=2\npacks=33\npiece=1\n", "code=short\nmirrors=2\npacks=1\npiece=0\n", "code=short\nmirrors=2\npacks=1\npiece=4097\n",
+        "code=short\nmirrors=1\npacks=2\npiece=1\n", "code=short\nmirrors=17\npacks=2\npiece=1\n", "code=short\nmirrors=2\npacks=0\npiece=1\n",
+        "code=short\nmirrors=2\npacks=33\npiece=1\n", "code=short\nmirrors=2\npacks=2\npiece=0\n", "code=short\nmirrors=2\npacks=2\npiece=4097\n",
+        "code=short\nmirrors=1\npacks=1\npiece=1\n", "code=short\nmirrors=17\npacks=1\npiece=1\n", "code=even\nmirrors=2\npacks=1\npiece=0\n",
+        "code=even\nmirrors=2\npacks=1\npiece=4097\n",
         "code=short\nmirrors=99999\npacks=99999\npiece=99999\n", "code=even\nmirrors=2\npacks=9\npiece=1\n", "code=even\nmirrors=3\npacks=6\npiece=1\n",
         "code=even\nmirrors=6\npacks=4\npiece=1\n", "code=even\nmirrors=7\npacks=3\npiece=1\n", "code=even\nmirrors=16\npacks=3\npiece=1\n", "code=even\nmirrors=2\npacks=0\npiece=1\n",
     };
     for (size_t i = 0; i < sizeof bad / sizeof *bad; i++) refused_text(bad[i], bad[i], strlen(bad[i]), -1);
     for (size_t i = 0; i < sizeof out / sizeof *out; i++) refused_text(out[i], out[i], strlen(out[i]), -2);
-    /* a byte 0 after the last line, and the smallest number where several apply */
+    /* a byte 0 after the last line, and the first of the list where several apply */
     refused_text("a byte after the last line", good, sizeof good, -1);
-    refused_text("1 before 2", "code=short\nmirrors=1\npacks=1\npiece=1\nx", 38, -1);
+    refused_text("1 before 2", "code=short\nmirrors=1\npacks=2\npiece=1\nx", 38, -1);
+    uint8_t request[] = {0, 1}, store[] = {0x5A, 0xC3};
     call("2 before 3, 7, 8, 9", out[0], strlen(out[0]), 99, NULL, 0, NULL, 0, 0, -2, NULL);
     call("3 before 7, 8, 9", good, strlen(good), 2, NULL, 0, NULL, 0, 0, -3, NULL);
     call("7 before 8, 9", good, strlen(good), 1, NULL, 0, NULL, 0, 0, -7, NULL);
-    uint8_t one = 1;
-    call("8 before 9", good, strlen(good), 1, NULL, 0, &one, 1, 0, -8, NULL);
-    call("9", good, strlen(good), 1, &one, 1, &one, 1, 0, -9, NULL);
+    call("8 before 9", good, strlen(good), 1, NULL, 0, request, 2, 0, -8, NULL);
+    call("9", good, strlen(good), 1, store, 2, request, 2, 0, -9, NULL);
     /* every buffer of length 0, and each of them alone */
     call("all empty", "", 0, 0, NULL, 0, NULL, 0, 0, -1, NULL);
-    call("no catalogue", "", 0, 0, &one, 1, &one, 1, 1, -1, NULL);
-    call("no store", good, strlen(good), 1, NULL, 0, &one, 1, 1, -8, NULL);
-    call("no request", good, strlen(good), 1, &one, 1, NULL, 0, 1, -7, NULL);
+    call("no catalogue", "", 0, 0, store, 2, request, 2, 1, -1, NULL);
+    call("no store", good, strlen(good), 1, NULL, 0, request, 2, 1, -8, NULL);
+    call("no request", good, strlen(good), 1, store, 2, NULL, 0, 1, -7, NULL);
+}
+
+/* a single pack, with what would be right for one: its own number, and before every other but 1 and 2 */
+static void one_pack(const char *code, int n, int s) {
+    char one[64];
+    size_t store_len = (size_t)((code[0] == 'e' ? n : n - 1) * s);
+    uint8_t *store = calloc(1, store_len), last = (uint8_t)(n - 1), wrong = 255;
+    text(one, code, n, 1, s);
+    size_t len = strlen(one), room = (size_t)s;
+    longest("17: longest", one, len, -17);
+    call("17", one, len, last, store, store_len, &last, 1, room, -17, NULL);
+    call("17 before 3", one, len, (uint64_t)n, store, store_len, &last, 1, room, -17, NULL);
+    call("17 before 7", one, len, last, store, store_len, &wrong, 1, room, -17, NULL);
+    call("17 before 7, by length", one, len, last, store, store_len, NULL, 0, room, -17, NULL);
+    call("17 before 8", one, len, last, store, store_len - 1, &last, 1, room, -17, NULL);
+    call("17 before 9", one, len, last, store, store_len, &last, 1, room - 1, -17, NULL);
+    call("17 before 3, 7, 8, 9", one, len, UINT64_MAX, NULL, 0, NULL, 0, 0, -17, NULL);
+    call("1 before 17", one, len - 1, last, store, store_len, &last, 1, room, -1, NULL);
+    text(one, code, 17, 1, s);
+    call("2 before 17", one, strlen(one), last, store, store_len, &last, 1, room, -2, NULL);
+    free(store);
 }
 
 static void cards(void) {
@@ -276,12 +300,14 @@ static void cards(void) {
 }
 
 int main(int argc, char **argv) {
-    static const int most[17] = {0, 0, 8, 5, 4, 3, 3, 2, 2, 2, 2, 2, 2, 2, 2, 2, 2}, sizes[] = {1, 2, 7, 64, 4096}, ks[] = {1, 2, 3, 31, 32};
+    static const int most[17] = {0, 0, 8, 5, 4, 3, 3, 2, 2, 2, 2, 2, 2, 2, 2, 2, 2}, sizes[] = {1, 2, 7, 64, 4096}, ks[] = {2, 3, 31, 32};
     exact = argc > 1 && strcmp(argv[1], "exact") == 0;
     cards();
     catalogues();
     for (int n = 2; n <= 16; n++) {
-        for (int k = 1; k <= most[n]; k++) even(n, k, n == 4 && k == 4 ? 64 : 3);
+        one_pack("short", n, 3);
+        one_pack("even", n, 3);
+        for (int k = 2; k <= most[n]; k++) even(n, k, n == 4 && k == 4 ? 64 : 3);
         for (size_t i = 0; i < sizeof ks / sizeof *ks; i++)
             for (size_t j = 0; j < sizeof sizes / sizeof *sizes; j++) shorter(n, ks[i], sizes[j]);
     }

@@ -43,7 +43,7 @@ const LARGE: [Shape; 10] = [
 
 /// Short pieces: what a call costs beside its bytes.
 const SMALL: [Shape; 12] = [
-    short(2, 2, 1), short(16, 32, 1), short(16, 32, 16), short(16, 32, 64), even(2, 1, 1), even(2, 3, 16),
+    short(2, 2, 1), short(16, 32, 1), short(16, 32, 16), short(16, 32, 64), even(2, 2, 1), even(2, 3, 16),
     even(2, 8, 1), even(2, 8, 16), even(2, 8, 64), even(4, 4, 16), even(16, 2, 16), even(16, 2, 64),
 ];
 

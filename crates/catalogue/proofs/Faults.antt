@@ -3,6 +3,7 @@
 use mathlib.Core.Path.{_≡_, refl}
 use mathlib.Core.Bool.{true, not}
 use mathlib.Core.List.{List, _++_}
+use lib.Dec.{eqb}
 use Rattle.lists.specs.Distinct.{stands}
 use Rattle.refusal.specs.declared.Verdict.{Verdict}
 use Rattle.refusal.specs.declared.Verdict.the-variants.{Accepted}
@@ -13,10 +14,10 @@ use Rattle.refusal.proofs.Foremost.{ascending, foremost-chain, after-first}
 use Rattle.refusal.proofs.Accepted.{NoneThere, first-accepted, both-accepted}
 use Rattle.refusal.proofs.Within.{faults-within}
 use Rattle.catalogue.specs.declared.Catalogue.{Catalogue}
-use Rattle.catalogue.specs.Catalogue.{fits, catalogueFaults, catalogueNumbers, catalogueVerdict, Admitted}
+use Rattle.catalogue.specs.Catalogue.{inBounds, catalogueFaults, catalogueNumbers, catalogueVerdict, Admitted}
 
--- its own fault is that of the bounds
-pub catalogue-chain : (c : Catalogue) → catalogueVerdict c ≡ refuseIf (not (fits (c .code) (c .servers) (c .messages) (c .symbol))) 2 Accepted
+-- its own faults are that of the bounds, and then that of a single message
+pub catalogue-chain : (c : Catalogue) → catalogueVerdict c ≡ refuseIf (not (inBounds c)) 2 (refuseIf (eqb (c .messages) 1) 17 Accepted)
 unfolding catalogueVerdict
 catalogue-chain c = foremost-chain (catalogueFaults c) refl
 

@@ -1,8 +1,9 @@
--- Catalogue values: which are admitted, and the sizes that follow (document 01, 'Catalogue').
+-- Catalogue values: which are admitted, and the sizes that follow (document 01, 'Catalogue'; document 02, item 9).
 use mathlib.Core.Path.{_≡_}
 use mathlib.Core.Bool.{Bool, not}
 use mathlib.Core.List.{List, [], _∷_}
 use Prim.Native.Nat.{ℕ}
+use lib.Dec.{eqb}
 use Rattle.refusal.specs.declared.Verdict.{Verdict}
 use Rattle.refusal.specs.declared.Verdict.the-variants.{Accepted, Refused}
 use Rattle.refusal.specs.Foremost.{Fault, fault, foremost}
@@ -20,18 +21,23 @@ abbrev pub fits : Code → ℕ → ℕ → ℕ → Bool
 fits Short = shortFits
 fits Even = evenFits
 
--- What a catalogue value can be refused with ('Numbers a call can give'); every call that has a catalogue puts these faults in front of its own
+-- the catalogue's numbers are within the bounds of its code
+abbrev pub inBounds : Catalogue → Bool
+inBounds c = fits (c .code) (c .servers) (c .messages) (c .symbol)
+
+-- What a catalogue value can be refused with ('Numbers a call can give'); every call that has a catalogue puts these faults in front of its own.
+-- One message is within every code's bounds, and is turned away by 17 (02, item 9)
 abbrev pub catalogueFaults : Catalogue → List Fault
-catalogueFaults c = fault 2 (not (fits (c .code) (c .servers) (c .messages) (c .symbol))) ∷ []
+catalogueFaults c = fault 2 (not (inBounds c)) ∷ fault 17 (eqb (c .messages) 1) ∷ []
 
 -- their numbers
 abbrev pub catalogueNumbers : List ℕ
-catalogueNumbers = 2 ∷ []
+catalogueNumbers = 2 ∷ 17 ∷ []
 
 unfoldable pub catalogueVerdict : Catalogue → Verdict
 catalogueVerdict c = foremost (catalogueFaults c)
 
--- admitted (01, 'Lists of fetches'): breaks none of its bounds
+-- admitted (01, 'Lists of fetches'; 02, item 9): neither 2 nor 17, so that it has two messages or more; `admitted-exactly` says so in numbers
 abbrev pub Admitted : Catalogue → Type 0
 Admitted c = catalogueVerdict c ≡ Accepted
 

@@ -3,7 +3,7 @@ use parameters::Sizes;
 use refusal::Refusal;
 use refusal::Verdict;
 ghost use mathlib.Core.Path.{_≡_};
-ghost use Rattle.catalogue.specs.Catalogue.{fits, catalogueVerdict, zeroCatalogue, measuredOf};
+ghost use Rattle.catalogue.specs.Catalogue.{inBounds, catalogueVerdict, zeroCatalogue, measuredOf};
 
 // The code that every fetch from the catalogue uses.
 pub enum Code {
@@ -31,7 +31,7 @@ pub enum Measured {
 
 // Whether the catalogue is within the bounds of its code.
 fn in_bounds(c: Catalogue) -> bool
-    ensures { λ r. ⌜ r ≡ fits (c .code) (c .servers) (c .messages) (c .symbol) ⌝ }
+    ensures { λ r. ⌜ r ≡ inBounds c ⌝ }
 {
     let code = c.code;
     match code {
@@ -40,15 +40,17 @@ fn in_bounds(c: Catalogue) -> bool
     }
 }
 
-// Whether the catalogue is admitted: it breaks none of its bounds.
+// Whether the catalogue is admitted: it breaks none of its bounds, and has more than one message.
 pub fn verdict(c: Catalogue) -> Verdict
     ensures { λ r. ⌜ r ≡ catalogueVerdict c ⌝ }
 {
-    if in_bounds(c) {
-        Verdict::Accepted
-    } else {
-        Verdict::Refused(Refusal::Bounds)
+    if !in_bounds(c) {
+        return Verdict::Refused(Refusal::Bounds);
     }
+    if c.messages == 1 {
+        return Verdict::Refused(Refusal::OneMessage);
+    }
+    Verdict::Accepted
 }
 
 // The catalogue of zeros, its code short.

@@ -1,24 +1,26 @@
--- Catalogue text and catalogue value turn into each other without change (demand 2: `written-reads-back`, `read-is-written`), and a text is refused
--- exactly as the numbers 1 and 2 say (`refused-text`, `refused-bounds`). `textOf` is what `write` writes, `readOf` what `read` answers, `linesOf`
--- what `read_lines` answers.
+-- Catalogue text and catalogue value turn into each other without change (demand 2: `written-reads-back`, `read-is-written`). A text is refused 1
+-- exactly if it is no value's (`refused-text`), and else exactly as its value is (`refused-value`). `textOf` is what `write` writes, `readOf` what `read`
+-- answers, `linesOf` what `read_lines` answers.
 use mathlib.Core.Path.{_≡_, refl, sym, ap, _∙_}
-use mathlib.Core.Bool.{Bool, true, false}
+use mathlib.Core.Bool.{Bool, true, false, true≢false}
 use mathlib.Core.List.{List, [], _++_, append-nil}
 use mathlib.Core.Logic.{_↔_, _⊎_, inl, inr, ⊎-elim}
 use Prim.Native.Nat.{ℕ}
-use native.Mathlib.Omega.{arith}
 use borrow.Author.Tests.{eq-eqb, eqb-true}
 use lib.Dec.{eqb}
 use lib.ListN.{length, drop}
 use lib.Seq.{drop-length}
+use Rattle.lists.specs.Distinct.{stands}
+use Rattle.refusal.specs.declared.Refusal.{Refusal}
 use Rattle.refusal.specs.declared.Verdict.{Verdict}
 use Rattle.refusal.specs.declared.Verdict.the-variants.{Accepted, Refused}
 use Rattle.refusal.specs.Numbers.{refusalOf}
 use Rattle.refusal.specs.Chain.{refused}
-use Rattle.refusal.proofs.Chain.{not-refused}
+use Rattle.refusal.specs.Within.{OneOf}
+use Rattle.refusal.proofs.Chain.{not-refused, same-refusal}
 use Rattle.catalogue.specs.declared.Catalogue.{Catalogue}
 use Rattle.catalogue.specs.Catalogue.{catalogueVerdict, Admitted}
-use Rattle.catalogue.proofs.Admitted.{verdict-cases}
+use Rattle.catalogue.proofs.Faults.{catalogue-within}
 use Rattle.catalogue_text.specs.declared.Lines.{Lines}
 use Rattle.catalogue_text.specs.declared.Reading.{Reading}
 use Rattle.catalogue_text.specs.Text.{textOf, FiveDigits}
@@ -60,12 +62,10 @@ pub text-verdict : (c : Catalogue) (text : List ℕ) → FiveDigits c → textOf
 text-verdict c text small e =
     ap (λ (t : List ℕ). readOf t .verdict) (sym e) ∙ ap (λ (r : Reading). r .verdict) (text-judged c small) ∙ reading-verdict (catalogueVerdict c) c
 
-bounds-not-text : {A : Type 0} → refused 2 ≡ refused 1 → A
-bounds-not-text e = let z : _≡_ {A = ℕ} 0 1 = cc in absurd (let w : ⊥ = omega arith in w)
-
 -- a value's own verdict is never 1
 not-text : (c : Catalogue) → catalogueVerdict c ≡ refused 1 → ⊥
-not-text c e = ⊎-elim (λ a. not-refused (refusalOf 1) (sym e ∙ a)) (λ b. bounds-not-text (sym b ∙ e)) (verdict-cases c)
+unfolding OneOf stands
+not-text c e = true≢false (sym (catalogue-within c (refusalOf 1) e))
 
 -- ---- the whole text
 
@@ -98,20 +98,17 @@ refused-text text = (no-value, no-text)
     no-text none =
         ⊎-elim (λ v. absurd (none (v .0) (v .1) (v .2))) (λ e. ap (λ (r : Reading). r .verdict) e) (text-or-refused text)
 
--- refused 2 exactly if the text is that of a value which is not admitted
-pub refused-bounds : (text : List ℕ)
-    → (readOf text .verdict ≡ refused 2) ↔ ((c : Catalogue) × FiveDigits c × (textOf c ≡ text) × (Admitted c → ⊥))
-refused-bounds text = (of-value, out-of-bounds)
+-- refused with another number exactly if the text is that of a value which is refused with it
+pub refused-value : (text : List ℕ) (refusal : Refusal) → (refusal ≡ refusalOf 1 → ⊥)
+    → (readOf text .verdict ≡ Refused refusal) ↔ ((c : Catalogue) × FiveDigits c × (textOf c ≡ text) × (catalogueVerdict c ≡ Refused refusal))
+refused-value text refusal other = (of-value, λ v. text-verdict (v .0) text (v .1) (v .2) ∙ v .3)
   where
-    of-value : readOf text .verdict ≡ refused 2 → (c : Catalogue) × FiveDigits c × (textOf c ≡ text) × (Admitted c → ⊥)
+    of-value : readOf text .verdict ≡ Refused refusal → (c : Catalogue) × FiveDigits c × (textOf c ≡ text) × (catalogueVerdict c ≡ Refused refusal)
     of-value e =
         ⊎-elim
-        (λ v. (v .0, v .1, v .2, λ a. not-refused (refusalOf 2) (sym e ∙ text-verdict (v .0) text (v .1) (v .2) ∙ a)))
-        (λ r. bounds-not-text (sym e ∙ ap (λ (r : Reading). r .verdict) r))
+        (λ v. (v .0, v .1, v .2, sym (text-verdict (v .0) text (v .1) (v .2)) ∙ e))
+        (λ r. absurd (other (same-refusal (sym e ∙ ap (λ (r : Reading). r .verdict) r))))
         (text-or-refused text)
-
-    out-of-bounds : (c : Catalogue) × FiveDigits c × (textOf c ≡ text) × (Admitted c → ⊥) → readOf text .verdict ≡ refused 2
-    out-of-bounds v = text-verdict (v .0) text (v .1) (v .2) ∙ ⊎-elim (λ a. absurd (v .3 a)) (λ b. b) (verdict-cases (v .0))
 
 -- ---- the lines at the start of a text
 
@@ -129,14 +126,11 @@ lines-are-written text e = ⊎-elim no-lines found (four-lines-cases text)
     no-lines r = not-refused (refusalOf 1) (sym (ap (λ (l : Lines). l .verdict) (lines-is text) ∙ simp r) ∙ e)
 
     found : LinesRead text (fourLines text) → Admitted (linesOf text .catalogue) × LinesRead text (linesOf text)
-    found r = ⊎-elim admitted out-of-bounds (verdict-cases (fourLines text .catalogue))
+    found r = go (catalogueVerdict (fourLines text .catalogue)) refl
       where
-        admitted : Admitted (fourLines text .catalogue) → Admitted (linesOf text .catalogue) × LinesRead text (linesOf text)
-        admitted a = let same : linesOf text ≡ fourLines text = lines-is text ∙ simp (r .accepted, a) in rw same (a, r)
-
-        out-of-bounds : catalogueVerdict (fourLines text .catalogue) ≡ refused 2 → Admitted (linesOf text .catalogue) × LinesRead text (linesOf text)
-        out-of-bounds b =
-            not-refused (refusalOf 2) (sym (ap (λ (l : Lines). l .verdict) (lines-is text) ∙ simp (r .accepted, b)) ∙ e)
+        go : (v : Verdict) → catalogueVerdict (fourLines text .catalogue) ≡ v → Admitted (linesOf text .catalogue) × LinesRead text (linesOf text)
+        go Accepted a = let same : linesOf text ≡ fourLines text = lines-is text ∙ simp (r .accepted, a) in rw same (a, r)
+        go (Refused refusal) b = not-refused refusal (sym (ap (λ (l : Lines). l .verdict) (lines-is text) ∙ simp (r .accepted, b)) ∙ e)
 
 -- the text of a value is judged as the value is, whatever follows it
 pub lines-verdict : (c : Catalogue) (rest text : List ℕ) → FiveDigits c → textOf c ++ rest ≡ text → linesOf text .verdict ≡ catalogueVerdict c
@@ -169,20 +163,16 @@ lines-refused-text text = (no-value, no-text)
     no-text none =
         ⊎-elim (λ v. absurd (none (v .0) (v .1) (v .2) (v .3))) (λ e. ap (λ (l : Lines). l .verdict) e) (starts-or-refused text)
 
--- refused 2 exactly if that of a value stands there which is not admitted
-pub lines-refused-bounds : (text : List ℕ)
-    → (linesOf text .verdict ≡ refused 2)
-    ↔ ((c : Catalogue) × (rest : List ℕ) × FiveDigits c × (textOf c ++ rest ≡ text) × (Admitted c → ⊥))
-lines-refused-bounds text = (of-value, out-of-bounds)
+-- refused with another number exactly if that of a value stands there which is refused with it
+pub lines-refused-value : (text : List ℕ) (refusal : Refusal) → (refusal ≡ refusalOf 1 → ⊥)
+    → (linesOf text .verdict ≡ Refused refusal)
+    ↔ ((c : Catalogue) × (rest : List ℕ) × FiveDigits c × (textOf c ++ rest ≡ text) × (catalogueVerdict c ≡ Refused refusal))
+lines-refused-value text refusal other = (of-value, λ v. lines-verdict (v .0) (v .1) text (v .2) (v .3) ∙ v .4)
   where
-    of-value : linesOf text .verdict ≡ refused 2
-        → (c : Catalogue) × (rest : List ℕ) × FiveDigits c × (textOf c ++ rest ≡ text) × (Admitted c → ⊥)
+    of-value : linesOf text .verdict ≡ Refused refusal
+        → (c : Catalogue) × (rest : List ℕ) × FiveDigits c × (textOf c ++ rest ≡ text) × (catalogueVerdict c ≡ Refused refusal)
     of-value e =
         ⊎-elim
-        (λ v. (v .0, v .1, v .2, v .3, λ a. not-refused (refusalOf 2) (sym e ∙ lines-verdict (v .0) (v .1) text (v .2) (v .3) ∙ a)))
-        (λ r. bounds-not-text (sym e ∙ ap (λ (l : Lines). l .verdict) r))
+        (λ v. (v .0, v .1, v .2, v .3, sym (lines-verdict (v .0) (v .1) text (v .2) (v .3)) ∙ e))
+        (λ r. absurd (other (same-refusal (sym e ∙ ap (λ (l : Lines). l .verdict) r))))
         (starts-or-refused text)
-
-    out-of-bounds : (c : Catalogue) × (rest : List ℕ) × FiveDigits c × (textOf c ++ rest ≡ text) × (Admitted c → ⊥)
-        → linesOf text .verdict ≡ refused 2
-    out-of-bounds v = lines-verdict (v .0) (v .1) text (v .2) (v .3) ∙ ⊎-elim (λ a. absurd (v .4 a)) (λ b. b) (verdict-cases (v .0))

@@ -39,7 +39,7 @@ pub record Exchange (schemeOf : Catalogue → Scheme) (c : Catalogue) (n : ℕ) 
       → map (λ (f : Fetch). f .wanted) fs ≡ ps → map (λ (f : Fetch). f .key) fs ≡ keys
       → map (λ (f : Fetch). f .wanted) gs ≡ qs → map (λ (f : Fetch). f .key) gs ≡ swap keys → Claim schemeOf c store n fs gs
 
--- Demand 3, whole
+-- Demand 3, whole; an admitted catalogue has two messages or more (02, item 9)
 abbrev pub Demand3 : (Catalogue → Scheme) → Type 0
 Demand3 schemeOf =
     (c : Catalogue) → Admitted c → (n : ℕ) → n < c .servers → (ps qs : List ℕ) → length ps ≡ length qs → Below (c .messages) ps

@@ -1,15 +1,17 @@
 -- How long the parts of an output's lines are: what stands before a query (`head-length`), and a refusal's line (`refusal-most`).
-use mathlib.Core.Path.{_≡_}
+use mathlib.Core.Path.{_≡_, refl}
+use mathlib.Core.Bool.{true}
 use mathlib.Core.List.{_++_}
 use Prim.Native.Nat.{ℕ, _+_, _<_}
 use native.Mathlib.Omega.{arith}
+use borrow.Author.Tests.{ltb-true}
+use lib.Dec.{ltb}
 use lib.ListN.{length, length-append}
 use Rattle.lists.specs.Ascii.{ascii}
 use Rattle.text_lines.specs.Decimal.{decimal}
 use Rattle.refusal.specs.declared.Refusal.{Refusal}
-use Rattle.refusal.specs.declared.Refusal.the-variants.{Text, Bounds, Server, Wanted, KeyLength, KeyEntry}
-use Rattle.refusal.specs.declared.Refusal.the-variants.{Query, StoreLength, Room, AnswerLength, History, Missing}
 use Rattle.refusal.specs.Numbers.{numberOf}
+use Rattle.refusal.proofs.Numbers.{at-each}
 use Rattle.printing.specs.Output.{queryHead}
 
 pub head-length : (server : ℕ) → length (queryHead server) ≡ 16 + length (decimal server)
@@ -20,15 +22,4 @@ head-length server =
 
 -- a refusal's number has at most two digits
 pub refusal-most : (refusal : Refusal) → numberOf refusal < 100
-refusal-most Text = omega arith
-refusal-most Bounds = omega arith
-refusal-most Server = omega arith
-refusal-most Wanted = omega arith
-refusal-most KeyLength = omega arith
-refusal-most KeyEntry = omega arith
-refusal-most Query = omega arith
-refusal-most StoreLength = omega arith
-refusal-most Room = omega arith
-refusal-most AnswerLength = omega arith
-refusal-most History = omega arith
-refusal-most Missing = omega arith
+refusal-most refusal = ltb-true (numberOf refusal) 100 (at-each (λ (r : Refusal). ltb (numberOf r) 100) (λ (r : Refusal). true) refl refusal)

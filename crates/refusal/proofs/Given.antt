@@ -1,8 +1,9 @@
--- What is given of several faults, said without the definition: a refusal is that of a fault which is there, and no fault which is there comes before it
--- in the order (`foremost-given`), nor has a smaller number, among the numbers up to 12 (`smallest-number`).
-use mathlib.Core.Path.{_≡_, refl, sym, _∙_}
+-- What is given of several faults, said without the definition: a refusal, exactly if it is that of a fault which is there, and no fault which is there
+-- comes before it in the order (`given-exactly`). Then none has a smaller number, among the numbers up to 12 (`smallest-number`).
+use mathlib.Core.Path.{_≡_, refl, sym, ap, _∙_}
 use mathlib.Core.Bool.{Bool, true, false, cond}
 use mathlib.Core.List.{List, [], _∷_}
+use mathlib.Core.Logic.{_↔_}
 use Prim.Native.Nat.{ℕ, _≤_}
 use native.Mathlib.Omega.{arith}
 use lib.Dec.{leb}
@@ -15,9 +16,9 @@ use Rattle.refusal.specs.declared.Verdict.{Verdict}
 use Rattle.refusal.specs.declared.Verdict.the-variants.{Accepted, Refused}
 use Rattle.refusal.specs.Numbers.{numberOf, rank}
 use Rattle.refusal.specs.Foremost.{Fault, earlier, foremost}
-use Rattle.refusal.proofs.Chain.{not-refused}
+use Rattle.refusal.proofs.Chain.{not-refused, same-refusal}
 use Rattle.refusal.proofs.Accepted.{NoneThere, accepted-none}
-use Rattle.refusal.proofs.Numbers.{rank-by-number}
+use Rattle.refusal.proofs.Numbers.{same-rank, rank-by-number}
 
 -- the fault is there, and this is its refusal
 abbrev pub There : Refusal → Fault → Type 0
@@ -33,9 +34,6 @@ pub record Given (refusal : Refusal) (faults : List Fault) : Type 0 where
 
 not-there : {A : Type 0} {t : Bool} → t ≡ false → t ≡ true → A
 not-there {A} {t} e f = absurd (let z : _≡_ {A = ℕ} 0 1 = cc in let w : ⊥ = omega arith in w)
-
-same-refusal : {refusal other : Refusal} → Refused refusal ≡ Refused other → refusal ≡ other
-same-refusal {refusal} {other} e = cc
 
 none-before : (refusal : Refusal) (faults : List Fault) → NoneThere faults → All (NotBefore refusal) faults
 none-before refusal [] n = allNil
@@ -77,6 +75,29 @@ foremost-given (f ∷ faults) refusal e = go (f .there) refl e (foremost-given f
     go false h g rest =
         let r = rest refusal g in
         record { there = anyLater (r .there); first = allCons {x = f} (λ k. not-there h k) (r .first) }
+
+-- of two refusals, one that is first among the faults that are there and one of such a fault
+not-after : (first other : Refusal) {faults : List Fault} → All (NotBefore first) faults → Any (There other) faults → rank first ≤ rank other
+not-after first other (allCons here rest) (anyHere t) = rw (t .1) at (here (t .0))
+not-after first other (allCons here rest) (anyLater t) = not-after first other rest t
+
+none-there : {A : Type 0} {refusal : Refusal} (faults : List Fault) → NoneThere faults → Any (There refusal) faults → A
+none-there (f ∷ faults) n (anyHere t) = not-there (n .0) (t .0)
+none-there (f ∷ faults) n (anyLater t) = none-there faults (n .1) t
+
+given-foremost : (faults : List Fault) (refusal : Refusal) → Given refusal faults → foremost faults ≡ Refused refusal
+given-foremost faults refusal g = go (foremost faults) refl
+  where
+    go : (v : Verdict) → foremost faults ≡ v → foremost faults ≡ Refused refusal
+    go Accepted e = none-there faults (accepted-none faults e) (g .there)
+    go (Refused other) e =
+        let h = foremost-given faults other e in
+        let low : rank other ≤ rank refusal = not-after other refusal (h .first) (g .there) in
+        let high : rank refusal ≤ rank other = not-after refusal other (g .first) (h .there) in
+        e ∙ ap Refused (same-rank other refusal (omega arith))
+
+pub given-exactly : (faults : List Fault) (refusal : Refusal) → (foremost faults ≡ Refused refusal) ↔ Given refusal faults
+given-exactly faults refusal = (foremost-given faults refusal, given-foremost faults refusal)
 
 -- document 01's rule: of the faults that are there, with numbers up to 12, the smallest number is given
 pub smallest-number : (faults : List Fault) (refusal : Refusal) → foremost faults ≡ Refused refusal → numberOf refusal ≤ 12

@@ -3,6 +3,7 @@
 use catalogue::Catalogue;
 use catalogue::Code;
 use catalogue::Measured;
+use refusal::Outcome;
 use trials::draw;
 use trials::input::Line;
 use trials::show;
@@ -37,18 +38,21 @@ pub fn catalogue_of(line: Line) -> Catalogue {
     }
 }
 
-// c: a catalogue, its verdict, its sizes and the bound on received bytes.
+// c: a catalogue, its verdict, its sizes, or why it has none, and the bound on received bytes.
 pub fn catalogue(s: State, line: Line) -> State {
     let c = catalogue_of(line);
     show::letter(b'c');
     show::verdict(catalogue::verdict(c));
-    if let Measured::Of(sizes) = catalogue::sizes(c) {
-        show::number(sizes.symbols);
-        show::number(sizes.message);
-        show::number(sizes.store);
-        show::number(sizes.key);
-        show::number(sizes.query);
-        show::number(sizes.slot);
+    match catalogue::sizes(c) {
+        Measured::Of(sizes) => {
+            show::number(sizes.symbols);
+            show::number(sizes.message);
+            show::number(sizes.store);
+            show::number(sizes.key);
+            show::number(sizes.query);
+            show::number(sizes.slot);
+        }
+        Measured::Refused(refusal) => show::outcome(Outcome::Refused(refusal)),
     }
     show::outcome(session::bound(c));
     show::end();

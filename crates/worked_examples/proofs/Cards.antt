@@ -37,4 +37,4 @@ unfolding Holds cards flatMap allBelow distinct isPermutation stands range every
 cards-hold =
     allCons refl (allCons refl (allCons refl (allCons refl (allCons refl (allCons refl (allCons refl (allCons refl
     (allCons refl (allCons refl (allCons refl (allCons refl (allCons refl (allCons refl (allCons refl (allCons refl
-    (allCons refl allNil))))))))))))))))
+    (allCons refl (allCons refl allNil)))))))))))))))))

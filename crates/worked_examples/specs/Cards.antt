@@ -1,5 +1,5 @@
 -- The bench cards B1 to B12 of document 01, as one table (`cards`): what each says of the published rules, and the bytes and numbers that it
--- prints.
+-- prints. B11 and B12 have one message, and show the number of document 02, item 9.
 use mathlib.Core.Path.{_≡_}
 use mathlib.Core.List.{List, [], _∷_, _++_, map}
 use Prim.Native.Nat.{ℕ}
@@ -97,8 +97,9 @@ cards =
     -- B10
     ∷ judges (cat Even 2 8 1) Accepted
     ∷ judges (cat Even 2 9 1) (refused 2)
-    -- B11
-    ∷ asks (cat Short 2 1 1) 0 [] ((0 ∷ []) ∷ (1 ∷ []) ∷ [])
+    -- B11, at begin and in the printer
+    ∷ begins (cat Short 2 1 1) 0 [] (refused 17)
+    ∷ prints (ascii "code=short\nmirrors=2\npacks=1\npiece=1\nwanted=0\nkey=\n") (ascii "refused=17\n")
     -- B12
-    ∷ begins (cat Even 2 1 1) 0 (0 ∷ 0 ∷ []) (refused 6)
+    ∷ begins (cat Even 2 1 1) 0 (0 ∷ 0 ∷ []) (refused 17)
     ∷ []
