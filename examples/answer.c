@@ -19,7 +19,7 @@
 
 enum { BAD_USAGE = 64, NO_INPUT = 66, NO_OUTPUT = 74 };
 
-/* No request is longer than 1,024 bytes and no catalogue than 49: what is cut off here is refused anyway. */
+/* No request is longer than 1,024 bytes and no catalogue than 57: what is cut off here is refused anyway. */
 enum { MOST_REQUEST = 4096, MOST_CATALOGUE = 4096 };
 
 static const char *meaning(int64_t number) {
@@ -27,6 +27,7 @@ static const char *meaning(int64_t number) {
     case GOZIMPE_TEXT: return "the catalogue is not in its text form";
     case GOZIMPE_BOUNDS: return "the catalogue is out of bounds";
     case GOZIMPE_ONE_PACK: return "the catalogue has a single pack";
+    case GOZIMPE_ODD_PIECE: return "the catalogue adds words, and its pieces are odd";
     case GOZIMPE_MIRROR: return "there is no such mirror in the catalogue";
     case GOZIMPE_REQUEST: return "this mirror does not admit the request";
     case GOZIMPE_STORE_LENGTH: return "the store's length is not the catalogue's";

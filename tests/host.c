@@ -1,4 +1,4 @@
-/* Runs the real archive from C: the bench cards B2 to B6, both codes against a plain reference, every refusal from both sides
+/* Runs the real archive from C: the bench cards B2 to B6, both codes in both sums against a plain reference, every refusal from both sides
  * of its condition, and buffers of exact, longer and shorter length. Every buffer lies between guard bytes; with the argument
  * `exact` each is an allocation of just its length instead, so that valgrind sees every byte outside. A call with buffers of
  * length 0 is made once for each choice of those whose pointer is NULL, none and all of them included.
@@ -91,8 +91,8 @@ static void longest(const char *what, const char *catalogue, size_t length, int6
     free(c.base);
 }
 
-static void text(char *out, const char *code, int n, int k, int s) {
-    sprintf(out, "code=%s\nmirrors=%d\npacks=%d\npiece=%d\n", code, n, k, s);
+static void text(char *out, const char *code, int n, int k, int s, int add) {
+    sprintf(out, "code=%s\nmirrors=%d\npacks=%d\npiece=%d\n%s", code, n, k, s, add ? "sum=add\n" : "");
 }
 
 /* ---- the reference: the combined pieces of a request, by the rules */
@@ -109,12 +109,19 @@ static int power(int n, int k) {
     return r;
 }
 
-static void add_piece(uint8_t *to, const uint8_t *store, size_t number, int s) {
-    for (int i = 0; i < s; i++) to[i] ^= store[number * (size_t)s + (size_t)i];
+/* one piece more: by exclusive or, or as a long row of bytes to be added, whose carry is dropped behind every second byte */
+static void add_piece(uint8_t *to, const uint8_t *store, size_t number, int s, int add) {
+    const uint8_t *piece = store + number * (size_t)s;
+    unsigned carry = 0;
+    for (int i = 0; i < s; i++) {
+        unsigned sum = to[i] + piece[i] + (i % 2 == 1 ? carry : 0u);
+        carry = sum >> 8;
+        to[i] = add ? (uint8_t)sum : (uint8_t)(to[i] ^ piece[i]);
+    }
 }
 
 struct walk {
-    int n, k, s, rows, at;
+    int n, k, s, add, rows, at;
     const uint8_t *store, *request;
     uint8_t *answer;
 };
@@ -125,7 +132,7 @@ static void sets(struct walk *w, int *list, int chosen, int from, int left) {
         for (int r = power(w->n - 1, chosen - 1); r > 0; r--) {
             uint8_t *to = w->answer + (size_t)w->rows++ * (size_t)w->s;
             memset(to, 0, (size_t)w->s);
-            for (int i = 0; i < chosen; i++) add_piece(to, w->store, (size_t)(list[i] * power(w->n, w->k)) + w->request[w->at++], w->s);
+            for (int i = 0; i < chosen; i++) add_piece(to, w->store, (size_t)(list[i] * power(w->n, w->k)) + w->request[w->at++], w->s, w->add);
         }
         return;
     }
@@ -135,7 +142,7 @@ static void sets(struct walk *w, int *list, int chosen, int from, int left) {
     }
 }
 
-static void even(int n, int k, int s) {
+static void even(int n, int k, int s, int add) {
     int m = power(n, k), query = k * power(n, k - 1), list[8], cell = 0;
     size_t store_len = (size_t)(k * m * s);
     uint8_t *store = malloc(store_len), *answer = malloc(256u * (size_t)s), request[1024], order[8][256];
@@ -160,10 +167,10 @@ static void even(int n, int k, int s) {
         }
     expect(cell == query, "even: positions", cell);
     for (int i = 0; i < query; i++) request[i] = order[packs[i]][next[packs[i]]++];
-    struct walk w = {n, k, s, 0, 0, store, request, answer};
+    struct walk w = {n, k, s, add, 0, 0, store, request, answer};
     for (int b = 1; b <= k; b++) sets(&w, list, 0, 0, b);
     size_t len = (size_t)(w.rows * s);
-    text(cat, "even", n, k, s);
+    text(cat, "even", n, k, s, add);
     size_t cat_len = strlen(cat);
     longest("even: longest", cat, cat_len, (int64_t)len);
     call("even: exact", cat, cat_len, (uint64_t)draw((unsigned)n), store, store_len, request, (size_t)query, len, (int64_t)len, answer);
@@ -188,7 +195,7 @@ static void even(int n, int k, int s) {
     free(store), free(answer);
 }
 
-static void shorter(int n, int k, int s) {
+static void shorter(int n, int k, int s, int add) {
     size_t store_len = (size_t)(k * (n - 1) * s);
     uint8_t *store = malloc(store_len), *answer = calloc(1, (size_t)s), request[33];
     int total = 0, some = 0;
@@ -197,10 +204,10 @@ static void shorter(int n, int k, int s) {
     for (int p = 0; p < k; p++) {
         request[p] = (uint8_t)draw((unsigned)n);
         total += request[p];
-        if (request[p] > 0) add_piece(answer, store, (size_t)(p * (n - 1) + request[p] - 1), s), some = 1;
+        if (request[p] > 0) add_piece(answer, store, (size_t)(p * (n - 1) + request[p] - 1), s, add), some = 1;
     }
     uint64_t mirror = (uint64_t)(total % n);
-    text(cat, "short", n, k, s);
+    text(cat, "short", n, k, s, add);
     size_t cat_len = strlen(cat);
     int64_t len = some ? s : 0;
     longest("short: longest", cat, cat_len, s);
@@ -234,6 +241,8 @@ static void catalogues(void) {
         "code=short\nmirrors=02\npacks=2\npiece=1\n", "code=short\nmirrors=2\npacks=000002\npiece=1\n",
         "code=short\nmirrors=2\npacks=100000\npiece=1\n", "code=other\nmirrors=2\npacks=2\npiece=1\n",
         "code=short\npacks=2\nmirrors=2\npiece=1\n", "code=short\nmirrors=\npacks=2\npiece=1\n", "code=short \nmirrors=2\npacks=2\npiece=1\n",
+        "code=short\nmirrors=2\npacks=2\npiece=2\nsum=xor\n", "code=short\nmirrors=2\npacks=2\npiece=2\nsum=\n", "code=short\nmirrors=2\npacks=2\npiece=2\nsum=add",
+        "code=short\nmirrors=2\npacks=2\npiece=2\nsum=add\nsum=add\n", "code=short\nmirrors=2\npacks=2\nsum=add\npiece=2\n",
         "code=short\nmirrors=2\npacks=1\npiece=1", "code=even\nmirrors=2\npacks=1\npiece=1\n\n", "code=short\nmirrors=2\npacks=01\npiece=1\n",
     };
     static const char *out[] = {
@@ -267,7 +276,7 @@ static void one_pack(const char *code, int n, int s) {
     char one[64];
     size_t store_len = (size_t)((code[0] == 'e' ? n : n - 1) * s);
     uint8_t *store = calloc(1, store_len), last = (uint8_t)(n - 1), wrong = 255;
-    text(one, code, n, 1, s);
+    text(one, code, n, 1, s, 0);
     size_t len = strlen(one), room = (size_t)s;
     longest("17: longest", one, len, -17);
     call("17", one, len, last, store, store_len, &last, 1, room, -17, NULL);
@@ -278,9 +287,49 @@ static void one_pack(const char *code, int n, int s) {
     call("17 before 9", one, len, last, store, store_len, &last, 1, room - 1, -17, NULL);
     call("17 before 3, 7, 8, 9", one, len, UINT64_MAX, NULL, 0, NULL, 0, 0, -17, NULL);
     call("1 before 17", one, len - 1, last, store, store_len, &last, 1, room, -1, NULL);
-    text(one, code, 17, 1, s);
+    text(one, code, n, 1, s, 1);
+    call("17 before 15", one, strlen(one), last, store, store_len, &last, 1, room, -17, NULL);
+    text(one, code, 17, 1, s, 0);
     call("2 before 17", one, strlen(one), last, store, store_len, &last, 1, room, -2, NULL);
     free(store);
+}
+
+/* an odd piece where words are added, with what would be right for it: its own number, and before every other but 1, 2 and 17 */
+static void odd_piece(const char *code, int n, int s) {
+    char odd[64];
+    size_t even_code = code[0] == 'e', store_len = 2 * (size_t)((even_code ? n * n : n - 1) * s), len, room = (size_t)(even_code ? (n + 1) * s : s);
+    uint8_t *store = calloc(1, store_len), request[64] = {0};
+    for (int i = 0; i < 2 * n; i++) request[i] = (uint8_t)(i / 2);
+    if (!even_code) request[0] = 1;
+    size_t asked = even_code ? 2 * (size_t)n : 2;
+    uint64_t mirror = 1;
+    text(odd, code, n, 2, s, 0);
+    len = strlen(odd);
+    longest("no 15 by exclusive or: longest", odd, len, (int64_t)room);
+    text(odd, code, n, 2, s, 1);
+    len = strlen(odd);
+    longest("15: longest", odd, len, -15);
+    call("15", odd, len, mirror, store, store_len, request, asked, room, -15, NULL);
+    call("15 before 3", odd, len, (uint64_t)n, store, store_len, request, asked, room, -15, NULL);
+    call("15 before 7, by length", odd, len, mirror, store, store_len, NULL, 0, room, -15, NULL);
+    call("15 before 8", odd, len, mirror, store, store_len - 1, request, asked, room, -15, NULL);
+    call("15 before 9", odd, len, mirror, store, store_len, request, asked, room - 1, -15, NULL);
+    request[0] = 255;
+    call("15 before 7", odd, len, mirror, store, store_len, request, asked, room, -15, NULL);
+    call("15 before 3, 7, 8, 9", odd, len, UINT64_MAX, NULL, 0, NULL, 0, 0, -15, NULL);
+    call("1 before 15", odd, len - 1, mirror, store, store_len, request, asked, room, -1, NULL);
+    text(odd, code, 17, 2, s, 1);
+    call("2 before 15", odd, strlen(odd), mirror, store, store_len, request, asked, room, -2, NULL);
+    free(store);
+}
+
+/* single words: a carry into the high byte, the wrap at 65,536, no carry into the next word */
+static void words(void) {
+    static const char cat[] = "code=short\nmirrors=2\npacks=2\npiece=4\nsum=add\n";
+    static const uint8_t both[] = {1, 1}, stores[][8] = {{255, 0, 1, 0, 1, 0, 2, 0}, {255, 255, 0, 0, 1, 0, 0, 0}, {255, 255, 255, 255, 255, 255, 255, 255},
+                                                       {0, 128, 52, 18, 0, 128, 205, 171}};
+    static const uint8_t sums[][4] = {{0, 1, 3, 0}, {0, 0, 0, 0}, {254, 255, 254, 255}, {0, 0, 1, 190}};
+    for (size_t i = 0; i < sizeof sums / sizeof *sums; i++) call("words", cat, strlen(cat), 0, stores[i], 8, both, 2, 4, 4, sums[i]);
 }
 
 static void cards(void) {
@@ -304,14 +353,21 @@ int main(int argc, char **argv) {
     exact = argc > 1 && strcmp(argv[1], "exact") == 0;
     cards();
     catalogues();
+    words();
     for (int n = 2; n <= 16; n++) {
         one_pack("short", n, 3);
         one_pack("even", n, 3);
-        for (int k = 2; k <= most[n]; k++) even(n, k, n == 4 && k == 4 ? 64 : 3);
+        odd_piece("short", n, n % 2 ? 1 : 4095);
+        odd_piece("even", n, 3);
+        for (int k = 2; k <= most[n]; k++) even(n, k, n == 4 && k == 4 ? 64 : 3, 0), even(n, k, n == 4 && k == 4 ? 64 : 6, 1);
         for (size_t i = 0; i < sizeof ks / sizeof *ks; i++)
-            for (size_t j = 0; j < sizeof sizes / sizeof *sizes; j++) shorter(n, ks[i], sizes[j]);
+            for (size_t j = 0; j < sizeof sizes / sizeof *sizes; j++) {
+                shorter(n, ks[i], sizes[j], 0);
+                if (sizes[j] % 2 == 0) shorter(n, ks[i], sizes[j], 1);
+            }
     }
-    even(2, 8, 4096 / 64);
+    even(2, 8, 4096 / 64, 0);
+    even(2, 8, 4096 / 64, 1);
     printf("host test%s: %d checks, %d failures\n", exact ? " (exact buffers)" : "", checks, failures);
     return failures == 0 ? 0 : 1;
 }

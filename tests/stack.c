@@ -58,6 +58,8 @@ int main(void) {
     request[0] = 1, request[1] = 15;
     measure("answer, short 16 32 4096", answering);
     measure("longest answer, short", longest);
+    catalogue = "code=short\nmirrors=16\npacks=32\npiece=4096\nsum=add\n";
+    measure("answer, short 16 32 4096 add", answering);
     catalogue = "code=even\nmirrors=2\npacks=8\npiece=4096\n", store_len = (size_t)8 * 256 * 4096, request_len = 1024;
     int next[8] = {0};
     size_t at = 0;
@@ -67,6 +69,8 @@ int main(void) {
                 if (set >> (7 - p) & 1) request[at++] = (uint8_t)next[p]++;
     measure("answer, even 2 8 4096", answering);
     measure("longest answer, even", longest);
+    catalogue = "code=even\nmirrors=2\npacks=8\npiece=4096\nsum=add\n";
+    measure("answer, even 2 8 4096 add", answering);
     request[1023] = request[1022 - 8];
     measure("answer refused, even 2 8 4096", answering);
     free(store), free(answer);

@@ -1,7 +1,8 @@
 //! The speed of `gozimpe_answer`, beside a plain loop in Rust over the same store and requests. A measurement, not a test.
 //!
 //! Words here are document 01's: mirror, pack, piece, request. The plain loop is what a programmer would write first: for each row, for
-//! each of its pieces, for each byte, exclusive or. It reads no catalogue, checks nothing, and is given the rows of packs ready made.
+//! each of its pieces, for each byte, exclusive or; under `sum=add`, for each word, addition. It reads no catalogue, checks nothing, and is given
+//! the rows of packs ready made.
 //!
 //!     scripts/bench           builds the archive and this program, and prints the tables of docs/BENCHMARKS.md
 use std::hint::black_box;
@@ -25,26 +26,33 @@ struct Shape {
     n: usize,
     k: usize,
     s: usize,
+    add: bool,
 }
 
 const fn short(n: usize, k: usize, s: usize) -> Shape {
-    Shape { even: false, n, k, s }
+    Shape { even: false, n, k, s, add: false }
 }
 
 const fn even(n: usize, k: usize, s: usize) -> Shape {
-    Shape { even: true, n, k, s }
+    Shape { even: true, n, k, s, add: false }
 }
 
-/// Stores of 1 MiB or more, three of them with pieces that begin at odd offsets.
-const LARGE: [Shape; 10] = [
+const fn adding(shape: Shape) -> Shape {
+    Shape { add: true, ..shape }
+}
+
+/// Stores of 1 MiB or more, three of them with pieces that begin at odd offsets, four of them added.
+const LARGE: [Shape; 14] = [
     short(16, 32, 4096), short(9, 32, 4096), short(16, 32, 2300), short(16, 32, 4095), even(2, 8, 4096),
     even(16, 2, 4096), even(4, 4, 1024), even(6, 3, 4096), even(3, 5, 1001), even(2, 8, 512),
+    adding(short(16, 32, 4096)), adding(short(16, 32, 2300)), adding(even(2, 8, 4096)), adding(even(4, 4, 1024)),
 ];
 
 /// Short pieces: what a call costs beside its bytes.
-const SMALL: [Shape; 12] = [
+const SMALL: [Shape; 15] = [
     short(2, 2, 1), short(16, 32, 1), short(16, 32, 16), short(16, 32, 64), even(2, 2, 1), even(2, 3, 16),
     even(2, 8, 1), even(2, 8, 16), even(2, 8, 64), even(4, 4, 16), even(16, 2, 16), even(16, 2, 64),
+    adding(short(2, 2, 2)), adding(short(16, 32, 64)), adding(even(2, 8, 64)),
 ];
 
 /// Xorshift: the same stores and requests in each run.
@@ -66,7 +74,8 @@ impl Shape {
 
     fn text(self) -> String {
         let code = if self.even { "even" } else { "short" };
-        format!("code={code}\nmirrors={}\npacks={}\npiece={}\n", self.n, self.k, self.s)
+        let sum = if self.add { "sum=add\n" } else { "" };
+        format!("code={code}\nmirrors={}\npacks={}\npiece={}\n{sum}", self.n, self.k, self.s)
     }
 
     /// The packs of each row of a request, in order.
@@ -133,8 +142,16 @@ fn plain(shape: Shape, rows: &[Vec<usize>], store: &[u8], request: &[u8], answer
                 piece -= 1;
             }
             let start = (pack * pieces + piece) * s;
-            for (to, from) in out.iter_mut().zip(&store[start..start + s]) {
-                *to ^= *from;
+            let piece = &store[start..start + s];
+            if shape.add {
+                for (to, from) in out.chunks_exact_mut(2).zip(piece.chunks_exact(2)) {
+                    let sum = u16::from_le_bytes([to[0], to[1]]).wrapping_add(u16::from_le_bytes([from[0], from[1]]));
+                    to.copy_from_slice(&sum.to_le_bytes());
+                }
+            } else {
+                for (to, from) in out.iter_mut().zip(piece) {
+                    *to ^= *from;
+                }
             }
         }
     }
@@ -257,7 +274,8 @@ fn ratio_text(ratios: &[f64]) -> String {
 }
 
 fn name(shape: Shape) -> String {
-    format!("{} {} {} {}", if shape.even { "even" } else { "short" }, shape.n, shape.k, shape.s)
+    let (code, sum) = (if shape.even { "even" } else { "short" }, if shape.add { " add" } else { "" });
+    format!("{code} {} {} {}{sum}", shape.n, shape.k, shape.s)
 }
 
 fn main() {

@@ -21,9 +21,20 @@ struct Catalogue {
     n: usize,
     k: usize,
     s: usize,
+    /// The line `sum=add` (02, item 2).
+    add: bool,
 }
 
-const ZERO: Catalogue = Catalogue { even: false, n: 0, k: 0, s: 0 };
+/// A catalogue without the line.
+const fn plain(even: bool, n: usize, k: usize, s: usize) -> Catalogue {
+    Catalogue { even, n, k, s, add: false }
+}
+
+fn adding(c: Catalogue) -> Catalogue {
+    Catalogue { add: true, ..c }
+}
+
+const ZERO: Catalogue = plain(false, 0, 0, 0);
 
 /// A number in text form: one to five digits, no leading zero but `0` itself.
 fn number(text: &str) -> Option<usize> {
@@ -31,7 +42,8 @@ fn number(text: &str) -> Option<usize> {
     if good { text.parse().ok() } else { None }
 }
 
-/// The four lines at the start, and what follows them.
+/// The catalogue's lines at the start, and what follows them: the four of document 01, and `sum=add` after them where a line of that name stands
+/// there (02, item 2).
 fn lines(text: &[u8]) -> Option<(Catalogue, &[u8])> {
     let mut rest = text;
     let mut line = |name: &str| -> Option<String> {
@@ -48,10 +60,14 @@ fn lines(text: &[u8]) -> Option<(Catalogue, &[u8])> {
     let n = number(&line("mirrors=")?)?;
     let k = number(&line("packs=")?)?;
     let s = number(&line("piece=")?)?;
-    Some((Catalogue { even, n, k, s }, rest))
+    let c = plain(even, n, k, s);
+    match rest.strip_prefix(b"sum=") {
+        Some(value) => Some((adding(c), value.strip_prefix(b"add\n")?)),
+        None => Some((c, rest)),
+    }
 }
 
-/// Reads catalogue text: the value, or refusal 1, 2 or 17.
+/// Reads catalogue text: the value, or refusal 1, 2, 17 or 15.
 fn read(text: &[u8]) -> Result<Catalogue, u8> {
     match lines(text) {
         Some((c, [])) => judged(c).map(|_| c),
@@ -60,7 +76,8 @@ fn read(text: &[u8]) -> Result<Catalogue, u8> {
 }
 
 fn write_text(c: Catalogue) -> String {
-    format!("code={}\nmirrors={}\npacks={}\npiece={}\n", if c.even { "even" } else { "short" }, c.n, c.k, c.s)
+    let (code, sum) = (if c.even { "even" } else { "short" }, if c.add { "sum=add\n" } else { "" });
+    format!("code={code}\nmirrors={}\npacks={}\npiece={}\n{sum}", c.n, c.k, c.s)
 }
 
 /// The bounds of document 01, which a single pack keeps.
@@ -69,11 +86,13 @@ fn within(c: Catalogue) -> bool {
     (2..=16).contains(&c.n) && (1..=4096).contains(&c.s) && packs
 }
 
-/// Whether every call that tests the catalogue goes on: 2 for a broken bound, else 17 for a single pack, of every code (02, item 9).
+/// Whether every call that tests the catalogue goes on: 2 for a broken bound, else 17 for a single pack, of every code (02, item 9), else 15 for a
+/// piece that is no row of words where words are added (02, item 2).
 fn judged(c: Catalogue) -> Result<(), u8> {
     match (within(c), c.k) {
         (false, _) => Err(2),
         (true, 1) => Err(17),
+        (true, _) if c.add && c.s & 1 == 1 => Err(15),
         (true, _) => Ok(()),
     }
 }
@@ -123,10 +142,28 @@ fn piece(c: Catalogue, store: &[u8], pack: usize, number: usize) -> &[u8] {
     &store[at..at + c.s]
 }
 
-fn combine(into: &mut [u8], piece: &[u8]) {
+/// The pieces changed word by word: a word is two bytes, the low one first.
+fn on_words(into: &mut [u8], piece: &[u8], change: fn(u16, u16) -> u16) {
+    for (a, b) in into.chunks_exact_mut(2).zip(piece.chunks_exact(2)) {
+        let word = change(u16::from_le_bytes([a[0], a[1]]), u16::from_le_bytes([b[0], b[1]]));
+        a.copy_from_slice(&word.to_le_bytes());
+    }
+}
+
+fn exclusive_or(into: &mut [u8], piece: &[u8]) {
     for (a, b) in into.iter_mut().zip(piece) {
         *a ^= b;
     }
+}
+
+/// Combines a piece into another, in the catalogue's sum.
+fn combine(c: Catalogue, into: &mut [u8], piece: &[u8]) {
+    if c.add { on_words(into, piece, u16::wrapping_add) } else { exclusive_or(into, piece) }
+}
+
+/// What recovery does where exclusive or combines once more: under addition it subtracts.
+fn take_away(c: Catalogue, from: &mut [u8], piece: &[u8]) {
+    if c.add { on_words(from, piece, u16::wrapping_sub) } else { exclusive_or(from, piece) }
 }
 
 // ---------------------------------------------------------------- the even code's process
@@ -239,7 +276,7 @@ fn answer(c: Catalogue, store: &[u8], request: &[u8]) -> Bytes {
         }
         let mut out = vec![0; c.s];
         for (p, &d) in request.iter().enumerate().filter(|&(_, &d)| d > 0) {
-            combine(&mut out, piece(c, store, p, d as usize - 1));
+            combine(c, &mut out, piece(c, store, p, d as usize - 1));
         }
         return out;
     }
@@ -248,7 +285,7 @@ fn answer(c: Catalogue, store: &[u8], request: &[u8]) -> Bytes {
     for set in layout(c) {
         let mut sum = vec![0; c.s];
         for p in set {
-            combine(&mut sum, piece(c, store, p, *numbers.next().unwrap() as usize));
+            combine(c, &mut sum, piece(c, store, p, *numbers.next().unwrap() as usize));
         }
         out.extend(sum);
     }
@@ -267,7 +304,7 @@ fn recover(c: Catalogue, wanted: usize, key: &[u8], answers: &[Bytes]) -> Bytes 
         let whole = |a: &Bytes| if a.is_empty() { vec![0; c.s] } else { a.clone() };
         for d in 1..c.n {
             let mut got = whole(&answers[(d + t) % c.n]);
-            combine(&mut got, &whole(&answers[t]));
+            take_away(c, &mut got, &whole(&answers[t]));
             pack[(d - 1) * c.s..d * c.s].copy_from_slice(&got);
         }
         return pack;
@@ -282,7 +319,7 @@ fn recover(c: Catalogue, wanted: usize, key: &[u8], answers: &[Bytes]) -> Bytes 
             if !rest.is_empty() {
                 let (m, j) = all.iter().enumerate().filter(|&(m, _)| m != mirror)
                     .find_map(|(m, rows)| rows.iter().position(|r| *r == rest).map(|j| (m, j))).unwrap();
-                combine(&mut got, &answers[m][j * c.s..(j + 1) * c.s]);
+                take_away(c, &mut got, &answers[m][j * c.s..(j + 1) * c.s]);
             }
             let number = key[wanted * pieces(c) + place] as usize;
             pack[number * c.s..(number + 1) * c.s].copy_from_slice(&got);
@@ -486,13 +523,13 @@ const TABLE_3: [&str; 3] = [
 
 fn tables() {
     for &(n, k, wanted, ref mirrors) in PAPER {
-        let c = Catalogue { even: true, n, k, s: 1 };
+        let c = plain(true, n, k, 1);
         for mirror in 0..n {
             let rows: Vec<String> = listed(&process(c, wanted)[mirror]).iter().map(shown).collect();
             assert_eq!(rows.join(" "), mirrors[mirror], "003, N={n} K={k} wanted {wanted}, mirror {mirror}");
         }
     }
-    let c = Catalogue { even: false, n: 3, k: 3, s: 1 };
+    let c = plain(false, 3, 3, 1);
     for mirror in 0..3 {
         let all = (0..27u8).map(|x| [x / 9, x / 3 % 3, x % 3]).filter(|q| admits(c, mirror, q));
         let shown: Vec<String> = all.map(|q| q.iter().map(|d| d.to_string()).collect()).collect();
@@ -502,7 +539,7 @@ fn tables() {
     let requests: Vec<Bytes> = (0..3).map(|m| request(c, 1, m, &[0, 2])).collect();
     assert_eq!(requests, [[0, 1, 2], [0, 2, 2], [0, 0, 2]]);
     // 000, Table I: answers 0 and a, a+b and b; 0 and b, a+b and a
-    let (c, store) = (Catalogue { even: false, n: 2, k: 2, s: 1 }, [0x5A, 0xC3]);
+    let (c, store) = (plain(false, 2, 2, 1), [0x5A, 0xC3]);
     let table_1: Vec<Vec<Bytes>> = [(0, 0u8), (0, 1), (1, 0), (1, 1)].iter()
         .map(|&(wanted, key)| (0..2).map(|m| answer(c, &store, &request(c, wanted, m, &[key]))).collect()).collect();
     assert_eq!(table_1, [[vec![], vec![0x5A]], [vec![0x99], vec![0xC3]], [vec![], vec![0xC3]], [vec![0x99], vec![0x5A]]]);
@@ -511,17 +548,17 @@ fn tables() {
 fn cards() {
     let b1 = "code=short\nmirrors=3\npacks=3\npiece=4\nwanted=1\nkey=2 0\n";
     assert_eq!(printed(b1.as_bytes()), "mirror=0 request=2 1 0\nmirror=1 request=2 2 0\nmirror=2 request=2 0 0\n");
-    let c = Catalogue { even: true, n: 2, k: 2, s: 1 };
+    let c = plain(true, 2, 2, 1);
     let key = [0, 1, 2, 3, 0, 1, 2, 3];
     assert_eq!([request(c, 0, 0, &key), request(c, 0, 1, &key)], [[0, 0, 2, 1], [1, 1, 3, 0]]);
     assert_eq!([request(c, 1, 0, &key), request(c, 1, 1, &key)], [[0, 0, 1, 2], [1, 1, 0, 3]]);
-    let count = |n, k| rows(Catalogue { even: true, n, k, s: 1 });
+    let count = |n, k| rows(plain(true, n, k, 1));
     assert_eq!([count(3, 3), count(2, 8), count(16, 2)], [13, 255, 17]);
-    assert_eq!([8, 9].map(|k| judged(Catalogue { even: true, n: 2, k, s: 1 })), [Ok(()), Err(2)]);
+    assert_eq!([8, 9].map(|k| judged(plain(true, 2, k, 1))), [Ok(()), Err(2)]);
     // B11 and B12, as 02, item 9 has them
-    assert_eq!(begin(Catalogue { even: false, n: 2, k: 1, s: 1 }, 0, &[]).err(), Some(17));
+    assert_eq!(begin(plain(false, 2, 1, 1), 0, &[]).err(), Some(17));
     assert_eq!(printed(b"code=short\nmirrors=2\npacks=1\npiece=1\nwanted=0\nkey=\n"), "refused=17\n");
-    assert_eq!(begin(Catalogue { even: true, n: 2, k: 1, s: 1 }, 0, &[0, 0]).err(), Some(17));
+    assert_eq!(begin(plain(true, 2, 1, 1), 0, &[0, 0]).err(), Some(17));
 }
 
 // ---------------------------------------------------------------- cases for the request printer
@@ -562,8 +599,8 @@ fn printer_inputs() -> Vec<Bytes> {
     let mut draw = Draw(2026);
     let mut all: Vec<Bytes> = Vec::new();
     for n in 2..=16 {
-        let even = (1..=8).map(|k| Catalogue { even: true, n, k, s: 1 }).filter(|&c| within(c));
-        let short = [1, 2, 3, 7, 31, 32].into_iter().map(|k| Catalogue { even: false, n, k, s: 4096 });
+        let even = (1..=8).map(|k| plain(true, n, k, 1)).filter(|&c| within(c));
+        let short = [1, 2, 3, 7, 31, 32].into_iter().map(|k| plain(false, n, k, 4096));
         for c in even.chain(short).collect::<Vec<_>>() {
             for wanted in (0..c.k).filter(|&w| c.k < 8 || w % 5 == 0 || w + 1 == c.k) {
                 all.push(input(c, wanted, &draw.key(c)).into_bytes());
@@ -588,9 +625,9 @@ fn printer_inputs() -> Vec<Bytes> {
     for (even, n, k, s) in [(false, 1, 1, 1), (false, 17, 1, 1), (false, 2, 0, 1), (false, 2, 33, 1), (false, 2, 1, 0), (false, 2, 1, 4097),
         (false, 1, 2, 1), (false, 17, 2, 1), (false, 2, 2, 0), (false, 2, 2, 4097), (true, 1, 1, 1), (true, 17, 1, 1), (true, 2, 1, 0), (true, 2, 1, 4097),
         (true, 2, 9, 1), (true, 3, 6, 1), (true, 4, 5, 1), (true, 5, 4, 1), (true, 6, 4, 1), (true, 7, 3, 1), (true, 16, 3, 1), (false, 99999, 99999, 99999)] {
-        all.push(input(Catalogue { even, n, k, s }, 0, &[0]).into_bytes());
+        all.push(input(plain(even, n, k, s), 0, &[0]).into_bytes());
     }
-    let good = input(Catalogue { even: false, n: 3, k: 3, s: 4 }, 1, &[2, 0]);
+    let good = input(plain(false, 3, 3, 4), 1, &[2, 0]);
     for (from, to) in [("2 0\n", "2  0\n"), ("2 0\n", " 2 0\n"), ("2 0\n", "2 0 \n"), ("2 0\n", "2 0"), ("2 0\n", "2 0\n\n"), ("2 0\n", "02 0\n"),
         ("2 0\n", "2 000000\n"), ("2 0\n", "\n"), ("2 0\n", "2\t0\n"), ("wanted=1", "wanted=01"), ("wanted=1", "wanted="), ("wanted=1", "wanted=100000"),
         ("wanted=", "Wanted="), ("key=", "keys="), ("mirrors=3", "mirrors=3 "), ("packs=3", "packs=003"), ("piece=4\n", "piece=4\n\n"), ("code=short", "code=shorts")] {
@@ -605,7 +642,7 @@ fn printer_inputs() -> Vec<Bytes> {
     }
     // a single pack in a damaged text, and with everything else wrong
     for even in [false, true] {
-        let c = Catalogue { even, n: 3, k: 1, s: 4 };
+        let c = plain(even, 3, 1, 4);
         let one = input(c, 0, &draw.key(c));
         for (from, to) in [("wanted=0", "wanted=00"), ("packs=1", "packs=01"), ("piece=4\n", "piece=4\n\n"), ("key=", "keys="), ("key=", "key= ")] {
             all.push(one.replacen(from, to, 1).into_bytes());
@@ -614,11 +651,51 @@ fn printer_inputs() -> Vec<Bytes> {
         all.push(format!("{one}\n").into_bytes());
         all.push(input(c, 7, &[9, 9, 99999, 9]).into_bytes());
     }
+    printer_sums(&mut draw, &mut all);
     all.push(vec![b'0'; 65536]);
     all.push([good.as_bytes(), &vec![b' '; 65537 - good.len()]].concat());
     all.push((0..=255).collect());
     all
 }
+
+/// The line `sum=add` (02, item 2): the same requests as without it; odd pieces, with every other refusal besides; the line damaged and misplaced.
+fn printer_sums(draw: &mut Draw, all: &mut Vec<Bytes>) {
+    for (even, n, k) in [(false, 2, 2), (false, 3, 3), (false, 16, 32), (true, 2, 2), (true, 3, 3), (true, 2, 8), (true, 16, 2)] {
+        let (c, key) = (adding(plain(even, n, k, 4096)), draw.key(plain(even, n, k, 1)));
+        for wanted in [0, k / 2, k - 1, k] {
+            all.push(input(Catalogue { add: false, ..c }, wanted, &key).into_bytes());
+            for s in [0, 1, 2, 4095, 4096, 4097] {
+                all.push(input(Catalogue { s, ..c }, wanted, &key).into_bytes());
+            }
+        }
+        for c in [c, Catalogue { s: 7, ..c }, Catalogue { s: 7, k: 1, ..c }, Catalogue { s: 7, n: 17, ..c }] {
+            all.push(input(c, 0, &[&key[..], &[0]].concat()).into_bytes());
+            all.push(input(c, 0, &[&[99999], &key[1..]].concat()).into_bytes());
+            all.push(format!("{}\n", input(c, 0, &key)).into_bytes());
+        }
+    }
+    let good = input(adding(plain(false, 3, 3, 4)), 1, &[2, 0]);
+    for to in OTHER_SUMS {
+        all.push(good.replacen("sum=add\n", to, 1).into_bytes());
+    }
+    for (from, to) in [("piece=4\nsum=add\n", "sum=add\npiece=4\n"), ("sum=add\nwanted=1\n", "wanted=1\nsum=add\n"), ("code=", "sum=add\ncode=")] {
+        all.push(good.replacen(from, to, 1).into_bytes());
+    }
+    let line = good.find("sum=add").unwrap();
+    for at in line..line + 8 {
+        let mut text = good.clone().into_bytes();
+        text[at] ^= 1;
+        all.push(text.clone());
+        text.remove(at);
+        all.push(text.clone());
+        text.truncate(at);
+        all.push(text);
+    }
+}
+
+/// What may stand in the place of `sum=add` and is no such line.
+const OTHER_SUMS: [&str; 17] = ["sum=xor\n", "sum=\n", "sum=1\n", "sum=Add\n", "sum=adds\n", "sum=ad\n", "sum=add \n", "sum= add\n", "sum=add\r\n",
+    "sum=add\n\n", "sum=add\nsum=add\n", "sum=add\nsum=xor\n", "sum=xor\nsum=add\n", "Sum=add\n", "sums=add\n", "sum add\n", "\nsum=add\n"];
 
 // ---------------------------------------------------------------- cases for the conformance program: what each line gives
 
@@ -675,7 +752,7 @@ fn shown_bytes(bytes: &[u8]) -> String {
 }
 
 fn shown_catalogue(c: Catalogue) -> String {
-    format!("{} {} {} {}", c.even as u8, c.n, c.k, c.s)
+    format!("{} {} {} {} {}", c.even as u8, c.n, c.k, c.s, c.add as u8)
 }
 
 fn shown_session(s: &Session) -> String {
@@ -727,9 +804,10 @@ impl Bench {
     }
 
     /// A line of a letter and numbers; those that make no call print nothing.
-    fn line(&mut self, letter: &str, [a, b, c, d]: [usize; 4]) -> String {
+    fn line(&mut self, letter: &str, [a, b, c, d, e]: [usize; 5]) -> String {
+        let cat = Catalogue { add: e != 0, ..plain(a != 0, b, c, d) };
         match letter {
-            "c" => return self.catalogue(Catalogue { even: a != 0, n: b, k: c, s: d }),
+            "c" => return self.catalogue(cat),
             "k" => {
                 if admitted(self.cat) {
                     self.key = drawn_key(a as u64, self.cat, self.key.len());
@@ -746,7 +824,7 @@ impl Bench {
             "d" => self.store[a] = b as u8,
             "q" => self.query[a] = b as u8,
             "z" => self.answers.fill(a as u8),
-            "g" => self.session.cat = Catalogue { even: a != 0, n: b, k: c, s: d },
+            "g" => self.session.cat = cat,
             "v" => self.session.wanted = a,
             "y" => self.session.key[a] = b as u8,
             "u" => self.session.issued[a] = b != 0,
@@ -847,11 +925,11 @@ fn expected(input: &[u8]) -> Bytes {
             _ => {
                 let line = std::str::from_utf8(&input[at..end]).unwrap();
                 let (letter, numbers) = line.split_at(1);
-                let mut four = [0; 4];
-                for (place, word) in four.iter_mut().zip(numbers.split_whitespace()) {
+                let mut five = [0; 5];
+                for (place, word) in five.iter_mut().zip(numbers.split_whitespace()) {
                     *place = word.parse().unwrap();
                 }
-                out.extend(bench.line(letter, four).bytes());
+                out.extend(bench.line(letter, five).bytes());
             }
         }
         at = if stop == b'~' { end + 2 } else { end + 1 };
@@ -861,16 +939,20 @@ fn expected(input: &[u8]) -> Bytes {
 
 // ---------------------------------------------------------------- cases for the conformance program: its lines
 
+fn some_short(packs: &[usize]) -> Vec<Catalogue> {
+    (2..=16).flat_map(|n| packs.iter().map(move |&k| plain(false, n, k, 1))).collect()
+}
+
 fn all_even() -> Vec<Catalogue> {
-    let pairs = (2..=16).flat_map(|n| (2..=8).map(move |k| Catalogue { even: true, n, k, s: 1 }));
+    let pairs = (2..=16).flat_map(|n| (2..=8).map(move |k| plain(true, n, k, 1)));
     pairs.filter(|&c| within(c)).collect()
 }
 
-/// The catalogue with the largest piece, up to `s`, for which the buffers of `conformance` have room.
+/// The catalogue with the largest piece, up to `s`, that is admitted and for which the buffers of `conformance` have room.
 fn fitted(c: Catalogue, s: usize) -> Catalogue {
     let fits = |s: usize| {
         let c = Catalogue { s, ..c };
-        c.k * pack_length(c) < LENGTHS[1] && slot(c) < LENGTHS[3] && c.n * slot(c) < LENGTHS[4] && pack_length(c) < LENGTHS[5]
+        admitted(c) && c.k * pack_length(c) < LENGTHS[1] && slot(c) < LENGTHS[3] && c.n * slot(c) < LENGTHS[4] && pack_length(c) < LENGTHS[5]
     };
     Catalogue { s: (1..=s).rev().find(|&s| fits(s)).unwrap(), ..c }
 }
@@ -893,7 +975,7 @@ impl Cases {
     }
 
     fn catalogue(&mut self, c: Catalogue) {
-        self.put(format!("c {} {} {} {}", c.even as u8, c.n, c.k, c.s));
+        self.put(format!("c {}", shown_catalogue(c)));
     }
 
     /// A store and a key for the catalogue.
@@ -907,7 +989,7 @@ impl Cases {
     fn texts(&mut self) {
         self.put("# texts".to_string());
         for (even, n, k, s) in [(false, 2, 2, 1), (false, 16, 32, 4096), (true, 2, 8, 128), (true, 16, 2, 10), (false, 3, 3, 4)] {
-            let text = write_text(Catalogue { even, n, k, s });
+            let text = write_text(plain(even, n, k, s));
             self.text(text.as_bytes());
             for room in [text.len(), text.len() - 1, text.len() + 3, 0] {
                 self.put(format!("w {room}"));
@@ -917,7 +999,7 @@ impl Cases {
         self.text(b"code=short\nmirrors=17\npacks=3\npiece=4\n");
         self.put("w 100".to_string());
         self.text(b"code=even\nmirrors=99999\npacks=99999\npiece=99999\n\n");
-        let good = write_text(Catalogue { even: false, n: 3, k: 12, s: 40 });
+        let good = write_text(plain(false, 3, 12, 40));
         for (from, to) in [("short", "Short"), ("short", "shorts"), ("short", ""), ("mirrors=3", "mirrors=03"), ("mirrors=3", "mirrors="), ("mirrors=3", "mirrors=0"),
             ("mirrors=3", "mirrors=+3"), ("mirrors=3", " mirrors=3"), ("mirrors=3", "mirrors=3 "), ("packs=12", "packs=00"), ("packs=12", "packs=000012"),
             ("packs=12", "packs=100012"), ("packs=12", "packs=1x"), ("piece=40\n", "piece=40"), ("piece=40\n", "piece=40\r\n"), ("piece=40", "piece=40960"), ("piece", "pieces"),
@@ -933,27 +1015,61 @@ impl Cases {
         self.text(b"code=short\nmirrors=3\npacks=3\npiece=\xB4\n");
     }
 
+    /// Texts with a line of the sum (02, item 2): good, damaged, misplaced, and before more lines; with a fault of the value besides.
+    fn sum_texts(&mut self) {
+        self.put("# texts with a sum".to_string());
+        for (even, n, k, s) in [(false, 2, 2, 2), (false, 16, 32, 4096), (true, 2, 8, 128), (true, 16, 2, 10), (false, 3, 3, 4)] {
+            let text = write_text(adding(plain(even, n, k, s)));
+            self.text(text.as_bytes());
+            for room in [text.len(), text.len() - 1, text.len() - 8, text.len() + 3] {
+                self.put(format!("w {room}"));
+            }
+            for more in ["wanted=0\n", "sum=add\n", "sum=xor\n", "s", "\n"] {
+                self.text(format!("{text}{more}").as_bytes());
+            }
+        }
+        let good = write_text(adding(plain(false, 3, 12, 40)));
+        for to in OTHER_SUMS {
+            self.text(good.replacen("sum=add\n", to, 1).as_bytes());
+        }
+        for (from, to) in [("piece=40\nsum=add\n", "sum=add\npiece=40\n"), ("packs", "sum=add\npacks"), ("code", "sum=add\ncode"), ("piece=40\n", ""),
+            ("piece=40\n", "piece=041\n"), ("packs=12", "packs=1"), ("packs=12", "packs=33"), ("mirrors=3", "mirrors=1")] {
+            self.text(good.replacen(from, to, 1).as_bytes());
+        }
+        for at in good.len() - 8..good.len() {
+            let mut text = good.clone().into_bytes();
+            text[at] ^= 1 << self.draw.below(4);
+            self.text(&text);
+            self.text(&good.as_bytes()[..at]);
+        }
+    }
+
     /// Each bound of the catalogue from both sides.
     fn bounds(&mut self) {
         self.put("# bounds".to_string());
         for n in [0, 1, 2, 16, 17, 99999] {
-            self.catalogue(Catalogue { even: false, n, k: 5, s: 9 });
-            self.catalogue(Catalogue { even: true, n, k: 2, s: 9 });
-            self.catalogue(Catalogue { even: false, n, k: 1, s: 9 });
-            self.catalogue(Catalogue { even: true, n, k: 1, s: 9 });
+            self.catalogue(plain(false, n, 5, 9));
+            self.catalogue(plain(true, n, 2, 9));
+            self.catalogue(plain(false, n, 1, 9));
+            self.catalogue(plain(true, n, 1, 9));
         }
         for k in [0, 1, 2, 32, 33, 99999] {
-            self.catalogue(Catalogue { even: false, n: 3, k, s: 9 });
+            self.catalogue(plain(false, 3, k, 9));
         }
         for s in [0, 1, 4096, 4097, 99999] {
-            self.catalogue(Catalogue { even: false, n: 3, k: 2, s });
-            self.catalogue(Catalogue { even: true, n: 3, k: 2, s });
+            self.catalogue(plain(false, 3, 2, s));
+            self.catalogue(plain(true, 3, 2, s));
+        }
+        for s in [0, 1, 2, 3, 4094, 4095, 4096, 4097, 4098, 99999] {
+            for (even, n, k) in [(false, 3, 2), (true, 3, 2), (false, 3, 1), (true, 17, 2)] {
+                self.catalogue(adding(plain(even, n, k, s)));
+            }
         }
         for n in 2..=16usize {
             for k in 0..=9 {
                 let near = |k: usize| n.saturating_pow(k as u32) <= 256;
                 if near(k) || k > 0 && near(k - 1) {
-                    self.catalogue(Catalogue { even: true, n, k, s: 4096 });
+                    self.catalogue(plain(true, n, k, 4096));
                 }
             }
         }
@@ -995,8 +1111,7 @@ impl Cases {
     fn fetches(&mut self) {
         self.put("# fetches".to_string());
         let sizes = [1, 2, 4096, 3, 33, 4096, 256, 1000];
-        let short = (2..=16).flat_map(|n| [2, 3, 8, 31, 32].map(|k| Catalogue { even: false, n, k, s: 1 }));
-        for (i, c) in all_even().into_iter().chain(short).enumerate() {
+        for (i, c) in all_even().into_iter().chain(some_short(&[2, 3, 8, 31, 32])).enumerate() {
             let c = fitted(c, sizes[i % sizes.len()]);
             self.catalogue(c);
             let (store, other) = (1 + self.draw.below(9999), self.draw.below(c.k));
@@ -1009,13 +1124,58 @@ impl Cases {
         }
     }
 
+    /// Whole fetches of servers that add: every (N, K) of the even code and a spread of the short one, the first, a middle or the last pack; the
+    /// answer buffer is full of ones before, so that an empty answer's slot is not zeros.
+    fn added_fetches(&mut self) {
+        self.put("# fetches by addition\nz 255".to_string());
+        let sizes = [2, 4096, 4, 34, 4096, 256, 1000, 6];
+        for (i, c) in all_even().into_iter().chain(some_short(&[2, 3, 32])).enumerate() {
+            let c = fitted(adding(c), sizes[i % sizes.len()]);
+            self.catalogue(c);
+            let store = 1 + self.draw.below(9999);
+            let wanted = [0, c.k / 2, c.k - 1][i % 3];
+            let key = 1 + self.draw.below(9999);
+            self.put(format!("s {store} {}\nk {key} {1}\nx {wanted}\nk 0 {1}\nx {2}", c.k * pack_length(c), key_length(c), c.k - 1 - wanted));
+        }
+    }
+
+    /// Single words added and taken away again: a carry from the low byte into the high one and none beyond, the wrap at 65,536, a borrow, and bytes
+    /// that are no words of exclusive or; in both codes, and by each key of the short one.
+    fn words(&mut self) {
+        self.put("# words".to_string());
+        for (x, y) in [(0x00FF, 0x0001), (0xFFFF, 0x0001), (0xFFFF, 0xFFFF), (0x8000, 0x8000), (0xFF00, 0x0100), (0x0100, 0x00FF), (0x1234, 0xABCD), (0, 0)] {
+            for s in [2, 4] {
+                // each pack's first word, and zeros after it
+                self.put(format!("c {}\ns 0 {}\nz 255", shown_catalogue(adding(plain(false, 2, 2, s))), 2 * s));
+                let bytes: [usize; 4] = [x & 255, x >> 8, y & 255, y >> 8];
+                for (place, byte) in [0, 1, s, s + 1].into_iter().zip(bytes) {
+                    self.put(format!("d {place} {byte}"));
+                }
+                for place in (0..2 * s).filter(|p| p % s > 1) {
+                    self.put(format!("d {place} 0"));
+                }
+                self.put(format!("q 0 1\nq 1 1\na 0 2 {s}"));
+                for key in 0..2 {
+                    self.put(format!("k 0 1\no 0 {key}\nx 0\nx 1"));
+                }
+            }
+        }
+        let c = adding(plain(true, 2, 2, 2));
+        self.put(format!("c {}\ns 9 16\nk 0 8\nx 0\nx 1\nk 3 8\nx 0\nx 1", shown_catalogue(c)));
+        for place in 0..16 {
+            self.put(format!("d {place} {}", if place < 8 { 255 } else { place % 2 * 254 + 1 }));
+        }
+        self.put("x 0\nx 1\nk 0 8\nb 0\ni 0 4\na 0 4 6\ni 1 4\na 1 4 6".to_string());
+    }
+
     /// Every refusal of every call, each with what is just accepted beside it.
     fn refusals(&mut self, c: Catalogue) {
         let (asked, slots, pack) = (request_length(c), c.n * slot(c), pack_length(c));
         let last = c.n - 1;
         self.put(format!("# refusals {}", shown_catalogue(c)));
-        // a catalogue out of bounds, and one of a single pack: 2 and 17 of every call that is given one
-        for bad in [Catalogue { n: 17, ..c }, Catalogue { k: 0, ..c }, Catalogue { s: 4097, ..c }, Catalogue { k: 1, ..c }] {
+        // a catalogue out of bounds, one of a single pack, and one that adds odd pieces: 2, 17 and 15 of every call that is given one
+        let odd = adding(Catalogue { s: c.s | 1, ..c });
+        for bad in [Catalogue { n: 17, ..c }, Catalogue { k: 0, ..c }, Catalogue { s: 4097, ..c }, Catalogue { k: 1, ..c }, odd] {
             self.catalogue(bad);
             self.put(format!("b {}\na {} {asked} {}\nw 60\nx 0", c.k, c.n, slot(c)));
         }
@@ -1058,7 +1218,7 @@ impl Cases {
     /// Every field of a session set to what no history gives: 2, 17, 4, 6, 11 of each call, and the places that are not used.
     fn fields(&mut self, c: Catalogue, asked: usize, slots: usize, pack: usize) {
         let calls = format!("i 0 {asked}\nh 0 {} {slots}\nr {slots} {pack}", slot(c));
-        let set_cat = |n: usize, k: usize, s: usize| format!("g {} {n} {k} {s}", c.even as u8);
+        let set_cat = |n: usize, k: usize, s: usize| format!("g {}", shown_catalogue(Catalogue { n, k, s, ..c }));
         let most = if c.even { pieces(c) } else { c.n };
         let mut sets = vec![
             (set_cat(17, c.k, c.s), set_cat(c.n, c.k, c.s)),
@@ -1094,19 +1254,38 @@ impl Cases {
             self.catalogue(c);
         }
         for c in [two, one, broken[0]] {
-            self.one_pack_values(c, if c == two { two } else { one });
+            self.given_values(c, if c == two { two } else { one });
         }
-        self.one_pack_fields(two, &[two, one, broken[0], two]);
+        self.held_values(two, &[two, one, broken[0], two]);
+    }
+
+    /// An odd piece beside an even one where words are added (02, item 2): 15 alone, after 1, 2 and 17, and before each number that applies besides;
+    /// without the line an odd piece is as good as any.
+    fn odd_piece(&mut self, whole: Catalogue) {
+        self.put(format!("# odd piece {}", shown_catalogue(whole)));
+        let odd = Catalogue { s: whole.s - 1, ..whole };
+        let other = [Catalogue { n: 17, ..odd }, Catalogue { s: 4097, ..odd }, Catalogue { k: 1, ..odd }, Catalogue { n: 1, k: 1, ..odd }, Catalogue { add: false, ..odd }];
+        for c in [whole, odd].into_iter().chain(other) {
+            let text = write_text(c);
+            for bytes in [&text, &format!("{text}\n"), &text[..text.len() - 1], &format!("{text}wanted=0\nkey=\n")] {
+                self.text(bytes.as_bytes());
+            }
+            self.catalogue(c);
+        }
+        for c in [whole, odd] {
+            self.given_values(c, c);
+        }
+        self.held_values(whole, &[whole, odd, other[0], other[2], whole]);
     }
 
     /// Calls that are given a catalogue, with a key, a request, a store and room that would do for `like`, and each of them broken.
-    fn one_pack_values(&mut self, c: Catalogue, like: Catalogue) {
+    fn given_values(&mut self, c: Catalogue, like: Catalogue) {
         let (key, stored, last) = (key_length(like), like.k * pack_length(like), like.n - 1);
         let (asked, room) = (request_length(like), slot(like));
         let lend = |length: usize| {
-            // a key is drawn for an admitted catalogue alone; of a single pack it is one permutation, or nothing
-            let entries: String = (0..key).map(|i| format!("\no {i} {i}")).collect();
-            format!("k 0 {length}{}", if like.k == 1 { entries.as_str() } else { "" })
+            // a key is drawn for an admitted catalogue alone; else its entries are set: zeros, or permutations in order
+            let entries: String = (0..key).map(|i| format!("\no {i} {}", if like.even { i % pieces(like) } else { 0 })).collect();
+            format!("k 0 {length}{}", if admitted(like) { "" } else { entries.as_str() })
         };
         self.catalogue(c);
         self.put("w 60\nw 0".to_string());
@@ -1114,14 +1293,20 @@ impl Cases {
         self.put(format!("s 5 {stored}\n{}\nb 0\nx 0\nb {}", lend(key), like.k));
         self.put(format!("{}\nb 0\nx 0\n{}\no 0 255\nb 0\nx 0\n{}\no 0 255\nb {}", lend(key + 1), lend(key), lend(key + 2), like.k));
         // answering: as it should be, then 3, 7 by a digit and by a length, 8, 9, and all of them
-        let request = if like.k == 1 { format!("q 0 {last}") } else { format!("{}\nb 0\ni {last} {asked}", lend(key)) };
+        let request = if admitted(like) {
+            format!("{}\nb 0\ni {last} {asked}", lend(key))
+        } else {
+            // what the keys of zeros and in order call for, wanted pack 0
+            let bytes = request(like, 0, last, &drawn_key(0, like, key));
+            bytes.iter().enumerate().map(|(i, b)| format!("q {i} {b}")).collect::<Vec<_>>().join("\n")
+        };
         self.put(format!("{request}\na {last} {asked} {room}\na {} {asked} {room}", like.n));
         self.put(format!("q 0 255\na {last} {asked} {room}\n{request}\na {last} {} {room}\na {last} 0 {room}", asked + 1));
         self.put(format!("s 5 {0}\na {last} {asked} {room}\ns 5 {stored}\na {last} {asked} 0\ns 5 {0}\na {1} 0 0", stored + 1, like.n));
     }
 
     /// The calls of a session that has taken all answers, once with each of these catalogues in it, and each other field and length broken besides.
-    fn one_pack_fields(&mut self, two: Catalogue, held: &[Catalogue]) {
+    fn held_values(&mut self, two: Catalogue, held: &[Catalogue]) {
         let (asked, room, slots, pack) = (request_length(two), slot(two), two.n * slot(two), pack_length(two));
         self.catalogue(two);
         self.put(format!("s 5 {}\nk 0 {}\nb 1", two.k * pack, key_length(two)));
@@ -1174,29 +1359,58 @@ impl Cases {
 fn cases() -> Bytes {
     let mut cases = Cases { out: Vec::new(), draw: Draw(7) };
     cases.texts();
+    cases.sum_texts();
     cases.bounds();
     cases.papers();
     cases.fetches();
+    cases.words();
+    cases.added_fetches();
     for (even, n, s) in [(false, 2, 1), (false, 5, 3), (true, 2, 1), (true, 3, 2)] {
-        cases.one_pack(Catalogue { even, n, k: 2, s });
+        cases.one_pack(plain(even, n, 2, s));
+    }
+    for (even, n, s) in [(false, 5, 4), (true, 2, 2)] {
+        cases.odd_piece(adding(plain(even, n, 2, s)));
     }
     let small = [(false, 2, 2, 1), (false, 3, 3, 2), (false, 16, 32, 1), (true, 2, 2, 3), (true, 3, 3, 1), (true, 16, 2, 1), (true, 2, 8, 2)];
     for (even, n, k, s) in small {
-        cases.refusals(Catalogue { even, n, k, s });
+        cases.refusals(plain(even, n, k, s));
+    }
+    for (even, n, k, s) in [(false, 3, 3, 2), (true, 2, 2, 4)] {
+        cases.refusals(adding(plain(even, n, k, s)));
     }
     for (even, n, k, s) in small.into_iter().chain([(false, 4, 3, 4096), (true, 4, 2, 4096), (false, 5, 4, 2), (true, 2, 3, 2)]) {
-        cases.session(Catalogue { even, n, k, s }, 40);
+        cases.session(plain(even, n, k, s), 40);
+    }
+    for (even, n, k, s) in [(false, 2, 2, 2), (false, 4, 3, 4096), (false, 5, 4, 6), (true, 2, 3, 2), (true, 4, 2, 4096), (true, 3, 3, 4)] {
+        cases.session(adding(plain(even, n, k, s)), 40);
     }
     cases.out
 }
 
-/// Whole fetches: every (N, K) of the even code and a spread of the short one recover each wanted pack.
+/// The sum of 02, item 2, by its words: low byte first, carried into the high one, wrapping at 65,536, nothing carried into the next word.
+fn added_words() {
+    let c = adding(plain(false, 2, 2, 4));
+    for (a, b, sum) in [
+        ([0xFF, 0x00, 1, 2], [0x01, 0x00, 3, 4], [0x00, 0x01, 4, 6]),
+        ([0xFF, 0xFF, 0, 0], [0x01, 0x00, 0, 0], [0x00, 0x00, 0, 0]),
+        ([0xFF, 0xFF, 0xFF, 0xFF], [0xFF, 0xFF, 0xFF, 0xFF], [0xFE, 0xFF, 0xFE, 0xFF]),
+        ([0x00, 0x80, 0x34, 0x12], [0x00, 0x80, 0xCD, 0xAB], [0x00, 0x00, 0x01, 0xBE]),
+    ] {
+        let (mut made, mut back) = (a.to_vec(), sum.to_vec());
+        combine(c, &mut made, &b);
+        take_away(c, &mut back, &b);
+        assert_eq!((made, back), (sum.to_vec(), a.to_vec()));
+    }
+}
+
+/// Whole fetches: every (N, K) of the even code and a spread of the short one recover each wanted pack, in both sums, by the same requests.
 fn fetches() {
     let mut draw = Draw(1);
     for n in 2..=16 {
-        let even = (2..=8).map(|k| Catalogue { even: true, n, k, s: 2 });
-        let short = [2, 5, 32].into_iter().map(|k| Catalogue { even: false, n, k, s: 3 });
-        for c in even.chain(short).filter(|&c| within(c)).collect::<Vec<_>>() {
+        let even = (2..=8).map(|k| plain(true, n, k, 2));
+        let short = [2, 5, 32].into_iter().flat_map(|k| [plain(false, n, k, 3), plain(false, n, k, 6)]);
+        let both = even.chain(short).flat_map(|c| [c, adding(c)]);
+        for c in both.filter(|&c| admitted(c)).collect::<Vec<_>>() {
             assert_eq!(read(write_text(c).as_bytes()), Ok(c));
             let store: Bytes = (0..c.k * pack_length(c)).map(|_| draw.below(256) as u8).collect();
             for wanted in 0..c.k {
@@ -1206,6 +1420,7 @@ fn fetches() {
                 assert_eq!(session.recover(&answers, &mut pack), Err(12));
                 for mirror in 0..n {
                     session.issue(mirror, &mut buffer).unwrap();
+                    assert_eq!(buffer[..request_length(c)], request(Catalogue { add: !c.add, ..c }, wanted, mirror, &key));
                     let answer = answering(c, mirror, &store, &buffer[..request_length(c)], slot(c)).unwrap();
                     session.take(mirror, &answer, &mut answers).unwrap();
                     assert_eq!(session.take(mirror, &answer, &mut answers), Err(11));
@@ -1224,6 +1439,7 @@ fn main() {
         ["self"] => {
             tables();
             cards();
+            added_words();
             fetches();
             println!("second implementation: the papers' tables, the bench cards and whole fetches agree");
         }

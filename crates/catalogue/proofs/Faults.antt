@@ -14,10 +14,12 @@ use Rattle.refusal.proofs.Foremost.{ascending, foremost-chain, after-first}
 use Rattle.refusal.proofs.Accepted.{NoneThere, first-accepted, both-accepted}
 use Rattle.refusal.proofs.Within.{faults-within}
 use Rattle.catalogue.specs.declared.Catalogue.{Catalogue}
-use Rattle.catalogue.specs.Catalogue.{inBounds, catalogueFaults, catalogueNumbers, catalogueVerdict, Admitted}
+use Rattle.catalogue.specs.Catalogue.{inBounds, wholeWords, catalogueFaults, catalogueNumbers, catalogueVerdict, Admitted}
 
--- its own faults are that of the bounds, and then that of a single message
-pub catalogue-chain : (c : Catalogue) → catalogueVerdict c ≡ refuseIf (not (inBounds c)) 2 (refuseIf (eqb (c .messages) 1) 17 Accepted)
+-- its own faults are that of the bounds, then that of a single message, then that of an odd symbol
+pub catalogue-chain : (c : Catalogue)
+    → catalogueVerdict c
+    ≡ refuseIf (not (inBounds c)) 2 (refuseIf (eqb (c .messages) 1) 17 (refuseIf (not (wholeWords (c .sum) (c .symbol))) 15 Accepted))
 unfolding catalogueVerdict
 catalogue-chain c = foremost-chain (catalogueFaults c) refl
 

@@ -1,2 +1,3 @@
 pub mod Admitted
 pub mod Faults
+pub mod Verdicts

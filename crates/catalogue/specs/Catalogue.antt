@@ -1,8 +1,8 @@
--- Catalogue values: which are admitted, and the sizes that follow (document 01, 'Catalogue'; document 02, item 9).
+-- Catalogue values: which are admitted, and the sizes that follow (document 01, 'Catalogue'; document 02, items 2 and 9).
 use mathlib.Core.Path.{_≡_}
-use mathlib.Core.Bool.{Bool, not}
+use mathlib.Core.Bool.{Bool, true, not}
 use mathlib.Core.List.{List, [], _∷_}
-use Prim.Native.Nat.{ℕ}
+use Prim.Native.Nat.{ℕ, _%_}
 use lib.Dec.{eqb}
 use Rattle.refusal.specs.declared.Verdict.{Verdict}
 use Rattle.refusal.specs.declared.Verdict.the-variants.{Accepted, Refused}
@@ -10,6 +10,8 @@ use Rattle.refusal.specs.Foremost.{Fault, fault, foremost}
 use Rattle.parameters.specs.declared.Sizes.{Sizes}
 use Rattle.parameters.specs.Bounds.{shortFits, evenFits}
 use Rattle.parameters.specs.Measures.{shortSizes, evenSizes}
+use Rattle.symbol.specs.declared.Operation.{Operation}
+use Rattle.symbol.specs.declared.Operation.the-variants.{ExclusiveOr, Addition}
 use Rattle.catalogue.specs.declared.Code.{Code}
 use Rattle.catalogue.specs.declared.Code.the-variants.{Short, Even}
 use Rattle.catalogue.specs.declared.Catalogue.{Catalogue}
@@ -25,19 +27,24 @@ fits Even = evenFits
 abbrev pub inBounds : Catalogue → Bool
 inBounds c = fits (c .code) (c .servers) (c .messages) (c .symbol)
 
+-- symbols (01: pieces) of S bytes are whole words, where words are added (02, item 2)
+abbrev pub wholeWords : Operation → ℕ → Bool
+wholeWords ExclusiveOr S = true
+wholeWords Addition S = eqb (S % 2) 0
+
 -- What a catalogue value can be refused with ('Numbers a call can give'); every call that has a catalogue puts these faults in front of its own.
--- One message is within every code's bounds, and is turned away by 17 (02, item 9)
+-- One message is within every code's bounds, and is turned away by 17 (02, item 9); an odd symbol under addition by 15 (02, item 2)
 abbrev pub catalogueFaults : Catalogue → List Fault
-catalogueFaults c = fault 2 (not (inBounds c)) ∷ fault 17 (eqb (c .messages) 1) ∷ []
+catalogueFaults c = fault 2 (not (inBounds c)) ∷ fault 17 (eqb (c .messages) 1) ∷ fault 15 (not (wholeWords (c .sum) (c .symbol))) ∷ []
 
 -- their numbers
 abbrev pub catalogueNumbers : List ℕ
-catalogueNumbers = 2 ∷ 17 ∷ []
+catalogueNumbers = 2 ∷ 17 ∷ 15 ∷ []
 
 unfoldable pub catalogueVerdict : Catalogue → Verdict
 catalogueVerdict c = foremost (catalogueFaults c)
 
--- admitted (01, 'Lists of fetches'; 02, item 9): neither 2 nor 17, so that it has two messages or more; `admitted-exactly` says so in numbers
+-- admitted (01, 'Lists of fetches'; 02, items 2 and 9): none of 2, 17, 15, so that it has two messages or more; `admitted-exactly` says so in numbers
 abbrev pub Admitted : Catalogue → Type 0
 Admitted c = catalogueVerdict c ≡ Accepted
 
@@ -57,6 +64,6 @@ measuredBy (Refused refusal) sizes = NotMeasured refusal
 unfoldable pub measuredOf : Catalogue → Measured
 measuredOf c = measuredBy (catalogueVerdict c) (sizesOf c)
 
--- what a refused reading hands back: zeros, the code short
+-- what a refused reading hands back: zeros, the code short, the sum exclusive or
 abbrev pub zeroCatalogue : Catalogue
-zeroCatalogue = record { code = Short; servers = 0; messages = 0; symbol = 0 }
+zeroCatalogue = record { code = Short; servers = 0; messages = 0; symbol = 0; sum = ExclusiveOr }

@@ -1,9 +1,11 @@
-// The catalogue: which code, how many servers and messages, how long a symbol; whether it is admitted, and the sizes that follow.
+// The catalogue: which code, how many servers and messages, how long a symbol, what symbols are combined by; whether it is admitted, and the
+// sizes that follow.
 use parameters::Sizes;
 use refusal::Refusal;
 use refusal::Verdict;
+use symbol::Operation;
 ghost use mathlib.Core.Path.{_≡_};
-ghost use Rattle.catalogue.specs.Catalogue.{inBounds, catalogueVerdict, zeroCatalogue, measuredOf};
+ghost use Rattle.catalogue.specs.Catalogue.{inBounds, wholeWords, catalogueVerdict, zeroCatalogue, measuredOf};
 
 // The code that every fetch from the catalogue uses.
 pub enum Code {
@@ -15,6 +17,8 @@ pub enum Code {
 
 pub struct Catalogue {
     pub code: Code,
+    // What symbols are combined by (02, item 2: `sum=`).
+    pub sum: Operation,
     // N (01: mirrors).
     pub servers: usize,
     // K (01: packs).
@@ -40,7 +44,17 @@ fn in_bounds(c: Catalogue) -> bool
     }
 }
 
-// Whether the catalogue is admitted: it breaks none of its bounds, and has more than one message.
+// Whether symbols of s bytes are whole words, where words are added.
+fn whole_words(sum: Operation, s: usize) -> bool
+    ensures { λ r. ⌜ r ≡ wholeWords sum s ⌝ }
+{
+    match sum {
+        Operation::ExclusiveOr => true,
+        Operation::Addition => s % 2 == 0,
+    }
+}
+
+// Whether the catalogue is admitted: it breaks none of its bounds, has more than one message, and adds only whole words.
 pub fn verdict(c: Catalogue) -> Verdict
     ensures { λ r. ⌜ r ≡ catalogueVerdict c ⌝ }
 {
@@ -50,10 +64,14 @@ pub fn verdict(c: Catalogue) -> Verdict
     if c.messages == 1 {
         return Verdict::Refused(Refusal::OneMessage);
     }
+    let sum = c.sum;
+    if !whole_words(sum, c.symbol) {
+        return Verdict::Refused(Refusal::OddSymbol);
+    }
     Verdict::Accepted
 }
 
-// The catalogue of zeros, its code short.
+// The catalogue of zeros, its code short, its sum exclusive or.
 pub fn zero() -> Catalogue
     ensures { λ r. ⌜ r ≡ zeroCatalogue ⌝ }
 {
@@ -62,6 +80,7 @@ pub fn zero() -> Catalogue
         servers: 0,
         messages: 0,
         symbol: 0,
+        sum: Operation::ExclusiveOr,
     }
 }
 

@@ -19,37 +19,37 @@ use Rattle.catalogue.specs.declared.Catalogue.{Catalogue}
 use Rattle.catalogue.specs.Catalogue.{catalogueVerdict}
 use Rattle.catalogue.proofs.Faults.{catalogue-chain}
 use Rattle.catalogue_text.specs.Text.{textOf}
-use Rattle.catalogue_text.specs.Parsing.{fourLines, lineFault, linesFaults, linesBy, linesOf, readFaults, readingBy, readOf}
+use Rattle.catalogue_text.specs.Parsing.{catalogueLines, lineFault, linesFaults, linesBy, linesOf, readFaults, readingBy, readOf}
 use Rattle.catalogue_text.specs.Writing.{writeVerdict, Wrote}
-use Rattle.catalogue_text.proofs.FourLines.{four-lines-cases}
+use Rattle.catalogue_text.proofs.CatalogueLines.{lines-cases}
 
 module _ (text : List ℕ) where
   -- the lines are refused with 1 or not at all
-  pub line-chain : foremost (lineFault text ∷ []) ≡ fourLines text .verdict
-  line-chain = foremost-chain (lineFault text ∷ []) refl ∙ ⊎-elim (λ e. rw e) (λ r. rw (r .accepted)) (four-lines-cases text)
+  pub line-chain : foremost (lineFault text ∷ []) ≡ catalogueLines text .verdict
+  line-chain = foremost-chain (lineFault text ∷ []) refl ∙ ⊎-elim (λ e. rw e) (λ r. rw (r .accepted)) (lines-cases text)
 
-  pub lines-chain : foremost (linesFaults text) ≡ andThen (fourLines text .verdict) (catalogueVerdict (fourLines text .catalogue))
+  pub lines-chain : foremost (linesFaults text) ≡ andThen (catalogueLines text .verdict) (catalogueVerdict (catalogueLines text .catalogue))
   lines-chain =
       foremost-chain (linesFaults text) refl
-      ∙ ⊎-elim (λ e. rw e) (λ r. rw (r .accepted, catalogue-chain (fourLines text .catalogue))) (four-lines-cases text)
+      ∙ ⊎-elim (λ e. rw e) (λ r. rw (r .accepted, catalogue-chain (catalogueLines text .catalogue))) (lines-cases text)
 
   -- a whole text: the lines, then its end, then the catalogue
   abbrev pub readVerdict : Verdict
   readVerdict =
-      andThen (fourLines text .verdict) (refuseIf (not (eqb (fourLines text .next) (length text))) 1 (catalogueVerdict (fourLines text .catalogue)))
+      andThen (catalogueLines text .verdict) (refuseIf (not (eqb (catalogueLines text .next) (length text))) 1 (catalogueVerdict (catalogueLines text .catalogue)))
 
   pub read-chain : foremost (readFaults text) ≡ readVerdict
   read-chain =
       foremost-chain (readFaults text) refl
-      ∙ ⊎-elim (λ e. rw e) (λ r. rw (r .accepted, catalogue-chain (fourLines text .catalogue))) (four-lines-cases text)
+      ∙ ⊎-elim (λ e. rw e) (λ r. rw (r .accepted, catalogue-chain (catalogueLines text .catalogue))) (lines-cases text)
 
-  pub read-is : readOf text ≡ readingBy readVerdict (fourLines text .catalogue)
+  pub read-is : readOf text ≡ readingBy readVerdict (catalogueLines text .catalogue)
   unfolding readOf
-  read-is = ap (λ (v : Verdict). readingBy v (fourLines text .catalogue)) read-chain
+  read-is = ap (λ (v : Verdict). readingBy v (catalogueLines text .catalogue)) read-chain
 
-  pub lines-is : linesOf text ≡ linesBy (andThen (fourLines text .verdict) (catalogueVerdict (fourLines text .catalogue))) (fourLines text)
+  pub lines-is : linesOf text ≡ linesBy (andThen (catalogueLines text .verdict) (catalogueVerdict (catalogueLines text .catalogue))) (catalogueLines text)
   unfolding linesOf
-  lines-is = ap (λ (v : Verdict). linesBy v (fourLines text)) lines-chain
+  lines-is = ap (λ (v : Verdict). linesBy v (catalogueLines text)) lines-chain
 
 module _ (c : Catalogue) (buffer : List ℕ) where
   pub wrote-refused : (refusal : Refusal) → Refused refusal ≡ writeVerdict c (length buffer) → Wrote c buffer (NotWritten refusal) buffer

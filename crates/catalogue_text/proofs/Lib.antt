@@ -1,5 +1,5 @@
 pub mod TextParts
-pub mod FourLines
+pub mod CatalogueLines
 pub mod Faults
 pub mod RoundTrip
 pub mod Numbers

@@ -16,7 +16,7 @@ use Rattle.refusal.proofs.Within.{faultsNamed, faults-within, value-within}
 use Rattle.catalogue.specs.declared.Catalogue.{Catalogue}
 use Rattle.catalogue.specs.Catalogue.{catalogueNumbers}
 use Rattle.catalogue_text.specs.Text.{textOf}
-use Rattle.catalogue_text.specs.Parsing.{fourLines, lineFault, linesFaults, linesBy, linesOf, readFaults, readOf}
+use Rattle.catalogue_text.specs.Parsing.{catalogueLines, lineFault, linesFaults, linesBy, linesOf, readFaults, readOf}
 use Rattle.catalogue_text.specs.Writing.{writeFaults, writeVerdict, outcomeBy, Wrote}
 use Rattle.catalogue_text.specs.Numbers.{TextNumbers}
 use Rattle.catalogue_text.proofs.Faults.{line-chain}
@@ -24,7 +24,7 @@ use Rattle.catalogue_text.proofs.RoundTrip.{reading-verdict}
 
 pub read-verdict : (text : List ℕ) → readOf text .verdict ≡ foremost (readFaults text)
 unfolding readOf
-read-verdict text = reading-verdict (foremost (readFaults text)) (fourLines text .catalogue)
+read-verdict text = reading-verdict (foremost (readFaults text)) (catalogueLines text .catalogue)
 
 pub read-within : (numbers text : List ℕ) → faultsNamed numbers (readFaults text) ≡ true → Within numbers (readOf text .verdict)
 read-within numbers text e = faults-within numbers (readFaults text) _ e (read-verdict text)
@@ -37,8 +37,8 @@ lines-verdict : (text : List ℕ) → linesOf text .verdict ≡ foremost (linesF
 unfolding linesOf
 lines-verdict text = go (foremost (linesFaults text)) refl
   where
-    go : (v : Verdict) → foremost (linesFaults text) ≡ v → linesBy v (fourLines text) .verdict ≡ v
-    go Accepted e = not-refusing (fourLines text .verdict) (accepted-none (linesFaults text) e .0)
+    go : (v : Verdict) → foremost (linesFaults text) ≡ v → linesBy v (catalogueLines text) .verdict ≡ v
+    go Accepted e = not-refusing (catalogueLines text .verdict) (accepted-none (linesFaults text) e .0)
     go (Refused refusal) e = refl
 
 write-within : (c : Catalogue) (buffer after : List ℕ) (outcome : Outcome) → Wrote c buffer outcome after
@@ -55,6 +55,6 @@ unfolding stands
 text-numbers = record {
   reads = λ text. read-within (1 ∷ catalogueNumbers) text refl;
   lines = λ text. faults-within (1 ∷ catalogueNumbers) (linesFaults text) _ refl (lines-verdict text);
-  four-lines = λ text. faults-within (1 ∷ []) (lineFault text ∷ []) _ refl (sym (line-chain text));
+  in-form = λ text. faults-within (1 ∷ []) (lineFault text ∷ []) _ refl (sym (line-chain text));
   writes = write-within;
 }

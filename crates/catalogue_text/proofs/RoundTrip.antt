@@ -23,35 +23,35 @@ use Rattle.catalogue.specs.Catalogue.{catalogueVerdict, Admitted}
 use Rattle.catalogue.proofs.Faults.{catalogue-within}
 use Rattle.catalogue_text.specs.declared.Lines.{Lines}
 use Rattle.catalogue_text.specs.declared.Reading.{Reading}
-use Rattle.catalogue_text.specs.Text.{textOf, FiveDigits}
-use Rattle.catalogue_text.specs.Parsing.{fourLines, linesBy, linesOf, refusedLines, unread, readingBy, readOf}
+use Rattle.catalogue_text.specs.Text.{textOf, Ends, FiveDigits}
+use Rattle.catalogue_text.specs.Parsing.{catalogueLines, linesBy, linesOf, refusedLines, unread, readingBy, readOf}
 use Rattle.catalogue_text.proofs.Faults.{read-is, lines-is}
 use Rattle.catalogue_text.proofs.TextParts.{admitted-digits}
-use Rattle.catalogue_text.proofs.FourLines.{LinesRead, four-lines-written, four-lines-cases}
+use Rattle.catalogue_text.proofs.CatalogueLines.{LinesRead, ends-nothing, lines-written, lines-cases}
 
 -- ---- what decides a reading
 
 -- the text of a value is judged as the value is
 text-judged : (c : Catalogue) → FiveDigits c → readOf (textOf c) ≡ readingBy (catalogueVerdict c) c
 text-judged c small =
-    let found : fourLines (textOf c) ≡ record { verdict = Accepted; catalogue = c; next = length (textOf c) } =
-    ap fourLines (sym (append-nil (textOf c))) ∙ four-lines-written c [] small in
+    let found : catalogueLines (textOf c) ≡ record { verdict = Accepted; catalogue = c; next = length (textOf c) } =
+    ap catalogueLines (sym (append-nil (textOf c))) ∙ lines-written c [] small (ends-nothing (c .sum)) in
     read-is (textOf c) ∙ simp (found, eq-eqb (length (textOf c)) (length (textOf c)) refl)
 
 -- a text is the text of a value, or it is refused 1
 pub text-or-refused : (text : List ℕ) → ((c : Catalogue) × FiveDigits c × (textOf c ≡ text)) ⊎ (readOf text ≡ unread (refusalOf 1))
-text-or-refused text = ⊎-elim no-lines (λ r. go r (eqb (fourLines text .next) (length text)) refl) (four-lines-cases text)
+text-or-refused text = ⊎-elim no-lines (λ r. go r (eqb (catalogueLines text .next) (length text)) refl) (lines-cases text)
   where
-    no-lines : fourLines text ≡ refusedLines (refusalOf 1) → ((c : Catalogue) × FiveDigits c × (textOf c ≡ text)) ⊎ (readOf text ≡ unread (refusalOf 1))
+    no-lines : catalogueLines text ≡ refusedLines (refusalOf 1) → ((c : Catalogue) × FiveDigits c × (textOf c ≡ text)) ⊎ (readOf text ≡ unread (refusalOf 1))
     no-lines e = inr (read-is text ∙ simp e)
 
-    go : LinesRead text (fourLines text) → (t : Bool) → eqb (fourLines text .next) (length text) ≡ t
+    go : LinesRead text (catalogueLines text) → (t : Bool) → eqb (catalogueLines text .next) (length text) ≡ t
         → ((c : Catalogue) × FiveDigits c × (textOf c ≡ text)) ⊎ (readOf text ≡ unread (refusalOf 1))
     go r true e =
-        let end : drop (fourLines text .next) text ≡ [] = ap (λ (n : ℕ). drop n text) (eqb-true (fourLines text .next) (length text) e) ∙ drop-length text in
-        let text-is : textOf (fourLines text .catalogue) ≡ text =
-        sym (r .here ∙ ap (λ (l : List ℕ). textOf (fourLines text .catalogue) ++ l) end ∙ append-nil (textOf (fourLines text .catalogue))) in
-        inl (fourLines text .catalogue, r .digits, text-is)
+        let end : drop (catalogueLines text .next) text ≡ [] = ap (λ (n : ℕ). drop n text) (eqb-true (catalogueLines text .next) (length text) e) ∙ drop-length text in
+        let text-is : textOf (catalogueLines text .catalogue) ≡ text =
+        sym (r .here ∙ ap (λ (l : List ℕ). textOf (catalogueLines text .catalogue) ++ l) end ∙ append-nil (textOf (catalogueLines text .catalogue))) in
+        inl (catalogueLines text .catalogue, r .digits, text-is)
     go r false e = inr (read-is text ∙ simp (r .accepted, e))
 
 pub reading-verdict : (v : Verdict) (c : Catalogue) → readingBy v c .verdict ≡ v
@@ -112,67 +112,68 @@ refused-value text refusal other = (of-value, λ v. text-verdict (v .0) text (v 
 
 -- ---- the lines at the start of a text
 
--- what the writer writes reads back, whatever follows it
-pub written-lines-read-back : (c : Catalogue) (rest : List ℕ) → Admitted c
+-- what the writer writes reads back, whatever follows it and does not go on with it
+pub written-lines-read-back : (c : Catalogue) (rest : List ℕ) → Admitted c → Ends c rest
     → linesOf (textOf c ++ rest) ≡ record { verdict = Accepted; catalogue = c; next = length (textOf c) }
-written-lines-read-back c rest a =
-    lines-is (textOf c ++ rest) ∙ simp (four-lines-written c rest (admitted-digits c a), a)
+written-lines-read-back c rest a ends =
+    lines-is (textOf c ++ rest) ∙ simp (lines-written c rest (admitted-digits c a) ends, a)
 
--- lines that are read are what the writer writes for their value, and `next` is where they end
+-- lines that are read are what the writer writes for their value, which ends at `next`
 pub lines-are-written : (text : List ℕ) → linesOf text .verdict ≡ Accepted → Admitted (linesOf text .catalogue) × LinesRead text (linesOf text)
-lines-are-written text e = ⊎-elim no-lines found (four-lines-cases text)
+lines-are-written text e = ⊎-elim no-lines found (lines-cases text)
   where
-    no-lines : fourLines text ≡ refusedLines (refusalOf 1) → Admitted (linesOf text .catalogue) × LinesRead text (linesOf text)
+    no-lines : catalogueLines text ≡ refusedLines (refusalOf 1) → Admitted (linesOf text .catalogue) × LinesRead text (linesOf text)
     no-lines r = not-refused (refusalOf 1) (sym (ap (λ (l : Lines). l .verdict) (lines-is text) ∙ simp r) ∙ e)
 
-    found : LinesRead text (fourLines text) → Admitted (linesOf text .catalogue) × LinesRead text (linesOf text)
-    found r = go (catalogueVerdict (fourLines text .catalogue)) refl
+    found : LinesRead text (catalogueLines text) → Admitted (linesOf text .catalogue) × LinesRead text (linesOf text)
+    found r = go (catalogueVerdict (catalogueLines text .catalogue)) refl
       where
-        go : (v : Verdict) → catalogueVerdict (fourLines text .catalogue) ≡ v → Admitted (linesOf text .catalogue) × LinesRead text (linesOf text)
-        go Accepted a = let same : linesOf text ≡ fourLines text = lines-is text ∙ simp (r .accepted, a) in rw same (a, r)
+        go : (v : Verdict) → catalogueVerdict (catalogueLines text .catalogue) ≡ v → Admitted (linesOf text .catalogue) × LinesRead text (linesOf text)
+        go Accepted a = let same : linesOf text ≡ catalogueLines text = lines-is text ∙ simp (r .accepted, a) in rw same (a, r)
         go (Refused refusal) b = not-refused refusal (sym (ap (λ (l : Lines). l .verdict) (lines-is text) ∙ simp (r .accepted, b)) ∙ e)
 
--- the text of a value is judged as the value is, whatever follows it
-pub lines-verdict : (c : Catalogue) (rest text : List ℕ) → FiveDigits c → textOf c ++ rest ≡ text → linesOf text .verdict ≡ catalogueVerdict c
-lines-verdict c rest text small e =
+-- the text of a value is judged as the value is, where it ends
+pub lines-verdict : (c : Catalogue) (rest text : List ℕ) → FiveDigits c → Ends c rest → textOf c ++ rest ≡ text
+    → linesOf text .verdict ≡ catalogueVerdict c
+lines-verdict c rest text small ends e =
     ap (λ (t : List ℕ). linesOf t .verdict) (sym e)
     ∙ ap (λ (l : Lines). l .verdict) (lines-is (textOf c ++ rest))
-    ∙ simp (four-lines-written c rest small) (by-verdict (catalogueVerdict c))
+    ∙ simp (lines-written c rest small ends) (by-verdict (catalogueVerdict c))
   where
     by-verdict : (v : Verdict) → linesBy v (record { verdict = Accepted; catalogue = c; next = length (textOf c) }) .verdict ≡ v
     by-verdict Accepted = refl
     by-verdict (Refused refusal) = refl
 
--- the text of a value stands at the start, or the lines are refused 1
+-- the text of a value stands at the start and ends there, or the lines are refused 1
 pub starts-or-refused : (text : List ℕ)
-    → ((c : Catalogue) × (rest : List ℕ) × FiveDigits c × (textOf c ++ rest ≡ text)) ⊎ (linesOf text ≡ refusedLines (refusalOf 1))
+    → ((c : Catalogue) × (rest : List ℕ) × FiveDigits c × Ends c rest × (textOf c ++ rest ≡ text)) ⊎ (linesOf text ≡ refusedLines (refusalOf 1))
 starts-or-refused text =
-    ⊎-elim (λ (e : fourLines text ≡ refusedLines (refusalOf 1)). inr (lines-is text ∙ simp e))
-    (λ (r : LinesRead text (fourLines text)). inl (fourLines text .catalogue, drop (fourLines text .next) text, r .digits, sym (r .here)))
-    (four-lines-cases text)
+    ⊎-elim (λ (e : catalogueLines text ≡ refusedLines (refusalOf 1)). inr (lines-is text ∙ simp e))
+    (λ (r : LinesRead text (catalogueLines text)). inl (catalogueLines text .catalogue, drop (catalogueLines text .next) text, r .digits, r .ends, sym (r .here)))
+    (lines-cases text)
 
--- refused 1 exactly if no value's text stands at the start
+-- refused 1 exactly if no value's text stands at the start and ends there
 pub lines-refused-text : (text : List ℕ)
-    → (linesOf text .verdict ≡ refused 1) ↔ ((c : Catalogue) (rest : List ℕ) → FiveDigits c → textOf c ++ rest ≡ text → ⊥)
+    → (linesOf text .verdict ≡ refused 1) ↔ ((c : Catalogue) (rest : List ℕ) → FiveDigits c → Ends c rest → textOf c ++ rest ≡ text → ⊥)
 lines-refused-text text = (no-value, no-text)
   where
-    no-value : linesOf text .verdict ≡ refused 1 → (c : Catalogue) (rest : List ℕ) → FiveDigits c → textOf c ++ rest ≡ text → ⊥
-    no-value e c rest small is = not-text c (sym (lines-verdict c rest text small is) ∙ e)
+    no-value : linesOf text .verdict ≡ refused 1 → (c : Catalogue) (rest : List ℕ) → FiveDigits c → Ends c rest → textOf c ++ rest ≡ text → ⊥
+    no-value e c rest small ends is = not-text c (sym (lines-verdict c rest text small ends is) ∙ e)
 
-    no-text : ((c : Catalogue) (rest : List ℕ) → FiveDigits c → textOf c ++ rest ≡ text → ⊥) → linesOf text .verdict ≡ refused 1
+    no-text : ((c : Catalogue) (rest : List ℕ) → FiveDigits c → Ends c rest → textOf c ++ rest ≡ text → ⊥) → linesOf text .verdict ≡ refused 1
     no-text none =
-        ⊎-elim (λ v. absurd (none (v .0) (v .1) (v .2) (v .3))) (λ e. ap (λ (l : Lines). l .verdict) e) (starts-or-refused text)
+        ⊎-elim (λ v. absurd (none (v .0) (v .1) (v .2) (v .3) (v .4))) (λ e. ap (λ (l : Lines). l .verdict) e) (starts-or-refused text)
 
 -- refused with another number exactly if that of a value stands there which is refused with it
 pub lines-refused-value : (text : List ℕ) (refusal : Refusal) → (refusal ≡ refusalOf 1 → ⊥)
     → (linesOf text .verdict ≡ Refused refusal)
-    ↔ ((c : Catalogue) × (rest : List ℕ) × FiveDigits c × (textOf c ++ rest ≡ text) × (catalogueVerdict c ≡ Refused refusal))
-lines-refused-value text refusal other = (of-value, λ v. lines-verdict (v .0) (v .1) text (v .2) (v .3) ∙ v .4)
+    ↔ ((c : Catalogue) × (rest : List ℕ) × FiveDigits c × Ends c rest × (textOf c ++ rest ≡ text) × (catalogueVerdict c ≡ Refused refusal))
+lines-refused-value text refusal other = (of-value, λ v. lines-verdict (v .0) (v .1) text (v .2) (v .3) (v .4) ∙ v .5)
   where
     of-value : linesOf text .verdict ≡ Refused refusal
-        → (c : Catalogue) × (rest : List ℕ) × FiveDigits c × (textOf c ++ rest ≡ text) × (catalogueVerdict c ≡ Refused refusal)
+        → (c : Catalogue) × (rest : List ℕ) × FiveDigits c × Ends c rest × (textOf c ++ rest ≡ text) × (catalogueVerdict c ≡ Refused refusal)
     of-value e =
         ⊎-elim
-        (λ v. (v .0, v .1, v .2, v .3, sym (lines-verdict (v .0) (v .1) text (v .2) (v .3)) ∙ e))
+        (λ v. (v .0, v .1, v .2, v .3, v .4, sym (lines-verdict (v .0) (v .1) text (v .2) (v .3) (v .4)) ∙ e))
         (λ r. absurd (other (same-refusal (sym e ∙ ap (λ (l : Lines). l .verdict) r))))
         (starts-or-refused text)

@@ -1,16 +1,18 @@
--- Reading catalogue text (document 01, 'Catalogue' and 'Numbers a call can give'): each line yields its value and where the next line
--- begins, or ends the reading. `readOf` is the reading of a whole text, `linesOf` that of its start.
-use Prim.Native.Nat.{ℕ, zero, suc}
+-- Reading catalogue text (document 01, 'Catalogue' and 'Numbers a call can give'; document 02, item 2): each line yields its value and where the
+-- next line begins, or ends the reading. `readOf` is the reading of a whole text, `linesOf` that of its start.
+use Prim.Native.Nat.{ℕ, zero, suc, _+_}
 use mathlib.Core.Bool.{cond, not}
 use mathlib.Core.List.{List, _∷_}
 use lib.Dec.{eqb}
-use lib.ListN.{length}
+use lib.ListN.{length, drop}
 use Rattle.refusal.specs.declared.Refusal.{Refusal}
 use Rattle.refusal.specs.declared.Verdict.{Verdict}
 use Rattle.refusal.specs.declared.Verdict.the-variants.{Accepted, Refused}
 use Rattle.refusal.specs.Numbers.{refusalOf}
 use Rattle.refusal.specs.Foremost.{Fault, fault, foremost}
 use Rattle.refusal.specs.Chain.{refuses}
+use Rattle.symbol.specs.declared.Operation.{Operation}
+use Rattle.symbol.specs.declared.Operation.the-variants.{ExclusiveOr, Addition}
 use Rattle.catalogue.specs.declared.Code.{Code}
 use Rattle.catalogue.specs.declared.Code.the-variants.{Short, Even}
 use Rattle.catalogue.specs.declared.Catalogue.{Catalogue}
@@ -20,7 +22,7 @@ use Rattle.text_lines.specs.declared.Line.the-variants.{Value, Refused as NoLin
 use Rattle.text_lines.specs.Lines.{begins, numberLine}
 use Rattle.catalogue_text.specs.declared.Lines.{Lines}
 use Rattle.catalogue_text.specs.declared.Reading.{Reading}
-use Rattle.catalogue_text.specs.Text.{codeText, serversName, messagesName, symbolName}
+use Rattle.catalogue_text.specs.Text.{codeText, serversName, messagesName, symbolName, sumName, sumText}
 
 -- the code of a first line's value: 0 is short, 1 is even
 abbrev pub codeNamed : ℕ → Code
@@ -33,7 +35,18 @@ codeLine text =
     cond (begins (codeText Short) text) (Value 0 (length (codeText Short)))
     (cond (begins (codeText Even) text) (Value 1 (length (codeText Even))) NoLine)
 
--- a refused reading holds zeros, its code short
+-- the sum of its line's value: 0 is exclusive or, 1 is addition
+abbrev pub sumNamed : ℕ → Operation
+sumNamed zero = ExclusiveOr
+sumNamed (suc n) = Addition
+
+-- The line of the sum at place `at`. Where no line of that name begins, there is none; one with another value is none of a catalogue's (02, item 2)
+unfoldable pub sumLine : List ℕ → ℕ → Line
+sumLine text at =
+    let rest = drop at text in
+    cond (begins sumName rest) (cond (begins (sumText Addition) rest) (Value 1 (at + length (sumText Addition))) NoLine) (Value 0 at)
+
+-- a refused reading holds zeros, its code short, its sum exclusive or
 abbrev pub refusedLines : Refusal → Lines
 refusedLines refusal = record { verdict = Refused refusal; catalogue = zeroCatalogue; next = 0 }
 
@@ -42,33 +55,34 @@ abbrev pub onLine : Line → (ℕ → ℕ → Lines) → Lines
 onLine (Value value next) continue = continue value next
 onLine NoLine continue = refusedLines (refusalOf 1)
 
--- the four lines at the start of a text, in any bounds
-unfoldable pub fourLines : List ℕ → Lines
-fourLines text =
+-- the catalogue's lines at the start of a text, in any bounds
+unfoldable pub catalogueLines : List ℕ → Lines
+catalogueLines text =
     onLine (codeLine text) λ code a.
     onLine (numberLine serversName text a) λ N b.
     onLine (numberLine messagesName text b) λ K d.
     onLine (numberLine symbolName text d) λ S e.
-    record { verdict = Accepted; catalogue = record { code = codeNamed code; servers = N; messages = K; symbol = S }; next = e }
+    onLine (sumLine text e) λ sum f.
+    record { verdict = Accepted; catalogue = record { code = codeNamed code; servers = N; messages = K; symbol = S; sum = sumNamed sum }; next = f }
 
 -- a line is not there or not in its form
 abbrev pub lineFault : List ℕ → Fault
-lineFault text = fault 1 (refuses (fourLines text .verdict))
+lineFault text = fault 1 (refuses (catalogueLines text .verdict))
 
 -- a byte follows the last line
 abbrev pub endFault : List ℕ → Fault
-endFault text = fault 1 (not (eqb (fourLines text .next) (length text)))
+endFault text = fault 1 (not (eqb (catalogueLines text .next) (length text)))
 
 abbrev pub linesBy : Verdict → Lines → Lines
 linesBy Accepted found = found
 linesBy (Refused refusal) found = refusedLines refusal
 
 abbrev pub linesFaults : List ℕ → List Fault
-linesFaults text = lineFault text ∷ catalogueFaults (fourLines text .catalogue)
+linesFaults text = lineFault text ∷ catalogueFaults (catalogueLines text .catalogue)
 
--- the four lines at the start of a text, in the catalogue's bounds
+-- the catalogue's lines at the start of a text, if the catalogue is admitted
 unfoldable pub linesOf : List ℕ → Lines
-linesOf text = linesBy (foremost (linesFaults text)) (fourLines text)
+linesOf text = linesBy (foremost (linesFaults text)) (catalogueLines text)
 
 -- a refused reading of a whole text holds zeros, too
 abbrev pub unread : Refusal → Reading
@@ -79,8 +93,8 @@ readingBy Accepted c = record { verdict = Accepted; catalogue = c }
 readingBy (Refused refusal) c = unread refusal
 
 abbrev pub readFaults : List ℕ → List Fault
-readFaults text = lineFault text ∷ endFault text ∷ catalogueFaults (fourLines text .catalogue)
+readFaults text = lineFault text ∷ endFault text ∷ catalogueFaults (catalogueLines text .catalogue)
 
--- the four lines as a whole text
+-- the catalogue's lines as a whole text
 unfoldable pub readOf : List ℕ → Reading
-readOf text = readingBy (foremost (readFaults text)) (fourLines text .catalogue)
+readOf text = readingBy (foremost (readFaults text)) (catalogueLines text .catalogue)

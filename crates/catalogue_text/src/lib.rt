@@ -1,6 +1,5 @@
 // The catalogue's text: reading it line by line, and writing it.
 use catalogue::Catalogue;
-use catalogue::Code;
 use refusal::Outcome;
 use refusal::Refusal;
 use refusal::Verdict;
@@ -9,11 +8,14 @@ ghost use mathlib.Core.Path.{_≡_};
 ghost use Prim.Native.Nat.{_≤_};
 ghost use lib.ListN.{length};
 ghost use Rattle.lists.specs.Parts.{put};
-ghost use Rattle.catalogue_text.specs.Text.{codeText, textOf};
-ghost use Rattle.catalogue_text.specs.Parsing.{codeNamed, codeLine, refusedLines, fourLines, linesOf, unread, readOf};
+ghost use Rattle.catalogue_text.specs.Text.{textOf};
+ghost use Rattle.catalogue_text.specs.Parsing.{refusedLines, catalogueLines, linesOf, unread, readOf};
 ghost use Rattle.catalogue_text.specs.Writing.{Wrote};
 
-// The four lines at the start of a text, and where they end.
+// The lines of the code and of the sum.
+mod named;
+
+// The catalogue's lines at the start of a text, and where they end.
 pub struct Lines {
     pub verdict: Verdict,
     pub catalogue: Catalogue,
@@ -24,26 +26,6 @@ pub struct Lines {
 pub struct Reading {
     pub verdict: Verdict,
     pub catalogue: Catalogue,
-}
-
-// The first line of a catalogue: 0 for the short code, 1 for the even one.
-fn code_line(text: &[u8]) -> Line
-    ensures { λ r. ⌜ r ≡ codeLine (now (text .entry)) ⌝ }
-{
-    if text_lines::starts(b"code=short\n", text) {
-        return Line::Value { value: 0, next: 11 };
-    }
-    if text_lines::starts(b"code=even\n", text) {
-        return Line::Value { value: 1, next: 10 };
-    }
-    Line::Refused
-}
-
-// The code of a first line's value.
-fn code_named(value: usize) -> Code
-    ensures { λ r. ⌜ r ≡ codeNamed value ⌝ }
-{
-    if value == 0 { Code::Short } else { Code::Even }
 }
 
 // Lines that are refused.
@@ -57,14 +39,14 @@ fn refused(refusal: Refusal) -> Lines
     }
 }
 
-// The four lines at the start of the text, in any bounds. For an input that goes on after the catalogue.
-pub fn four_lines(text: &[u8]) -> Lines
-    ensures { λ r. ⌜ r ≡ fourLines (now (text .entry)) ⌝ }
+// The catalogue's lines at the start of the text, in any bounds. For an input that goes on after the catalogue.
+pub fn catalogue_lines(text: &[u8]) -> Lines
+    ensures { λ r. ⌜ r ≡ catalogueLines (now (text .entry)) ⌝ }
 {
     let Line::Value {
         value: code,
         next: a,
-    } = code_line(text)
+    } = named::code_line(text)
     else {
         return refused(Refusal::Text);
     };
@@ -77,15 +59,23 @@ pub fn four_lines(text: &[u8]) -> Lines
     let Line::Value { value: s, next: e } = text_lines::number_line(b"piece=", text, d) else {
         return refused(Refusal::Text);
     };
+    let Line::Value {
+        value: sum,
+        next: f,
+    } = named::sum_line(text, e)
+    else {
+        return refused(Refusal::Text);
+    };
     Lines {
         verdict: Verdict::Accepted,
         catalogue: Catalogue {
-            code: code_named(code),
+            code: named::code_named(code),
             servers: n,
             messages: k,
             symbol: s,
+            sum: named::sum_named(sum),
         },
-        next: e,
+        next: f,
     }
 }
 
@@ -93,7 +83,7 @@ pub fn four_lines(text: &[u8]) -> Lines
 pub fn read_lines(text: &[u8]) -> Lines
     ensures { λ r. ⌜ r ≡ linesOf (now (text .entry)) ⌝ }
 {
-    let found = four_lines(text);
+    let found = catalogue_lines(text);
     let verdict = found.verdict;
     let catalogue = found.catalogue;
     if let Verdict::Refused(refusal) = verdict {
@@ -119,7 +109,7 @@ fn refused_reading(refusal: Refusal) -> Reading
 pub fn read(text: &[u8]) -> Reading
     ensures { λ r. ⌜ r ≡ readOf (now (text .entry)) ⌝ }
 {
-    let found = four_lines(text);
+    let found = catalogue_lines(text);
     let verdict = found.verdict;
     let catalogue = found.catalogue;
     if let Verdict::Refused(refusal) = verdict {
@@ -138,18 +128,6 @@ pub fn read(text: &[u8]) -> Reading
     }
 }
 
-// Writes the first line at the start, and gives the place after it.
-fn put_code(out: &mut [u8], code: Code) -> usize
-    requires { ⌜ length (codeText code) ≤ length (now out) ⌝ }
-    ensures { λ r. ⌜ r ≡ length (codeText code) ⌝ }
-    ensures { λ _. ⌜ now (out .exit) ≡ put 0 (codeText code) (now (out .entry)) ⌝ }
-{
-    match code {
-        Code::Short => text_lines::put_bytes(out, 0, b"code=short\n"),
-        Code::Even => text_lines::put_bytes(out, 0, b"code=even\n"),
-    }
-}
-
 // Writes the text at the start, and gives its length.
 fn put_text(out: &mut [u8], c: Catalogue) -> usize
     requires { ⌜ length (textOf c) ≤ length (now out) ⌝ }
@@ -157,20 +135,12 @@ fn put_text(out: &mut [u8], c: Catalogue) -> usize
     ensures { λ _. ⌜ now (out .exit) ≡ put 0 (textOf c) (now (out .entry)) ⌝ }
 {
     let code = c.code;
-    let a = put_code(out, code);
+    let a = named::put_code(out, code);
     let b = text_lines::put_line(out, a, b"mirrors=", c.servers);
     let d = text_lines::put_line(out, b, b"packs=", c.messages);
-    text_lines::put_line(out, d, b"piece=", c.symbol)
-}
-
-// The bytes of the first line.
-fn code_length(code: Code) -> usize
-    ensures { λ r. ⌜ r ≡ length (codeText code) ⌝ }
-{
-    match code {
-        Code::Short => 11,
-        Code::Even => 10,
-    }
+    let e = text_lines::put_line(out, d, b"piece=", c.symbol);
+    let sum = c.sum;
+    named::put_sum(out, e, sum)
 }
 
 // The bytes of the catalogue's text.
@@ -178,10 +148,12 @@ fn text_length(c: Catalogue) -> usize
     ensures { λ r. ⌜ r ≡ length (textOf c) ⌝ }
 {
     let code = c.code;
-    let a = code_length(code);
+    let a = named::code_length(code);
     let b = a + text_lines::line_length(b"mirrors=", c.servers);
     let d = b + text_lines::line_length(b"packs=", c.messages);
-    d + text_lines::line_length(b"piece=", c.symbol)
+    let e = d + text_lines::line_length(b"piece=", c.symbol);
+    let sum = c.sum;
+    e + named::sum_length(sum)
 }
 
 // Writes the catalogue's text at the start of `out`, and gives its length.

@@ -1,3 +1,4 @@
 pub mod Promises
 pub mod Reach
 pub mod Measured
+pub mod Sums

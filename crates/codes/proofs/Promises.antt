@@ -18,7 +18,7 @@ use Rattle.short_scheme.specs.Short.{shortScheme}
 use Rattle.short_scheme.proofs.Promises.{short-laws}
 use Rattle.even_scheme.specs.Even.{evenScheme}
 use Rattle.even_scheme.proofs.Promises.{even-laws}
-use Rattle.codes.specs.Codes.{operation, schemeBy, schemeOf}
+use Rattle.codes.specs.Codes.{schemeBy, schemeOf}
 
 laws-by : (code : Code) (sum : Sum) (N K S : ℕ) → AbelianGroup sum S → fits code N K S ≡ true → Laws N K (schemeBy code sum N K S)
 laws-by Short = short-laws
@@ -27,7 +27,7 @@ laws-by Even = even-laws
 pub promises : (c : Catalogue) → Admitted c → Laws (c .servers) (c .messages) (schemeOf c)
 unfolding schemeOf
 promises c a =
-    laws-by (c .code) (sumOf operation) (c .servers) (c .messages) (c .symbol) (group-of operation (c .symbol)) (admitted-fits c a)
+    laws-by (c .code) (sumOf (c .sum)) (c .servers) (c .messages) (c .symbol) (group-of (c .sum) (c .symbol)) (admitted-fits c a)
 
 sizes-by : (code : Code) (sum : Sum) (N K S : ℕ) → schemeBy code sum N K S .sizes ≡ sizesBy code N K S
 sizes-by Short sum N K S = refl
@@ -35,7 +35,7 @@ sizes-by Even sum N K S = refl
 
 pub scheme-sizes : (c : Catalogue) → schemeOf c .sizes ≡ sizesOf c
 unfolding schemeOf sizesOf
-scheme-sizes c = sizes-by (c .code) (sumOf operation) (c .servers) (c .messages) (c .symbol)
+scheme-sizes c = sizes-by (c .code) (sumOf (c .sum)) (c .servers) (c .messages) (c .symbol)
 
 -- ---- what the code of an admitted catalogue says of its numbers
 
@@ -47,10 +47,10 @@ admitted-even c a e = rw e at (admitted-fits c a)
 
 -- ---- the scheme of a catalogue whose code is known
 
-pub scheme-short : (c : Catalogue) → c .code ≡ Short → schemeOf c ≡ shortScheme (sumOf operation) (c .servers) (c .messages) (c .symbol)
+pub scheme-short : (c : Catalogue) → c .code ≡ Short → schemeOf c ≡ shortScheme (sumOf (c .sum)) (c .servers) (c .messages) (c .symbol)
 unfolding schemeOf
 scheme-short c e = rw e
 
-pub scheme-even : (c : Catalogue) → c .code ≡ Even → schemeOf c ≡ evenScheme (sumOf operation) (c .servers) (c .messages) (c .symbol)
+pub scheme-even : (c : Catalogue) → c .code ≡ Even → schemeOf c ≡ evenScheme (sumOf (c .sum)) (c .servers) (c .messages) (c .symbol)
 unfolding schemeOf
 scheme-even c e = rw e

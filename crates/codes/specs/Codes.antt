@@ -1,9 +1,7 @@
--- The scheme of each catalogue: the code that it names, at its numbers, with exclusive or as the sum.
+-- The scheme of each catalogue: the code that it names, at its numbers, over the sum that it names.
 use Prim.Native.Nat.{ℕ}
 use Rattle.symbol.specs.Sum.{Sum}
 use Rattle.symbol.specs.Operations.{sumOf}
-use Rattle.symbol.specs.declared.Operation.{Operation}
-use Rattle.symbol.specs.declared.Operation.the-variants.{ExclusiveOr}
 use Rattle.scheme.specs.Scheme.{Scheme}
 use Rattle.catalogue.specs.declared.Code.{Code}
 use Rattle.catalogue.specs.declared.Code.the-variants.{Short, Even}
@@ -11,13 +9,9 @@ use Rattle.catalogue.specs.declared.Catalogue.{Catalogue}
 use Rattle.short_scheme.specs.Short.{shortScheme}
 use Rattle.even_scheme.specs.Even.{evenScheme}
 
--- what symbols are combined by
-abbrev pub operation : Operation
-operation = ExclusiveOr
-
 abbrev pub schemeBy : Code → Sum → ℕ → ℕ → ℕ → Scheme
 schemeBy Short = shortScheme
 schemeBy Even = evenScheme
 
 unfoldable pub schemeOf : Catalogue → Scheme
-schemeOf c = schemeBy (c .code) (sumOf operation) (c .servers) (c .messages) (c .symbol)
+schemeOf c = schemeBy (c .code) (sumOf (c .sum)) (c .servers) (c .messages) (c .symbol)

@@ -2,7 +2,6 @@
 use catalogue::Catalogue;
 use catalogue::Code;
 use catalogue::Measured;
-use symbol::Operation;
 ghost use mathlib.Core.Path.{_≡_};
 ghost use mathlib.Core.Bool.{true};
 ghost use Prim.Native.Nat.{_*_, _≤_, _<_};
@@ -97,7 +96,7 @@ pub fn answer(c: Catalogue, server: usize, store: &[u8], query: &[u8], out: &mut
     requires { ⌜ schemeOf c .answerLength (now query) ≤ length (now out) ⌝ }
     ensures { λ _. ⌜ now (out .exit) ≡ put 0 (schemeOf c .answer (now (store .entry)) (now (query .entry))) (now (out .entry)) ⌝ }
 {
-    let op = Operation::ExclusiveOr;
+    let op = c.sum;
     let code = c.code;
     match code {
         Code::Short => short_code::answer(op, c.servers, c.messages, c.symbol, store, query, out),
@@ -115,7 +114,7 @@ pub fn recover(c: Catalogue, wanted: usize, key: &[u8], answers: &[u8], message:
     ensures { λ _. ⌜ now (message .exit)
         ≡ put 0 (recoverIn (schemeOf c) (c .servers) wanted (now (key .entry)) (now (answers .entry))) (now (message .entry)) ⌝ }
 {
-    let op = Operation::ExclusiveOr;
+    let op = c.sum;
     let code = c.code;
     match code {
         Code::Short => short_code::recover(

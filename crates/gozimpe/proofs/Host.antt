@@ -13,7 +13,7 @@ use Rattle.catalogue.specs.declared.Catalogue.{Catalogue}
 use Rattle.catalogue.specs.Catalogue.{catalogueFaults, catalogueVerdict, Admitted}
 use Rattle.catalogue.proofs.Faults.{after-catalogue}
 use Rattle.catalogue_text.specs.Text.{textOf}
-use Rattle.catalogue_text.specs.Parsing.{fourLines, readFaults, readingBy, readOf}
+use Rattle.catalogue_text.specs.Parsing.{catalogueLines, readFaults, readingBy, readOf}
 use Rattle.catalogue_text.proofs.RoundTrip.{written-reads-back}
 use Rattle.codes.specs.Codes.{schemeOf}
 use Rattle.server.specs.Answering.{answerVerdict, answerBy, answering}
@@ -26,7 +26,7 @@ host-answers c a server store query buffer = rw (written-reads-back c a)
 
 module _ (text : List ℕ) where
   abbrev c : Catalogue
-  c = fourLines text .catalogue
+  c = catalogueLines text .catalogue
 
   pub host-foremost : (server : ℕ) (store query buffer : List ℕ)
       → answeringText text server store query buffer

@@ -10,7 +10,7 @@ use Rattle.refusal.specs.Within.{ValueWithin}
 use Rattle.refusal.proofs.Within.{faults-within, value-within}
 use Rattle.catalogue.specs.declared.Catalogue.{Catalogue}
 use Rattle.catalogue.specs.Catalogue.{catalogueNumbers}
-use Rattle.catalogue_text.specs.Parsing.{fourLines, readFaults}
+use Rattle.catalogue_text.specs.Parsing.{catalogueLines, readFaults}
 use Rattle.codes.specs.Codes.{schemeOf}
 use Rattle.server.specs.Answering.{answerBy}
 use Rattle.server.specs.Numbers.{answerNumbers}
@@ -20,7 +20,7 @@ use Rattle.gozimpe.proofs.Host.{host-foremost, longest-foremost}
 
 module _ (text : List ℕ) where
   abbrev c : Catalogue
-  c = fourLines text .catalogue
+  c = catalogueLines text .catalogue
 
   answer-numbers : (server : ℕ) (store query buffer : List ℕ)
       → ValueWithin (1 ∷ answerNumbers) (answeringText text server store query buffer .outcome)

@@ -10,7 +10,7 @@ use Rattle.refusal.specs.declared.Outcome.the-variants.{Value, Refused as NoVal
 use Rattle.refusal.specs.Numbers.{numberOf}
 use Rattle.refusal.specs.Foremost.{Fault}
 use Rattle.catalogue.specs.declared.Catalogue.{Catalogue}
-use Rattle.catalogue_text.specs.Parsing.{fourLines, lineFault, endFault, readOf}
+use Rattle.catalogue_text.specs.Parsing.{catalogueLines, lineFault, endFault, readOf}
 use Rattle.codes.specs.Codes.{schemeOf}
 use Rattle.server.specs.Answering.{Answered, answerFaults, answering}
 
@@ -30,7 +30,7 @@ answeringText text = let reading = readOf text in answeringBy (reading .verdict)
 -- hostFaults text server stored query room: those of the text's form, then those of answering under the catalogue of its lines
 abbrev pub hostFaults : List ℕ → ℕ → ℕ → List ℕ → ℕ → List Fault
 hostFaults text server stored query room =
-    lineFault text ∷ endFault text ∷ answerFaults schemeOf (fourLines text .catalogue) server stored query room
+    lineFault text ∷ endFault text ∷ answerFaults schemeOf (catalogueLines text .catalogue) server stored query room
 
 abbrev pub longestBy : Verdict → Catalogue → Outcome
 longestBy Accepted c = Value (schemeOf c .sizes .slot)

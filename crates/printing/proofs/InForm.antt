@@ -23,8 +23,8 @@ use Rattle.text_lines.proofs.Begins.{begins-split}
 use Rattle.text_lines.proofs.Numerals.{NumeralRead, numeral-read}
 use Rattle.text_lines.proofs.RoundTrip.{LineRead, line-read}
 use Rattle.catalogue_text.specs.Text.{textOf, FiveDigits}
-use Rattle.catalogue_text.specs.Parsing.{fourLines}
-use Rattle.catalogue_text.proofs.FourLines.{LinesRead, four-lines-cases}
+use Rattle.catalogue_text.specs.Parsing.{catalogueLines}
+use Rattle.catalogue_text.proofs.CatalogueLines.{LinesRead, lines-cases}
 use Rattle.number_lists.specs.NumberLists.{afterSpaces, spaced, onNumber, numeralFrom, numeralAt, endsAt, before, numbersFrom, numbersAt}
 use Rattle.printing.specs.Input.{Asked, asked, wantedName, keyName, mostInput, keyLine, onKey, linesAsk, inputAsks, inputOf}
 use Rattle.printing.proofs.RoundTrip.{input-reads-back}
@@ -170,14 +170,14 @@ list-read text at numbers e = go (endsAt text at) refl e
 
 -- ---- the whole input
 
-module _ (text : List ℕ) (a : Asked) (short : length text ≤ mostInput) (r : LinesRead text (fourLines text)) where
-  key-read : (wanted next : ℕ) → LineRead wantedName text (fourLines text .next) wanted next → (o : Option (List ℕ)) → keyLine text next ≡ o
-      → onKey o (asked (fourLines text .catalogue) wanted) ≡ some a → InForm text a
+module _ (text : List ℕ) (a : Asked) (short : length text ≤ mostInput) (r : LinesRead text (catalogueLines text)) where
+  key-read : (wanted next : ℕ) → LineRead wantedName text (catalogueLines text .next) wanted next → (o : Option (List ℕ)) → keyLine text next ≡ o
+      → onKey o (asked (catalogueLines text .catalogue) wanted) ≡ some a → InForm text a
   unfolding keyLine inputOf
   key-read wanted next w none f e = none-some e
   key-read wanted next w (some key) f e = go (begins keyName (drop next text)) refl f
     where
-      same : asked (fourLines text .catalogue) wanted key ≡ a
+      same : asked (catalogueLines text .catalogue) wanted key ≡ a
       same = cc
 
       go : (t : Bool) → begins keyName (drop next text) ≡ t → cond t (numbersAt text (next + length keyName)) none ≡ some key → InForm text a
@@ -191,14 +191,14 @@ module _ (text : List ℕ) (a : Asked) (short : length text ≤ mostInput) (r : 
             wanted-digits = w .below;
             key-digits = k .below;
             text-is = r .here
-                ∙ ap (λ (l : List ℕ). textOf (fourLines text .catalogue) ++ l) (w .here ∙ ap (λ (l : List ℕ). numberText wantedName wanted ++ l) rest);
+                ∙ ap (λ (l : List ℕ). textOf (catalogueLines text .catalogue) ++ l) (w .here ∙ ap (λ (l : List ℕ). numberText wantedName wanted ++ l) rest);
           })
       go false named g = none-some g
 
-  wanted-read : (line : Line) → numberLine wantedName text (fourLines text .next) ≡ line
-      → onNumber line (λ wanted next. onKey (keyLine text next) (asked (fourLines text .catalogue) wanted)) ≡ some a → InForm text a
+  wanted-read : (line : Line) → numberLine wantedName text (catalogueLines text .next) ≡ line
+      → onNumber line (λ wanted next. onKey (keyLine text next) (asked (catalogueLines text .catalogue) wanted)) ≡ some a → InForm text a
   wanted-read (Value wanted next) f e =
-      key-read wanted next (line-read wantedName text (fourLines text .next) wanted next f) (keyLine text next) refl e
+      key-read wanted next (line-read wantedName text (catalogueLines text .next) wanted next f) (keyLine text next) refl e
   wanted-read Refused f e = none-some e
 
 pub input-in-form : (text : List ℕ) (a : Asked) → inputAsks text ≡ some a → InForm text a
@@ -208,8 +208,8 @@ input-in-form text a e = go (ltb mostInput (length text)) refl e
     lines : length text ≤ mostInput → linesAsk text ≡ some a → InForm text a
     lines short f =
         ⊎-elim (λ refused. none-some (rw refused at f))
-        (λ r. wanted-read text a short r (numberLine wantedName text (fourLines text .next)) refl (rw (r .accepted) at f))
-        (four-lines-cases text)
+        (λ r. wanted-read text a short r (numberLine wantedName text (catalogueLines text .next)) refl (rw (r .accepted) at f))
+        (lines-cases text)
 
     go : (t : Bool) → ltb mostInput (length text) ≡ t → cond t none (linesAsk text) ≡ some a → InForm text a
     go true long f = none-some f

@@ -1,6 +1,6 @@
 -- What is written as an input reads back (`input-reads-back`): a catalogue, a wanted message and a key's numbers of at most five digits each
 -- are exactly what the input made of them asks for. Rests on the catalogue's text and its lines reading back.
-use mathlib.Core.Path.{_≡_, sym, ap, _∙_}
+use mathlib.Core.Path.{_≡_, refl, sym, ap, _∙_}
 use mathlib.Core.Bool.{true, false}
 use mathlib.Core.List.{List, [], _∷_, _++_, flatMap, append-assoc}
 use mathlib.Core.Option.{some}
@@ -22,8 +22,9 @@ use Rattle.text_lines.proofs.DigitTexts.{below-digits, digit-range, count-digit
 use Rattle.text_lines.proofs.Decimal.{length-most, some-digits, decimal-digits, value-decimal}
 use Rattle.text_lines.proofs.Numerals.{no-leading-zero}
 use Rattle.text_lines.proofs.RoundTrip.{line-written}
-use Rattle.catalogue_text.specs.Text.{textOf, FiveDigits}
-use Rattle.catalogue_text.proofs.FourLines.{four-lines-written}
+use Rattle.catalogue.specs.declared.Catalogue.{Catalogue}
+use Rattle.catalogue_text.specs.Text.{textOf, Ends, FiveDigits}
+use Rattle.catalogue_text.proofs.CatalogueLines.{other-ends, lines-written}
 use Rattle.number_lists.specs.NumberLists.{afterSpaces, spaced, numeralFrom, numeralAt, endsAt, numbersFrom, numbersAt}
 use Rattle.printing.specs.Input.{Asked, wantedName, keyName, mostInput, keyLine, linesAsk, inputAsks, inputOf}
 use Rattle.number_lists.proofs.Reading.{at-last, at-more}
@@ -110,6 +111,11 @@ list-written text (n ∷ numbers) at b e =
 
 -- ---- the whole input
 
+-- the line of the wanted message goes on with no catalogue
+wanted-ends : (c : Catalogue) (wanted : ℕ) (rest : List ℕ) → Ends c (numberText wantedName wanted ++ rest)
+unfolding begins
+wanted-ends c wanted rest = other-ends (c .sum) (numberText wantedName wanted ++ rest) refl
+
 pub input-reads-back : (a : Asked) → FiveDigits (a .catalogue) → a .wanted < 100000 → Below 100000 (a .key) → length (inputOf a) ≤ mostInput
     → inputAsks (inputOf a) ≡ some a
 unfolding inputAsks linesAsk keyLine inputOf
@@ -118,14 +124,14 @@ input-reads-back a small wanted-small key-small fits =
     let c = textOf (a .catalogue) in
     let w = numberText wantedName (a .wanted) in
     let k = spaced (a .key) ++ ascii "\n" in
-    let four = four-lines-written (a .catalogue) (w ++ (keyName ++ k)) small in
+    let lines = lines-written (a .catalogue) (w ++ (keyName ++ k)) small (wanted-ends (a .catalogue) (a .wanted) (keyName ++ k)) in
     let at-wanted : drop (length c) text ≡ w ++ (keyName ++ k) = drop-append-seam c (w ++ (keyName ++ k)) in
     let at-key : drop (length c + length w) text ≡ keyName ++ k = drop-after text w (keyName ++ k) (length c) at-wanted in
     let at-numbers : drop (length c + length w + length keyName) text ≡ k = drop-after text keyName k (length c + length w) at-key in
     let starts : begins keyName (drop (length c + length w) text) ≡ true = ap (begins keyName) at-key ∙ begins-joined keyName k in
     simp (
       le-ltb mostInput (length text) fits,
-      four,
+      lines,
       line-written wantedName text (keyName ++ k) (length c) (a .wanted) wanted-small at-wanted,
       starts,
       list-written text (a .key) (length c + length w + length keyName) key-small at-numbers,

@@ -12,7 +12,7 @@ use Rattle.refusal.specs.declared.Verdict.the-variants.{Accepted, Refused}
 use Rattle.catalogue.specs.declared.Catalogue.{Catalogue}
 use Rattle.text_lines.specs.Lines.{begins, numberText, numberLine}
 use Rattle.catalogue_text.specs.Text.{textOf}
-use Rattle.catalogue_text.specs.Parsing.{fourLines}
+use Rattle.catalogue_text.specs.Parsing.{catalogueLines}
 use Rattle.number_lists.specs.NumberLists.{onNumber, numbersAt, spaced}
 
 -- What an input asks for. The numbers of the key are as they stand, above 255 too
@@ -47,10 +47,10 @@ abbrev pub onKey : Option (List ℕ) → (List ℕ → Asked) → Option Asked
 onKey none found = none
 onKey (some key) found = some (found key)
 
--- the six lines
+-- the catalogue's lines and the two behind them
 unfoldable pub linesAsk : List ℕ → Option Asked
 linesAsk text =
-    let found = fourLines text in
+    let found = catalogueLines text in
     onCatalogue (found .verdict)
     (onNumber (numberLine wantedName text (found .next)) λ wanted next.
     onKey (keyLine text next) (asked (found .catalogue) wanted))

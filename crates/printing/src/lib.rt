@@ -174,7 +174,7 @@ fn put_page(input: &[u8], out: &mut [u8]) -> usize
     if 65536 < input.len() {
         return put_refusal(out, Refusal::Text);
     }
-    let found = catalogue_text::four_lines(input);
+    let found = catalogue_text::catalogue_lines(input);
     let verdict = found.verdict;
     let catalogue = found.catalogue;
     let Verdict::Accepted = verdict else {

@@ -14,7 +14,7 @@ use Rattle.session.specs.declared.Session.{Session}
 abbrev pub newSession : Catalogue → ℕ → List ℕ → Session
 newSession c wanted key = record { catalogue = c; wanted = wanted; key = paddedKey key; issued = noMarks; taken = noMarks }
 
--- zeros, the code short
+-- zeros, the code short, the sum exclusive or
 unfoldable pub zeroSession : Session
 zeroSession = record { catalogue = zeroCatalogue; wanted = 0; key = replicate keyPlaces 0; issued = noMarks; taken = noMarks }
 

@@ -8,7 +8,6 @@ ghost use Rattle.session.specs.Fields.{zeroSession, newSession, markIssu
 ghost use Rattle.session.specs.Calls.{Did};
 ghost use Rattle.session.specs.Calls.{begin as begin·, issue as issue·, takeAnswer, recover as recover·, bound as bound·};
 use catalogue::Catalogue;
-use catalogue::Code;
 use refusal::Outcome;
 use refusal::Verdict;
 use session_checks::keyed;
@@ -62,17 +61,12 @@ pub fn bound(catalogue: Catalogue) -> Outcome
 }
 
 impl Session {
-    // Zeros, the code short: a first value, that the session of a fetch takes the place of, and what a refused begin hands back.
+    // Zeros, the code short, the sum exclusive or: a first value, that the session of a fetch takes the place of, and what a refused begin hands back.
     pub fn blank() -> Session
         ensures { λ r. ⌜ r ≡ zeroSession ⌝ }
     {
         Session {
-            catalogue: Catalogue {
-                code: Code::Short,
-                servers: 0,
-                messages: 0,
-                symbol: 0,
-            },
+            catalogue: catalogue::zero(),
             wanted: 0,
             key: [0; 2048],
             issued: [false; 16],

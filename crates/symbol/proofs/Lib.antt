@@ -1,5 +1,9 @@
 pub mod Bits
 pub mod XorBytes
 pub mod XorGroup
+pub mod OnWords
+pub mod AddWords
+pub mod WordSteps
+pub mod WordsGroup
 pub mod Operations
 pub mod Totals

@@ -1,5 +1,5 @@
--- Laws of exclusive or on byte strings: its length, one byte more of the second string (`xor-more`), and what makes it a group:
--- `xor-bytes-comm`, `xor-bytes-assoc`, `xor-twice`.
+-- Laws of exclusive or on byte strings: its length, one byte more of the second string (`xor-more`), its prefixes (`xor-take`), and what makes it
+-- a group: `xor-bytes-comm`, `xor-bytes-assoc`, `xor-twice`.
 use mathlib.Core.Path.{_≡_, refl, sym, ap, ap₂, _∙_}
 use mathlib.Core.List.{List, [], _∷_}
 use Prim.Native.Nat.{ℕ, zero, suc, _<_}
@@ -63,6 +63,14 @@ xor-bytes-assoc (x ∷ a) [] [] h = refl
 xor-bytes-assoc (x ∷ a) [] (z ∷ c) h = absurd (not-suc-le-zero (le-of-eq (sym h)))
 xor-bytes-assoc (x ∷ a) (y ∷ b) [] h = refl
 xor-bytes-assoc (x ∷ a) (y ∷ b) (z ∷ c) h = ap₂ cons (xor-assoc x y z) (xor-bytes-assoc a b c (suc-inj h))
+
+-- the first n bytes come from the first n bytes
+pub xor-take : (n : ℕ) (a b : List ℕ) → take n (xorBytes a b) ≡ xorBytes (take n a) (take n b)
+unfolding xorBytes
+xor-take zero a b = refl
+xor-take (suc n) [] b = refl
+xor-take (suc n) (x ∷ a) [] = refl
+xor-take (suc n) (x ∷ a) (y ∷ b) = ap (cons (bitXor x y)) (xor-take n a b)
 
 -- what is combined twice is gone
 pub xor-twice : (a b : List ℕ) → xorBytes (xorBytes a b) b ≡ a

@@ -1,4 +1,5 @@
 pub mod Sum
 pub mod Group
 pub mod Xor
+pub mod Words
 pub mod Operations

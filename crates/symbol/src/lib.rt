@@ -5,9 +5,15 @@ ghost use lib.ListN.{length};
 ghost use Rattle.symbol.specs.Xor.{xorBytes};
 ghost use Rattle.symbol.specs.Operations.{sumOf};
 
+// Addition, word by word.
+mod words;
+
 // What symbols are combined by.
 pub enum Operation {
+    // Exclusive or, byte by byte.
     ExclusiveOr,
+    // Addition of 16-bit words, the low byte first.
+    Addition,
 }
 
 // Combines `src` into `dst` by exclusive or, byte by byte.
@@ -29,6 +35,7 @@ pub fn combine(op: Operation, dst: &mut [u8], src: &[u8])
 {
     match op {
         Operation::ExclusiveOr => exclusive_or(dst, src),
+        Operation::Addition => words::change(false, dst, src),
     }
 }
 
@@ -39,6 +46,7 @@ pub fn subtract(op: Operation, from: &mut [u8], taken: &[u8])
 {
     match op {
         Operation::ExclusiveOr => exclusive_or(from, taken),
+        Operation::Addition => words::change(true, from, taken),
     }
 }
 

@@ -4,6 +4,7 @@ use catalogue::Catalogue;
 use catalogue::Code;
 use catalogue::Measured;
 use refusal::Outcome;
+use symbol::Operation;
 use trials::draw;
 use trials::input::Line;
 use trials::show;
@@ -27,14 +28,20 @@ pub fn text(s: State, text: &[u8]) -> State {
     s.with_catalogue(c)
 }
 
-// The catalogue of four numbers: code (0 short, else even), N, K, S.
+// The catalogue of five numbers: code (0 short, else even), N, K, S, and the sum (0 exclusive or, else addition).
 pub fn catalogue_of(line: Line) -> Catalogue {
     let code = if line.a == 0 { Code::Short } else { Code::Even };
+    let sum = if line.e == 0 {
+        Operation::ExclusiveOr
+    } else {
+        Operation::Addition
+    };
     Catalogue {
         code: code,
         servers: line.b,
         messages: line.c,
         symbol: line.d,
+        sum: sum,
     }
 }
 

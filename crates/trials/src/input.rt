@@ -6,13 +6,14 @@ pub struct Number {
     pub next: usize,
 }
 
-// A line: its letter, its first four numbers (0 for each that is not there), and where the next line begins.
+// A line: its letter, its first five numbers (0 for each that is not there), and where the next line begins.
 pub struct Line {
     pub letter: u8,
     pub a: usize,
     pub b: usize,
     pub c: usize,
     pub d: usize,
+    pub e: usize,
     pub next: usize,
 }
 
@@ -80,6 +81,7 @@ fn part(letter: u8, from: usize, to: usize, next: usize) -> Line {
         b: to,
         c: 0,
         d: 0,
+        e: 0,
         next: next,
     }
 }
@@ -102,12 +104,14 @@ pub fn line_at(text: &[u8], at: usize) -> Line {
     let b = number_at(text, a.next);
     let c = number_at(text, b.next);
     let d = number_at(text, c.next);
+    let e = number_at(text, d.next);
     Line {
         letter: letter,
         a: a.value,
         b: b.value,
         c: c.value,
         d: d.value,
-        next: after(d.next, text.len()),
+        e: e.value,
+        next: after(e.next, text.len()),
     }
 }

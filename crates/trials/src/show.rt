@@ -6,6 +6,7 @@ use libc::STDOUT_FILENO;
 use refusal::Outcome;
 use refusal::Verdict;
 use session::Session;
+use symbol::Operation;
 
 // Prints a letter at the start of a line.
 pub fn letter(b: u8) {
@@ -99,13 +100,23 @@ fn code_number(code: Code) -> usize {
     }
 }
 
-// Prints a catalogue: its code, N, K and S.
+// 0 for exclusive or, 1 for addition.
+fn sum_number(sum: Operation) -> usize {
+    match sum {
+        Operation::ExclusiveOr => 0,
+        Operation::Addition => 1,
+    }
+}
+
+// Prints a catalogue: its code, N, K, S and its sum.
 pub fn catalogue(c: Catalogue) {
     let code = c.code;
     number(code_number(code));
     number(c.servers);
     number(c.messages);
     number(c.symbol);
+    let sum = c.sum;
+    number(sum_number(sum));
 }
 
 // Marks as a number, the first one the most.

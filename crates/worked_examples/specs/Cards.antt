@@ -14,6 +14,7 @@ use Rattle.refusal.specs.Numbers.{refusalOf}
 use Rattle.refusal.specs.Chain.{refused}
 use Rattle.parameters.specs.Measures.{evenRows}
 use Rattle.scheme.specs.Scheme.{honestAnswers}
+use Rattle.symbol.specs.declared.Operation.the-variants.{ExclusiveOr}
 use Rattle.catalogue.specs.declared.Catalogue.{Catalogue}
 use Rattle.catalogue.specs.declared.Code.{Code}
 use Rattle.catalogue.specs.declared.Code.the-variants.{Short, Even}
@@ -55,9 +56,9 @@ Holds (rows N K many) = evenRows N K ∷ length (layout N K) ∷ [] ≡ many ∷
 Holds (judges c verdict) = catalogueVerdict c ≡ verdict
 Holds (begins c wanted key verdict) = beginVerdict schemeOf c wanted key ≡ verdict
 
--- a catalogue: code, servers, messages, symbol
+-- a catalogue of exclusive or: code, servers, messages, symbol
 abbrev pub cat : Code → ℕ → ℕ → ℕ → Catalogue
-cat code N K S = record { code = code; servers = N; messages = K; symbol = S }
+cat code N K S = record { code = code; servers = N; messages = K; symbol = S; sum = ExclusiveOr }
 
 -- the messages 5A and C3 (hex) of B2 and B3
 abbrev pair : List ℕ

@@ -6,8 +6,8 @@ use borrow.Author.Needs.{needs}
 use Rattle.catalogue_text.proofs.read.Statement.{statement}
 use Rattle.catalogue_text.proofs.read.Tie as tie
 
-four-lines-requires : tie.Need-four-lines-requires
-four-lines-requires c κs = search needs
+catalogue-lines-requires : tie.Need-catalogue-lines-requires
+catalogue-lines-requires c κs = search needs
 
 enum-known-verdict : tie.Need-enum-known-verdict
 enum-known-verdict c = search needs
@@ -18,7 +18,7 @@ refused-reading-requires c κs = search needs
 returns : tie.Need-returns
 returns c =
     let found = c .before .before .before .before .before in
-    c .refused-reading .ensures ∙ sym (read-is _ ∙ simp (sym (found .four-lines .ensures), c .before .before .verdict .given .1))
+    c .refused-reading .ensures ∙ sym (read-is _ ∙ simp (sym (found .catalogue-lines .ensures), c .before .before .verdict .given .1))
 
 enum-told : tie.Need-enum-told
 enum-told c = search needs
@@ -31,7 +31,7 @@ returns-2 c =
     let told = c .before .before in
     let found = told .before .before .before in
     c .refused-reading2 .ensures
-    ∙ sym (read-is _ ∙ simp (sym (found .four-lines .ensures), told .enum-told .given .1, ne-eqb _ _ (c .before .if1 .taken)))
+    ∙ sym (read-is _ ∙ simp (sym (found .catalogue-lines .ensures), told .enum-told .given .1, ne-eqb _ _ (c .before .if1 .taken)))
 
 verdict-requires : tie.Need-verdict-requires
 verdict-requires c κs = search needs
@@ -49,7 +49,7 @@ returns-3 c =
     let found = told .before .before .before in
     c .refused-reading3 .ensures
     ∙ sym (read-is _ ∙ simp (
-      sym (found .four-lines .ensures),
+      sym (found .catalogue-lines .ensures),
       told .enum-told .given .1,
       eq-eqb _ _ (asked .before .if1 .left),
       sym (asked .verdict2 .ensures) ∙ c .before .before .refusal .given .1,
@@ -64,7 +64,7 @@ returns-4 c =
     let told = asked .before .before in
     let found = told .before .before .before in
     sym (read-is _ ∙ simp (
-      sym (found .four-lines .ensures),
+      sym (found .catalogue-lines .ensures),
       told .enum-told .given .1,
       eq-eqb _ _ (asked .before .if1 .left),
       sym (asked .verdict2 .ensures) ∙ c .enum-told2 .given .1,
@@ -74,7 +74,7 @@ pub read-spec : {M : Type 1} → statement M
 read-spec =
     tie.close
     (tie.spec
-    four-lines-requires
+    catalogue-lines-requires
     enum-known-verdict
     refused-reading-requires
     returns

@@ -5,8 +5,8 @@ use borrow.Author.Needs.{needs}
 use Rattle.catalogue_text.proofs.read_lines.Statement.{statement}
 use Rattle.catalogue_text.proofs.read_lines.Tie as tie
 
-four-lines-requires : tie.Need-four-lines-requires
-four-lines-requires c κs = search needs
+catalogue-lines-requires : tie.Need-catalogue-lines-requires
+catalogue-lines-requires c κs = search needs
 
 enum-known-verdict : tie.Need-enum-known-verdict
 enum-known-verdict c = search needs
@@ -17,7 +17,7 @@ refused-requires c κs = search needs
 returns : tie.Need-returns
 returns c =
     let found = c .before .before .before .before .before in
-    c .refused .ensures ∙ sym (lines-is _ ∙ simp (sym (found .four-lines .ensures), c .before .before .verdict .given .1))
+    c .refused .ensures ∙ sym (lines-is _ ∙ simp (sym (found .catalogue-lines .ensures), c .before .before .verdict .given .1))
 
 enum-told : tie.Need-enum-told
 enum-told c = search needs
@@ -38,7 +38,7 @@ returns-2 c =
     let found = told .before .before .before in
     c .refused2 .ensures
     ∙ sym (lines-is _ ∙ simp (
-      sym (found .four-lines .ensures),
+      sym (found .catalogue-lines .ensures),
       told .enum-told .given .1,
       sym (asked .verdict2 .ensures) ∙ c .before .before .refusal .given .1,
     ))
@@ -51,13 +51,13 @@ returns-3 c =
     let asked = c .before .before in
     let told = asked .before in
     let found = told .before .before .before in
-    sym (lines-is _ ∙ simp (sym (found .four-lines .ensures), told .enum-told .given .1, sym (asked .verdict2 .ensures) ∙ c .enum-told2 .given .1))
+    sym (lines-is _ ∙ simp (sym (found .catalogue-lines .ensures), told .enum-told .given .1, sym (asked .verdict2 .ensures) ∙ c .enum-told2 .given .1))
 
 pub read-lines-spec : {M : Type 1} → statement M
 read-lines-spec =
     tie.close
     (tie.spec
-    four-lines-requires
+    catalogue-lines-requires
     enum-known-verdict
     refused-requires
     returns

@@ -3,7 +3,7 @@ use native.Mathlib.Omega.{arith}
 use borrow.Author.Needs.{needs}
 use Rattle.text_lines.proofs.NumberLines.{number-text-most}
 use Rattle.catalogue_text.specs.Text.{serversName, messagesName, symbolName}
-use Rattle.catalogue_text.proofs.TextParts.{code-most, text-length}
+use Rattle.catalogue_text.proofs.TextParts.{code-most, sum-most, text-length}
 use Rattle.catalogue_text.proofs.text_length.Statement.{statement}
 use Rattle.catalogue_text.proofs.text_length.Tie as tie
 
@@ -48,8 +48,8 @@ slice-aggregate-line-length-3 c = search needs
 line-length-requires-3 : tie.Need-line-length-requires-3
 line-length-requires-3 c κs = search needs
 
-add-result : tie.Need-add-result
-add-result c =
+add-e : tie.Need-add-e
+add-e c =
     let value = c .before .before .before .before .before .before .before .args .c in
     let a = code-most (value .code) in
     let e = c .before .before .before .before .before .before .code-length .ensures in
@@ -61,13 +61,32 @@ add-result c =
     let h = c .line-length3 .ensures in
     omega arith
 
+sum-length-requires : tie.Need-sum-length-requires
+sum-length-requires c κs = search needs
+
+add-result : tie.Need-add-result
+add-result c =
+    let value = c .before .before .before .before .before .before .before .before .args .c in
+    let a = code-most (value .code) in
+    let e = c .before .before .before .before .before .before .before .code-length .ensures in
+    let n = number-text-most serversName 19 (value .servers) (search needs) in
+    let f = c .before .before .before .before .before .line-length .ensures in
+    let k = number-text-most messagesName 19 (value .messages) (search needs) in
+    let g = c .before .before .before .line-length2 .ensures in
+    let s = number-text-most symbolName 19 (value .symbol) (search needs) in
+    let h = c .before .line-length3 .ensures in
+    let m = sum-most (value .sum) in
+    let i = c .sum-length .ensures in
+    omega arith
+
 returns : tie.Need-returns
 returns c =
-    let t = text-length (c .before .before .before .before .before .before .before .args .c) in
-    let e = c .before .before .before .before .before .before .code-length .ensures in
-    let f = c .before .before .before .before .line-length .ensures in
-    let g = c .before .before .line-length2 .ensures in
-    let h = c .line-length3 .ensures in
+    let t = text-length (c .before .before .before .before .before .before .before .before .args .c) in
+    let e = c .before .before .before .before .before .before .before .code-length .ensures in
+    let f = c .before .before .before .before .before .line-length .ensures in
+    let g = c .before .before .before .line-length2 .ensures in
+    let h = c .before .line-length3 .ensures in
+    let i = c .sum-length .ensures in
     omega arith
 
 pub text-length-spec : {M : Type 1} → statement M
@@ -83,5 +102,7 @@ text-length-spec =
     add-d
     slice-aggregate-line-length-3
     line-length-requires-3
+    add-e
+    sum-length-requires
     add-result
     returns)

@@ -4,7 +4,6 @@ use Rattle.parameters.specs.Measures.{evenSizes}
 use Rattle.symbol.specs.Operations.{sumOf}
 use Rattle.symbol.proofs.Operations.{group-of}
 use Rattle.even_scheme.proofs.Promises.{even-written}
-use Rattle.codes.specs.Codes.{operation}
 use Rattle.codes.proofs.Promises.{admitted-short, admitted-even, scheme-short, scheme-even}
 use borrow.Author.Needs.{needs}
 use Rattle.codes.proofs.recover.Statement.{statement}
@@ -52,7 +51,7 @@ returns-2 c =
     let p = rw (scheme-even (a .c) e) at (start .pre) in
     rw (scheme-even (a .c) e)
     (c .before .before .recover2 .ensures
-    ∙ even-written (sumOf operation) (a .c .servers) (a .c .messages) (a .c .symbol) (group-of operation (a .c .symbol))
+    ∙ even-written (sumOf (a .c .sum)) (a .c .servers) (a .c .messages) (a .c .symbol) (group-of (a .c .sum) (a .c .symbol))
     (admitted-even (a .c) (start .pre .0) e) (a .wanted) (p .1 .0) (a .key .now)
     (p .1 .1 .0) (a .answers .now) (p .1 .1 .1 .0) (a .message .now) (p .1 .1 .1 .1))
 

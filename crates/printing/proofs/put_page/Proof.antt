@@ -31,8 +31,8 @@ returns c =
     let e : printed schemeOf (a .input .now) ≡ refusalLine Text = simp (lt-ltb _ _ long) in
     written-as _ _ (a .out .now) _ _ e (c .before .before .put-refusal .ensures)
 
-four-lines-requires : tie.Need-four-lines-requires
-four-lines-requires c κs = search needs
+catalogue-lines-requires : tie.Need-catalogue-lines-requires
+catalogue-lines-requires c κs = search needs
 
 enum-told : tie.Need-enum-told
 enum-told c = search needs
@@ -53,7 +53,7 @@ returns-2 c =
     let short = lines .before in
     let a = short .before .before .before .args in
     let e : printed schemeOf (a .input .now) ≡ refusalLine Text =
-    simp (le-ltb _ _ (short .if1 .left), sym (lines .four-lines .ensures), c .before .before .before .before .enum-told2 .given .1) in
+    simp (le-ltb _ _ (short .if1 .left), sym (lines .catalogue-lines .ensures), c .before .before .before .before .enum-told2 .given .1) in
     written-as _ _ (a .out .now) _ _ e (c .before .before .put-refusal2 .ensures)
 
 slice-aggregate-number-line : tie.Need-slice-aggregate-number-line
@@ -84,7 +84,7 @@ returns-3 c =
     let a = short .before .before .before .args in
     let wanted = sym (line .number-line .ensures) ∙ c .before .before .before .before .enum-told3 .given .1 in
     let e : printed schemeOf (a .input .now) ≡ refusalLine Text =
-    simp (le-ltb _ _ (short .if1 .left), sym (lines .four-lines .ensures), found .enum-told .given .1, wanted) in
+    simp (le-ltb _ _ (short .if1 .left), sym (lines .catalogue-lines .ensures), found .enum-told .given .1, wanted) in
     written-as _ _ (a .out .now) _ _ e (c .before .before .put-refusal3 .ensures)
 
 scan-key-requires : tie.Need-scan-key-requires
@@ -117,7 +117,7 @@ returns-4 c =
     let none = sym (scanned .scan-key .ensures) ∙ c .before .before .before .before .enum-told4 .given .1 in
     let key = scan-refused (keyLine text (asks .wanted .given .0 .1 .0)) none in
     let e : printed schemeOf text ≡ refusalLine Text =
-    simp (le-ltb _ _ (short .if1 .left), sym (lines .four-lines .ensures), found .enum-told .given .1, wanted, key) in
+    simp (le-ltb _ _ (short .if1 .left), sym (lines .catalogue-lines .ensures), found .enum-told .given .1, wanted, key) in
     written-as _ _ (a .out .now) _ _ e (c .before .before .put-refusal4 .ensures)
 
 add-put-asked : tie.Need-add-put-asked
@@ -152,9 +152,9 @@ returns-5 c =
     let wanted = sym (line .number-line .ensures) ∙ asks .wanted .given .1 in
     let key = numbers ∙ scanned-some _ _ _ (ap scanOf (sym numbers) ∙ told) in
     let at = asks .wanted .given .0 .1 .0 + 4 in
-    let ask = asked (lines .four-lines .result .catalogue) (asks .wanted .given .0 .0) (listOf (numbersAt text at)) in
+    let ask = asked (lines .catalogue-lines .result .catalogue) (asks .wanted .given .0 .0) (listOf (numbersAt text at)) in
     let e : printed schemeOf text ≡ answerTo schemeOf ask =
-    simp (le-ltb _ _ (short .if1 .left), sym (lines .four-lines .ensures), found .enum-told .given .1, wanted, key) in
+    simp (le-ltb _ _ (short .if1 .left), sym (lines .catalogue-lines .ensures), found .enum-told .given .1, wanted, key) in
     written-as _ _ (a .out .now) _ _ e (c .before .before .put-asked .ensures)
 
 pub put-page-spec : {M : Type 1} → statement M
@@ -164,7 +164,7 @@ put-page-spec =
     put-refusal-requires
     same-length
     returns
-    four-lines-requires
+    catalogue-lines-requires
     enum-told
     enum-told-2
     put-refusal-requires-2

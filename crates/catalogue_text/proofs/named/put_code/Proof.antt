@@ -1,7 +1,7 @@
--- `catalogue_text::put_code` meets its contract: the line that is written is the code's.
+-- `catalogue_text::named::put_code` meets its contract: the line that is written is the code's.
 use borrow.Author.Needs.{needs}
-use Rattle.catalogue_text.proofs.put_code.Statement.{statement}
-use Rattle.catalogue_text.proofs.put_code.Tie as tie
+use Rattle.catalogue_text.proofs.named.put_code.Statement.{statement}
+use Rattle.catalogue_text.proofs.named.put_code.Tie as tie
 
 enum-told : tie.Need-enum-told
 enum-told c = search needs

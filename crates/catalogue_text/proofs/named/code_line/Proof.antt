@@ -1,9 +1,9 @@
--- `catalogue_text::code_line` meets its contract: the tests are the definition's.
+-- `catalogue_text::named::code_line` meets its contract: the tests are the definition's.
 use mathlib.Core.Path.{sym, _∙_}
 use Rattle.catalogue_text.specs.Parsing.{codeLine}
 use borrow.Author.Needs.{needs}
-use Rattle.catalogue_text.proofs.code_line.Statement.{statement}
-use Rattle.catalogue_text.proofs.code_line.Tie as tie
+use Rattle.catalogue_text.proofs.named.code_line.Statement.{statement}
+use Rattle.catalogue_text.proofs.named.code_line.Tie as tie
 
 slice-aggregate-starts : tie.Need-slice-aggregate-starts
 slice-aggregate-starts c = search needs

@@ -1,9 +1,9 @@
--- `catalogue_text::four_lines` meets its contract: each line that is taken apart is the definition's line at that place.
+-- `catalogue_text::catalogue_lines` meets its contract: each line that is taken apart is the definition's line at that place.
 use mathlib.Core.Path.{sym, _∙_}
-use Rattle.catalogue_text.specs.Parsing.{fourLines}
+use Rattle.catalogue_text.specs.Parsing.{catalogueLines}
 use borrow.Author.Needs.{needs}
-use Rattle.catalogue_text.proofs.four_lines.Statement.{statement}
-use Rattle.catalogue_text.proofs.four_lines.Tie as tie
+use Rattle.catalogue_text.proofs.catalogue_lines.Statement.{statement}
+use Rattle.catalogue_text.proofs.catalogue_lines.Tie as tie
 
 code-line-requires : tie.Need-code-line-requires
 code-line-requires c κs = search needs
@@ -18,7 +18,7 @@ refused-requires : tie.Need-refused-requires
 refused-requires c κs = search needs
 
 returns : tie.Need-returns
-unfolding fourLines
+unfolding catalogueLines
 returns c = c .refused .ensures ∙ simp (sym (c .before .before .before .code-line .ensures) ∙ c .before .enum-told .given .1)
 
 slice-aggregate-number-line : tie.Need-slice-aggregate-number-line
@@ -37,7 +37,7 @@ refused-requires-2 : tie.Need-refused-requires-2
 refused-requires-2 c κs = search needs
 
 returns-2 : tie.Need-returns-2
-unfolding fourLines
+unfolding catalogueLines
 returns-2 c =
     let code = c .before .before .before .before .before .before in
     c .refused2 .ensures
@@ -62,7 +62,7 @@ refused-requires-3 : tie.Need-refused-requires-3
 refused-requires-3 c κs = search needs
 
 returns-3 : tie.Need-returns-3
-unfolding fourLines
+unfolding catalogueLines
 returns-3 c =
     let n = c .before .before .before .before .before .before in
     let code = n .before .before .before .before .before in
@@ -89,7 +89,7 @@ refused-requires-4 : tie.Need-refused-requires-4
 refused-requires-4 c κs = search needs
 
 returns-4 : tie.Need-returns-4
-unfolding fourLines
+unfolding catalogueLines
 returns-4 c =
     let k = c .before .before .before .before .before .before in
     let n = k .before .before .before .before .before in
@@ -102,13 +102,45 @@ returns-4 c =
       sym (c .before .before .before .number-line3 .ensures) ∙ c .before .enum-told4 .given .1,
     )
 
+sum-line-requires : tie.Need-sum-line-requires
+sum-line-requires c κs = search needs
+
+enum-known-sum : tie.Need-enum-known-sum
+enum-known-sum c = search needs
+
+enum-told-5 : tie.Need-enum-told-5
+enum-told-5 c = search needs
+
+refused-requires-5 : tie.Need-refused-requires-5
+refused-requires-5 c κs = search needs
+
+returns-5 : tie.Need-returns-5
+unfolding catalogueLines
+returns-5 c =
+    let s = c .before .before .before .before .before in
+    let k = s .before .before .before .before .before in
+    let n = k .before .before .before .before .before in
+    let code = n .before .before .before .before .before in
+    c .refused5 .ensures
+    ∙ simp (
+      sym (code .before .before .code-line .ensures) ∙ code .code .given .1,
+      sym (n .before .before .number-line .ensures) ∙ n .n .given .1,
+      sym (k .before .before .number-line2 .ensures) ∙ k .k .given .1,
+      sym (s .before .before .number-line3 .ensures) ∙ s .s .given .1,
+      sym (c .before .before .before .sum-line .ensures) ∙ c .before .enum-told5 .given .1,
+    )
+
 code-named-requires : tie.Need-code-named-requires
 code-named-requires c κs = search needs
 
-returns-5 : tie.Need-returns-5
-unfolding fourLines
-returns-5 c =
-    let s = c .before .before in
+sum-named-requires : tie.Need-sum-named-requires
+sum-named-requires c κs = search needs
+
+returns-6 : tie.Need-returns-6
+unfolding catalogueLines
+returns-6 c =
+    let sum = c .before .before .before in
+    let s = sum .before .before .before .before in
     let k = s .before .before .before .before .before in
     let n = k .before .before .before .before .before in
     let code = n .before .before .before .before .before in
@@ -117,11 +149,13 @@ returns-5 c =
       sym (n .before .before .number-line .ensures) ∙ n .n .given .1,
       sym (k .before .before .number-line2 .ensures) ∙ k .k .given .1,
       sym (s .before .before .number-line3 .ensures) ∙ s .s .given .1,
-      c .code-named .ensures,
+      sym (sum .before .before .sum-line .ensures) ∙ sum .sum .given .1,
+      c .before .code-named .ensures,
+      c .sum-named .ensures,
     )
 
-pub four-lines-spec : {M : Type 1} → statement M
-four-lines-spec =
+pub catalogue-lines-spec : {M : Type 1} → statement M
+catalogue-lines-spec =
     tie.close
     (tie.spec
     code-line-requires
@@ -147,5 +181,11 @@ four-lines-spec =
     enum-told-4
     refused-requires-4
     returns-4
+    sum-line-requires
+    enum-known-sum
+    enum-told-5
+    refused-requires-5
+    returns-5
     code-named-requires
-    returns-5)
+    sum-named-requires
+    returns-6)
