@@ -100,7 +100,8 @@ module _ (c : Catalogue) where
   refused-odd-symbol = (
     λ e. cases (λ out v. other-number (refusalOf 2) (refusalOf 15) refl (sym v ∙ e))
         (λ within one v. other-number (refusalOf 17) (refusalOf 15) refl (sym v ∙ e))
-        (λ within two odd v. let o = odd-added (c .sum) (c .symbol) odd in (within, two, o .0, o .1)) (λ within two whole a. not-refused (refusalOf 15) (sym e ∙ a)),
+        (λ within two odd v. let o = odd-added (c .sum) (c .symbol) odd in (within, two, o .0, o .1))
+        (λ within two whole a. not-refused (refusalOf 15) (sym e ∙ a)),
     λ h. judged true false false (h .0) (not-one (h .1)) (added-odd (c .sum) (c .symbol) (h .2) (h .3)),
   )
 

@@ -36,7 +36,8 @@ module _ (text : List ℕ) where
   -- a whole text: the lines, then its end, then the catalogue
   abbrev pub readVerdict : Verdict
   readVerdict =
-      andThen (catalogueLines text .verdict) (refuseIf (not (eqb (catalogueLines text .next) (length text))) 1 (catalogueVerdict (catalogueLines text .catalogue)))
+      andThen (catalogueLines text .verdict)
+      (refuseIf (not (eqb (catalogueLines text .next) (length text))) 1 (catalogueVerdict (catalogueLines text .catalogue)))
 
   pub read-chain : foremost (readFaults text) ≡ readVerdict
   read-chain =

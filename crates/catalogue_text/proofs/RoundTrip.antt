@@ -48,7 +48,8 @@ text-or-refused text = ⊎-elim no-lines (λ r. go r (eqb (catalogueLines text .
     go : LinesRead text (catalogueLines text) → (t : Bool) → eqb (catalogueLines text .next) (length text) ≡ t
         → ((c : Catalogue) × FiveDigits c × (textOf c ≡ text)) ⊎ (readOf text ≡ unread (refusalOf 1))
     go r true e =
-        let end : drop (catalogueLines text .next) text ≡ [] = ap (λ (n : ℕ). drop n text) (eqb-true (catalogueLines text .next) (length text) e) ∙ drop-length text in
+        let end : drop (catalogueLines text .next) text ≡ [] =
+        ap (λ (n : ℕ). drop n text) (eqb-true (catalogueLines text .next) (length text) e) ∙ drop-length text in
         let text-is : textOf (catalogueLines text .catalogue) ≡ text =
         sym (r .here ∙ ap (λ (l : List ℕ). textOf (catalogueLines text .catalogue) ++ l) end ∙ append-nil (textOf (catalogueLines text .catalogue))) in
         inl (catalogueLines text .catalogue, r .digits, text-is)
@@ -149,7 +150,8 @@ pub starts-or-refused : (text : List ℕ)
     → ((c : Catalogue) × (rest : List ℕ) × FiveDigits c × Ends c rest × (textOf c ++ rest ≡ text)) ⊎ (linesOf text ≡ refusedLines (refusalOf 1))
 starts-or-refused text =
     ⊎-elim (λ (e : catalogueLines text ≡ refusedLines (refusalOf 1)). inr (lines-is text ∙ simp e))
-    (λ (r : LinesRead text (catalogueLines text)). inl (catalogueLines text .catalogue, drop (catalogueLines text .next) text, r .digits, r .ends, sym (r .here)))
+    (λ (r : LinesRead text (catalogueLines text)).
+    inl (catalogueLines text .catalogue, drop (catalogueLines text .next) text, r .digits, r .ends, sym (r .here)))
     (lines-cases text)
 
 -- refused 1 exactly if no value's text stands at the start and ends there

@@ -111,7 +111,8 @@ add-zeros (y ∷ w ∷ b) p =
     let e : addAt 65536 0 (word y w) ≡ word y w = omega arith in
     ap₂ wordThen e (add-zeros b (λ i h. p (suc (suc i)) (omega arith))) ∙ bytes-word y w b hy
 
--- a carry goes into the high byte, the wrap at 65,536 into nothing, and no word into the next
-pub some-words : (addWords (255 ∷ 0 ∷ 7 ∷ []) (1 ∷ 0 ∷ 250 ∷ []) ≡ 0 ∷ 1 ∷ 1 ∷ []) × (addWords (255 ∷ 255 ∷ 0 ∷ 0 ∷ []) (1 ∷ 0 ∷ 0 ∷ 0 ∷ []) ≡ 0 ∷ 0 ∷ 0 ∷ 0 ∷ [])
+-- a carry goes into the high byte, the wrap at 65,536 into nothing, no word into the next, and a lone byte wraps at 256
+pub some-words : (addWords (255 ∷ 0 ∷ 7 ∷ []) (1 ∷ 0 ∷ 250 ∷ []) ≡ 0 ∷ 1 ∷ 1 ∷ [])
+    × (addWords (255 ∷ 255 ∷ 0 ∷ 0 ∷ []) (1 ∷ 0 ∷ 0 ∷ 0 ∷ []) ≡ 0 ∷ 0 ∷ 0 ∷ 0 ∷ [])
 unfolding onWords
 some-words = (refl, refl)

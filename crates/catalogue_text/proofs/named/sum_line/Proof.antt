@@ -58,8 +58,11 @@ starts-requires-2 c κs = search needs
 
 -- and that of the whole line
 added : (c : tie.After-starts2)
-    → let a = c .before .before .before .before .before .before .before .before .before .args in c .starts2 .result ≡ begins (ascii "sum=add\n") (drop (a .at) (a .text .now))
-added c = let a = c .before .before .before .before .before .before .before .before .before .args in c .starts2 .ensures ∙ ap (begins (ascii "sum=add\n")) (to-end (a .text .now) (a .at))
+    → let a = c .before .before .before .before .before .before .before .before .before .args in
+    c .starts2 .result ≡ begins (ascii "sum=add\n") (drop (a .at) (a .text .now))
+added c =
+    let a = c .before .before .before .before .before .before .before .before .before .args in
+    c .starts2 .ensures ∙ ap (begins (ascii "sum=add\n")) (to-end (a .text .now) (a .at))
 
 add-t19 : tie.Need-add-t19
 add-t19 c = search needs
