@@ -22,9 +22,12 @@ extern "C" {
  * first of this list is given. */
 enum gozimpe_refusal {
     GOZIMPE_TEXT = 1,         /* the catalogue is not in its text form, or a byte follows its last line */
-    GOZIMPE_BOUNDS = 2,       /* the catalogue's mirrors, packs or piece length are out of bounds */
+    GOZIMPE_BOUNDS = 2,       /* the catalogue's mirrors, packs or piece length are out of bounds, or it does not open before
+                               * it closes */
     GOZIMPE_ONE_PACK = 17,    /* the catalogue has a single pack: no request could hide which pack is wanted */
     GOZIMPE_ODD_PIECE = 15,   /* the catalogue adds words (sum=add), and its piece length is odd */
+    GOZIMPE_UNREAL_DAY = 13,  /* the catalogue has a season, and the given day is no real day of the years 2000 to 2399 */
+    GOZIMPE_SEASON = 14,      /* the given day is outside the catalogue's season */
     GOZIMPE_MIRROR = 3,       /* the mirror number is not below the number of mirrors */
     GOZIMPE_REQUEST = 7,      /* the request is not one that this mirror admits */
     GOZIMPE_STORE_LENGTH = 8, /* the store is not packs x pieces x piece bytes long */
@@ -33,12 +36,17 @@ enum gozimpe_refusal {
 
 /* Answers one request.
  *
- * catalogue: the catalogue's text, four lines or five, each ended by a newline (byte 10), nothing after them:
+ * catalogue: the catalogue's text, four lines to seven, each ended by a newline (byte 10), nothing after them:
  *                code=short          (or code=even)
  *                mirrors=3           N, 2 to 16
  *                packs=3             K: short, 2 to 32; even, 2 or more with N to the power of K at most 256;
  *                                    1 is refused by a number of its own (GOZIMPE_ONE_PACK)
  *                piece=4             S, 1 to 4096: the bytes of a piece
+ *                open=2026-03-01     the season: its first day, and
+ *                close=2027-03-01    the first day after it. Both lines or neither, each with four digits, hyphen,
+ *                                    two, hyphen, two: a real day of the Gregorian calendar, years 2000 to 2399,
+ *                                    or the text is out of form (GOZIMPE_TEXT). A catalogue without the lines
+ *                                    is served on every day
  *                sum=add             (or no such line, and no other value) how pieces are combined into an
  *                                    answer. Without the line by exclusive or, byte by byte. With it they
  *                                    are added as rows of 16-bit words: the bytes 0 and 1 of a piece are its
@@ -46,6 +54,9 @@ enum gozimpe_refusal {
  *                                    wraps at 65536, and nothing is carried from one word into another. S
  *                                    must then be even (GOZIMPE_ODD_PIECE). Which requests are admitted, and
  *                                    how long the answers are, is the same with the line and without
+ * year, month, day: today's date, in the calendar and the time zone that the mirrors have agreed on. If the catalogue
+ *            has a season, a request is answered on the days of it alone: 13 is given for a day that does not exist,
+ *            14 for one outside. Without the two lines the three numbers are not looked at, whatever they are.
  * mirror:    which mirror this is, 0 to N-1.
  * store:     the packs. A pack has N-1 pieces in the short code and N to the power of K in the even code,
  *            each of S bytes: the store has K x pieces x S bytes.
@@ -55,7 +66,7 @@ enum gozimpe_refusal {
  *            N^(K-1) + (N^(K-1) - 1)/(N - 1).
  *
  * Returns the length of the answer, 0 or more, or a refusal number with a minus sign. Where several
- * refusals apply, the first of 1, 2, 17, 15, 3, 7, 8, 9 is given.
+ * refusals apply, the first of 1, 2, 17, 15, 13, 14, 3, 7, 8, 9 is given.
  *
  * An answer of n bytes is written to answer[0] .. answer[n-1], and nothing else is written. 0 means an
  * empty answer: in the short code the row of zeros, which only mirror 0 can get, is answered with no bytes,
@@ -67,10 +78,11 @@ enum gozimpe_refusal {
  * store that is a mapped file must not be written or made shorter meanwhile. The pointer of a buffer of
  * length 0 may be anything, NULL too.
  *
- * Have 16 KiB of stack left at each call. Measured: 4,408 bytes; 7,544 in a process's first call, in which
+ * Have 16 KiB of stack left at each call. Measured: 4,440 bytes; 7,608 in a process's first call, in which
  * the loader may look up memcpy.
  */
 int64_t gozimpe_answer(const uint8_t *catalogue, size_t catalogue_len,
+                       uint32_t year, uint32_t month, uint32_t day,
                        uint64_t mirror,
                        const uint8_t *store, size_t store_len,
                        const uint8_t *request, size_t request_len,
@@ -78,7 +90,7 @@ int64_t gozimpe_answer(const uint8_t *catalogue, size_t catalogue_len,
 
 /* The length of the longest answer under a catalogue: an answer buffer of this many bytes is always enough.
  *
- * catalogue: the catalogue's text, as above. Returns the length, 1 or more, or -GOZIMPE_TEXT,
+ * catalogue: the catalogue's text, as above. No season is tested. Returns the length, 1 or more, or -GOZIMPE_TEXT,
  * -GOZIMPE_BOUNDS, -GOZIMPE_ONE_PACK or -GOZIMPE_ODD_PIECE. Everything else is as for gozimpe_answer.
  */
 int64_t gozimpe_longest_answer(const uint8_t *catalogue, size_t catalogue_len);

@@ -1,18 +1,30 @@
 /* Runs the real archive from C: the bench cards B2 to B6, both codes in both sums against a plain reference, every refusal from both sides
  * of its condition, and buffers of exact, longer and shorter length. Every buffer lies between guard bytes; with the argument
  * `exact` each is an allocation of just its length instead, so that valgrind sees every byte outside. A call with buffers of
- * length 0 is made once for each choice of those whose pointer is NULL, none and all of them included.
+ * length 0 is made once for each choice of those whose pointer is NULL, none and all of them included. Catalogues without a season are
+ * asked on days of every kind, real or not.
  */
+#define _DEFAULT_SOURCE
 #include <inttypes.h>
 #include <stdio.h>
 #include <stdlib.h>
 #include <string.h>
+#include <time.h>
 
 #include "gozimpe.h"
 
 enum { GUARD = 64, FILL = 0xA5 };
 
 static int exact, checks, failures;
+
+struct day {
+    uint32_t year, month, day;
+};
+
+/* the day of the calls; where `any_day` is set, another one of these for each */
+static struct day today;
+static int any_day = 1;
+static const struct day days[] = {{0, 0, 0}, {2024, 2, 29}, {2023, 2, 29}, {1999, 12, 31}, {2400, 1, 1}, {UINT32_MAX, UINT32_MAX, UINT32_MAX}, {2024, 13, 1}, {20240, 1, 1}};
 
 static void expect(int ok, const char *what, long detail) {
     checks++;
@@ -58,7 +70,9 @@ static uint8_t *pointer(const struct buffer *b, unsigned nulls, unsigned which) 
 static void once(const char *what, const char *catalogue, size_t catalogue_len, uint64_t mirror, const uint8_t *store, size_t store_len,
                  const uint8_t *request, size_t request_len, size_t room, int64_t want, const uint8_t *bytes, unsigned nulls) {
     struct buffer c = make(catalogue_len, catalogue), s = make(store_len, store), q = make(request_len, request), a = make(room, NULL);
-    int64_t got = gozimpe_answer(pointer(&c, nulls, CATALOGUE), c.length, mirror, pointer(&s, nulls, STORE), s.length,
+    static size_t turn;
+    struct day on = any_day ? days[turn++ % (sizeof days / sizeof *days)] : today;
+    int64_t got = gozimpe_answer(pointer(&c, nulls, CATALOGUE), c.length, on.year, on.month, on.day, mirror, pointer(&s, nulls, STORE), s.length,
                                  pointer(&q, nulls, REQUEST), q.length, pointer(&a, nulls, ANSWER), a.length);
     size_t written = want > 0 ? (size_t)want : 0;
     expect(got == want, what, (long)got);
@@ -243,6 +257,10 @@ static void catalogues(void) {
         "code=short\npacks=2\nmirrors=2\npiece=1\n", "code=short\nmirrors=\npacks=2\npiece=1\n", "code=short \nmirrors=2\npacks=2\npiece=1\n",
         "code=short\nmirrors=2\npacks=2\npiece=2\nsum=xor\n", "code=short\nmirrors=2\npacks=2\npiece=2\nsum=\n", "code=short\nmirrors=2\npacks=2\npiece=2\nsum=add",
         "code=short\nmirrors=2\npacks=2\npiece=2\nsum=add\nsum=add\n", "code=short\nmirrors=2\npacks=2\nsum=add\npiece=2\n",
+        "code=short\nmirrors=2\npacks=2\npiece=1\nopen=2024-02-29\n", "code=short\nmirrors=2\npacks=2\npiece=1\nclose=2024-02-29\n",
+        "code=short\nmirrors=2\npacks=2\npiece=1\nclose=2024-03-01\nopen=2024-02-29\n", "code=short\nmirrors=2\npacks=2\npiece=1\nopen=2023-02-29\nclose=2024-03-01\n",
+        "code=short\nmirrors=2\npacks=2\npiece=1\nopen=2024-02-29\nclose=2024-3-01\n", "code=short\nmirrors=2\npacks=2\npiece=1\nopen=2024-02-29\nclose=2400-01-01\n",
+        "code=short\nmirrors=2\npacks=2\npiece=2\nsum=add\nopen=2024-02-29\nclose=2024-03-01\n", "code=short\nmirrors=2\npacks=2\npiece=1\nopen=2024-02-29\nclose=2024-03-01",
         "code=short\nmirrors=2\npacks=1\npiece=1", "code=even\nmirrors=2\npacks=1\npiece=1\n\n", "code=short\nmirrors=2\npacks=01\npiece=1\n",
     };
     static const char *out[] = {
@@ -251,6 +269,8 @@ static void catalogues(void) {
         "code=short\nmirrors=1\npacks=1\npiece=1\n", "code=short\nmirrors=17\npacks=1\npiece=1\n", "code=even\nmirrors=2\npacks=1\npiece=0\n",
         "code=even\nmirrors=2\npacks=1\npiece=4097\n",
         "code=short\nmirrors=99999\npacks=99999\npiece=99999\n", "code=even\nmirrors=2\npacks=9\npiece=1\n", "code=even\nmirrors=3\npacks=6\npiece=1\n",
+        "code=short\nmirrors=2\npacks=2\npiece=1\nopen=2024-02-29\nclose=2024-02-29\n", "code=short\nmirrors=2\npacks=2\npiece=1\nopen=2024-03-01\nclose=2024-02-29\n",
+        "code=short\nmirrors=2\npacks=1\npiece=1\nopen=2024-10-01\nclose=2024-09-30\n", "code=even\nmirrors=2\npacks=2\npiece=1\nopen=2399-12-31\nclose=2000-01-01\nsum=add\n",
         "code=even\nmirrors=6\npacks=4\npiece=1\n", "code=even\nmirrors=7\npacks=3\npiece=1\n", "code=even\nmirrors=16\npacks=3\npiece=1\n", "code=even\nmirrors=2\npacks=0\npiece=1\n",
     };
     for (size_t i = 0; i < sizeof bad / sizeof *bad; i++) refused_text(bad[i], bad[i], strlen(bad[i]), -1);
@@ -332,6 +352,69 @@ static void words(void) {
     for (size_t i = 0; i < sizeof sums / sizeof *sums; i++) call("words", cat, strlen(cat), 0, stores[i], 8, both, 2, 4, 4, sums[i]);
 }
 
+/* ---- seasons: by the days that the C library counts */
+
+/* the seconds at the start of a day, or -1 for a day that is not of the calendar, which the library would move on to another */
+static int64_t start_of(struct day d) {
+    if (d.year < 2000 || d.year > 2399 || d.month > 99 || d.day > 99) return -1;
+    struct tm tm = {.tm_year = (int)d.year - 1900, .tm_mon = (int)d.month - 1, .tm_mday = (int)d.day};
+    int64_t at = (int64_t)timegm(&tm);
+    return tm.tm_year == (int)d.year - 1900 && tm.tm_mon == (int)d.month - 1 && tm.tm_mday == (int)d.day ? at : -1;
+}
+
+static struct day day_at(int64_t seconds) {
+    time_t at = (time_t)seconds;
+    struct tm tm;
+    gmtime_r(&at, &tm);
+    return (struct day){(uint32_t)tm.tm_year + 1900, (uint32_t)tm.tm_mon + 1, (uint32_t)tm.tm_mday};
+}
+
+static void dated(char *out, const char *code, int n, int k, int s, int add, struct day opening, struct day closing) {
+    sprintf(out, "code=%s\nmirrors=%d\npacks=%d\npiece=%d\nopen=%04" PRIu32 "-%02" PRIu32 "-%02" PRIu32 "\nclose=%04" PRIu32 "-%02" PRIu32 "-%02" PRIu32 "\n%s", code, n, k, s,
+            opening.year, opening.month, opening.day, closing.year, closing.month, closing.day, add ? "sum=add\n" : "");
+}
+
+/* one day: refused 13 or 14, or answered; and before what the number comes, where there is one */
+static void one_day(struct day on, struct day opening, struct day closing) {
+    static const uint8_t store[] = {1, 2, 3, 4}, both[] = {1, 1}, wrong[] = {9, 9}, sums[][2] = {{1 ^ 3, 2 ^ 4}, {4, 6}};
+    int64_t at = start_of(on), refusal = at < 0 ? -13 : at < start_of(opening) || at >= start_of(closing) ? -14 : 0;
+    char cat[128];
+    today = on;
+    for (int add = 0; add <= 1; add++) {
+        dated(cat, "short", 2, 2, 2, add, opening, closing);
+        size_t len = strlen(cat);
+        longest("season: longest", cat, len, 2);
+        call("season", cat, len, 0, store, 4, both, 2, 2, refusal < 0 ? refusal : 2, sums[add]);
+        call("season before 3", cat, len, 2, store, 4, both, 2, 2, refusal < 0 ? refusal : -3, NULL);
+        call("season before 7", cat, len, 0, store, 4, wrong, 2, 2, refusal < 0 ? refusal : -7, NULL);
+        call("season before 8", cat, len, 0, store, 3, both, 2, 2, refusal < 0 ? refusal : -8, NULL);
+        call("season before 9", cat, len, 0, store, 4, both, 2, 1, refusal < 0 ? refusal : -9, NULL);
+        call("season before all", cat, len, UINT64_MAX, NULL, 0, NULL, 0, 0, refusal < 0 ? refusal : -3, NULL);
+        call("1 before the season", cat, len - 1, 0, store, 4, both, 2, 2, -1, NULL);
+    }
+    dated(cat, "short", 17, 2, 2, 0, opening, closing);
+    call("2 before the season", cat, strlen(cat), 0, store, 4, both, 2, 2, -2, NULL);
+    dated(cat, "even", 2, 1, 1, 1, opening, closing);
+    call("17 before the season", cat, strlen(cat), 0, store, 4, both, 2, 2, -17, NULL);
+    dated(cat, "even", 2, 2, 1, 1, opening, closing);
+    call("15 before the season", cat, strlen(cat), 0, store, 4, both, 2, 2, -15, NULL);
+}
+
+static void seasons(void) {
+    static const struct day ends[][2] = {{{2024, 2, 28}, {2024, 3, 1}}, {{2023, 2, 28}, {2023, 3, 2}}, {{2096, 2, 29}, {2100, 3, 1}}, {{2024, 9, 30}, {2024, 10, 2}},
+                                         {{2024, 12, 31}, {2025, 1, 1}}, {{2000, 1, 1}, {2399, 12, 31}}, {{2026, 3, 1}, {2027, 3, 1}}};
+    static const struct day odd[] = {{0, 0, 0}, {1999, 12, 31}, {2400, 1, 1}, {2024, 0, 15}, {2024, 13, 15}, {2024, 9, 0}, {2024, 9, 31}, {2024, 1, 32}, {2023, 2, 29}, {2100, 2, 29},
+                                     {2000, 2, 29}, {2396, 2, 29}, {2024, 2, 30}, {20240, 2, 29}, {UINT32_MAX, 1, 1}, {2024, UINT32_MAX, 1}, {2024, 1, UINT32_MAX}, {2024 + 65536, 9, 30}};
+    any_day = 0;
+    for (size_t i = 0; i < sizeof ends / sizeof *ends; i++) {
+        struct day opening = ends[i][0], closing = ends[i][1];
+        for (int side = 0; side <= 1; side++)
+            for (int64_t move = -2; move <= 2; move++) one_day(day_at(start_of(ends[i][side]) + move * 86400), opening, closing);
+        for (size_t j = 0; j < sizeof odd / sizeof *odd; j++) one_day(odd[j], opening, closing);
+    }
+    any_day = 1;
+}
+
 static void cards(void) {
     static const char b2[] = "code=short\nmirrors=2\npacks=2\npiece=1\n", b4[] = "code=short\nmirrors=3\npacks=3\npiece=4\n";
     uint8_t store[] = {0x5A, 0xC3}, both[] = {1, 1}, second[] = {0, 1}, first[] = {1, 0}, none[] = {0, 0, 0}, odd[] = {0, 0, 1}, three[] = {0, 1, 3}, big[24] = {0};
@@ -354,6 +437,7 @@ int main(int argc, char **argv) {
     cards();
     catalogues();
     words();
+    seasons();
     for (int n = 2; n <= 16; n++) {
         one_pack("short", n, 3);
         one_pack("even", n, 3);

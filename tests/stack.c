@@ -26,7 +26,7 @@ static int64_t result;
 
 static void nothing(void) { result = 0; }
 static void answering(void) {
-    result = gozimpe_answer((const uint8_t *)catalogue, strlen(catalogue), 0, store, store_len, request, request_len, answer, room);
+    result = gozimpe_answer((const uint8_t *)catalogue, strlen(catalogue), 2026, 11, 16, 0, store, store_len, request, request_len, answer, room);
 }
 static void longest(void) { result = gozimpe_longest_answer((const uint8_t *)catalogue, strlen(catalogue)); }
 
@@ -60,6 +60,8 @@ int main(void) {
     measure("longest answer, short", longest);
     catalogue = "code=short\nmirrors=16\npacks=32\npiece=4096\nsum=add\n";
     measure("answer, short 16 32 4096 add", answering);
+    catalogue = "code=short\nmirrors=16\npacks=32\npiece=4096\nopen=2026-03-01\nclose=2027-03-01\n";
+    measure("answer, short 16 32 4096 season", answering);
     catalogue = "code=even\nmirrors=2\npacks=8\npiece=4096\n", store_len = (size_t)8 * 256 * 4096, request_len = 1024;
     int next[8] = {0};
     size_t at = 0;

@@ -10,7 +10,7 @@ use std::time::Instant;
 
 extern "C" {
     fn gozimpe_answer(
-        catalogue: *const u8, catalogue_len: usize, mirror: u64, store: *const u8, store_len: usize,
+        catalogue: *const u8, catalogue_len: usize, year: u32, month: u32, day: u32, mirror: u64, store: *const u8, store_len: usize,
         request: *const u8, request_len: usize, answer: *mut u8, answer_len: usize,
     ) -> i64;
 }
@@ -119,7 +119,7 @@ impl Shape {
 fn library(text: &str, store: &[u8], request: &[u8], answer: &mut [u8]) -> i64 {
     unsafe {
         gozimpe_answer(
-            text.as_ptr(), text.len(), 0, store.as_ptr(), store.len(),
+            text.as_ptr(), text.len(), 2026, 11, 16, 0, store.as_ptr(), store.len(),
             request.as_ptr(), request.len(), answer.as_mut_ptr(), answer.len(),
         )
     }

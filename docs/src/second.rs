@@ -1,17 +1,66 @@
 //! The second implementation: written from the documents, by other means than the crates, sharing no text with them.
 //!
 //! Words here are document 01's: mirror, pack, piece, request. The short code follows the formulas of source 000, section III-B;
-//! the even code runs the process of document 01 with counters, row by row, and finds rows again by comparing them.
+//! the even code runs the process of document 01 with counters, row by row, and finds rows again by comparing them. A day is looked up in a list
+//! of all days of the calendar, walked month by month; no date is compared or tested by its numbers.
 //!
 //!     rustc --edition 2021 -O docs/src/second.rs -o second
 //!     ./second self               checks it against the bench cards and the papers' tables, and that fetches recover
 //!     ./second printer FOLDER     writes inputs of the request printer, and what it must print for each
 //!     ./second cases              prints the calls that the program `conformance` makes (its `stdin`)
 //!     ./second expected           prints what they must give (its `stdout`)
+use std::collections::HashMap;
 use std::fmt::Write;
 use std::io::Write as _;
+use std::sync::OnceLock;
 
 type Bytes = Vec<u8>;
+
+// ---------------------------------------------------------------- days
+
+/// Year, month, day; any numbers, so it need not be a real day.
+type Day = [usize; 3];
+
+/// What stands where a catalogue has no date.
+const NO_DAY: Day = [0; 3];
+
+/// The Gregorian calendar of the years 2000 to 2399: its days in their order, and the place of each in it, found by its ten characters.
+struct Calendar {
+    days: Vec<Day>,
+    places: HashMap<String, usize>,
+}
+
+/// A date as a catalogue's text has it.
+fn spelled([year, month, day]: Day) -> String {
+    format!("{year:04}-{month:02}-{day:02}")
+}
+
+/// The calendar, walked once, month by month. Every fourth year has a leap day, but of those that begin a century only the first one here.
+fn calendar() -> &'static Calendar {
+    static ONCE: OnceLock<Calendar> = OnceLock::new();
+    ONCE.get_or_init(|| {
+        let leap: Vec<usize> = (2000..2400).step_by(4).filter(|year| ![2100, 2200, 2300].contains(year)).collect();
+        let mut days = Vec::new();
+        for year in 2000..2400 {
+            let lengths = [31, 28 + leap.contains(&year) as usize, 31, 30, 31, 30, 31, 31, 30, 31, 30, 31];
+            for (month, length) in (1..).zip(lengths) {
+                days.extend((1..=length).map(|day| [year, month, day]));
+            }
+        }
+        let places = days.iter().enumerate().map(|(place, &day)| (spelled(day), place)).collect();
+        Calendar { days, places }
+    })
+}
+
+/// The place of a real day among all of them; no place for any other.
+fn place(day: Day) -> Option<usize> {
+    calendar().places.get(&spelled(day)).copied()
+}
+
+/// The day so many days after a real one; before it, for a number below zero.
+fn later(day: Day, by: isize) -> Day {
+    calendar().days[place(day).unwrap().checked_add_signed(by).unwrap()]
+}
 
 // ---------------------------------------------------------------- catalogue
 
@@ -23,15 +72,30 @@ struct Catalogue {
     s: usize,
     /// The line `sum=add` (02, item 2).
     add: bool,
+    /// The lines `open=` and `close=` (02, item 1): zeros without them.
+    open: Day,
+    close: Day,
 }
 
-/// A catalogue without the line.
+/// A catalogue without the lines that it may have.
 const fn plain(even: bool, n: usize, k: usize, s: usize) -> Catalogue {
-    Catalogue { even, n, k, s, add: false }
+    Catalogue { even, n, k, s, add: false, open: NO_DAY, close: NO_DAY }
 }
 
 fn adding(c: Catalogue) -> Catalogue {
     Catalogue { add: true, ..c }
+}
+
+fn dated(c: Catalogue, open: Day, close: Day) -> Catalogue {
+    Catalogue { open, close, ..c }
+}
+
+fn undated(c: Catalogue) -> Catalogue {
+    dated(c, NO_DAY, NO_DAY)
+}
+
+fn has_dates(c: Catalogue) -> bool {
+    c != undated(c)
 }
 
 const ZERO: Catalogue = plain(false, 0, 0, 0);
@@ -42,8 +106,25 @@ fn number(text: &str) -> Option<usize> {
     if good { text.parse().ok() } else { None }
 }
 
-/// The catalogue's lines at the start, and what follows them: the four of document 01, and `sum=add` after them where a line of that name stands
-/// there (02, item 2).
+/// A line of this name with a real day, at the start of a text, and what follows it.
+fn dated_line<'a>(name: &str, text: &'a [u8]) -> Option<(Day, &'a [u8])> {
+    let (line, rest) = text.split_at(text.iter().position(|&b| b == 10)?);
+    let date = std::str::from_utf8(line).ok()?.strip_prefix(name)?;
+    Some((calendar().days[*calendar().places.get(date)?], &rest[1..]))
+}
+
+/// The catalogue with the dates at the start of a text, and what follows them: both lines where one of their names stands there (02, item 1).
+fn season_lines(c: Catalogue, text: &[u8]) -> Option<(Catalogue, &[u8])> {
+    if !["open=", "close="].iter().any(|name| text.starts_with(name.as_bytes())) {
+        return Some((c, text));
+    }
+    let (open, text) = dated_line("open=", text)?;
+    let (close, text) = dated_line("close=", text)?;
+    Some((dated(c, open, close), text))
+}
+
+/// The catalogue's lines at the start, and what follows them: the four of document 01, then a season (02, item 1), then `sum=add` where a line of
+/// that name stands there (02, item 2).
 fn lines(text: &[u8]) -> Option<(Catalogue, &[u8])> {
     let mut rest = text;
     let mut line = |name: &str| -> Option<String> {
@@ -60,7 +141,7 @@ fn lines(text: &[u8]) -> Option<(Catalogue, &[u8])> {
     let n = number(&line("mirrors=")?)?;
     let k = number(&line("packs=")?)?;
     let s = number(&line("piece=")?)?;
-    let c = plain(even, n, k, s);
+    let (c, rest) = season_lines(plain(even, n, k, s), rest)?;
     match rest.strip_prefix(b"sum=") {
         Some(value) => Some((adding(c), value.strip_prefix(b"add\n")?)),
         None => Some((c, rest)),
@@ -77,7 +158,12 @@ fn read(text: &[u8]) -> Result<Catalogue, u8> {
 
 fn write_text(c: Catalogue) -> String {
     let (code, sum) = (if c.even { "even" } else { "short" }, if c.add { "sum=add\n" } else { "" });
-    format!("code={code}\nmirrors={}\npacks={}\npiece={}\n{sum}", c.n, c.k, c.s)
+    let season = if has_dates(c) { season_text(&spelled(c.open), &spelled(c.close)) } else { String::new() };
+    format!("code={code}\nmirrors={}\npacks={}\npiece={}\n{season}{sum}", c.n, c.k, c.s)
+}
+
+fn season_text(open: &str, close: &str) -> String {
+    format!("open={open}\nclose={close}\n")
 }
 
 /// The bounds of document 01, which a single pack keeps.
@@ -86,10 +172,15 @@ fn within(c: Catalogue) -> bool {
     (2..=16).contains(&c.n) && (1..=4096).contains(&c.s) && packs
 }
 
-/// Whether every call that tests the catalogue goes on: 2 for a broken bound, else 17 for a single pack, of every code (02, item 9), else 15 for a
-/// piece that is no row of words where words are added (02, item 2).
+/// Whether the dates are none, or two real days of which the opening one comes first (02, item 1).
+fn dates_good(c: Catalogue) -> bool {
+    !has_dates(c) || place(c.open).zip(place(c.close)).is_some_and(|(open, close)| open < close)
+}
+
+/// Whether every call that tests the catalogue goes on: 2 for a broken bound or a fault of the dates, else 17 for a single pack, of every code
+/// (02, item 9), else 15 for a piece that is no row of words where words are added (02, item 2).
 fn judged(c: Catalogue) -> Result<(), u8> {
-    match (within(c), c.k) {
+    match (within(c) && dates_good(c), c.k) {
         (false, _) => Err(2),
         (true, 1) => Err(17),
         (true, _) if c.add && c.s & 1 == 1 => Err(15),
@@ -99,6 +190,17 @@ fn judged(c: Catalogue) -> Result<(), u8> {
 
 fn admitted(c: Catalogue) -> bool {
     judged(c).is_ok()
+}
+
+/// Whether issue and answering go on today, for an admitted catalogue: 13 for no real day, else 14 for one outside the season; without dates any
+/// numbers will do (02, item 1).
+fn in_season(c: Catalogue, today: Day) -> Result<(), u8> {
+    if !has_dates(c) {
+        return Ok(());
+    }
+    let now = place(today).ok_or(13)?;
+    let season = place(c.open).unwrap()..place(c.close).unwrap();
+    if season.contains(&now) { Ok(()) } else { Err(14) }
 }
 
 fn pieces(c: Catalogue) -> usize {
@@ -329,8 +431,9 @@ fn recover(c: Catalogue, wanted: usize, key: &[u8], answers: &[Bytes]) -> Bytes 
 }
 
 /// The answering end: the answer, or the refusal.
-fn answering(c: Catalogue, mirror: usize, store: &[u8], request: &[u8], room: usize) -> Result<Bytes, u8> {
+fn answering(c: Catalogue, today: Day, mirror: usize, store: &[u8], request: &[u8], room: usize) -> Result<Bytes, u8> {
     judged(c)?;
+    in_season(c, today)?;
     if mirror >= c.n {
         return Err(3);
     }
@@ -389,9 +492,10 @@ impl Session {
         (0..16).all(|i| (!self.issued[i] || i < self.cat.n) && (!self.taken[i] || self.issued[i]))
     }
 
-    /// The refusals about the session's own fields and the mirror, up to 6.
-    fn fields(&self, mirror: Option<usize>) -> Result<(), u8> {
+    /// The refusals about the session's own fields, the day and the mirror, up to 6.
+    fn fields(&self, today: Option<Day>, mirror: Option<usize>) -> Result<(), u8> {
         judged(self.cat)?;
+        today.map_or(Ok(()), |today| in_season(self.cat, today))?;
         if mirror.is_some_and(|m| m >= self.cat.n) {
             return Err(3);
         }
@@ -401,8 +505,8 @@ impl Session {
         if key_good(self.cat, self.used_key()) { Ok(()) } else { Err(6) }
     }
 
-    fn issue(&mut self, mirror: usize, buffer: &mut [u8]) -> Result<(), u8> {
-        self.fields(Some(mirror))?;
+    fn issue(&mut self, today: Day, mirror: usize, buffer: &mut [u8]) -> Result<(), u8> {
+        self.fields(Some(today), Some(mirror))?;
         if buffer.len() < request_length(self.cat) {
             return Err(9);
         }
@@ -416,7 +520,7 @@ impl Session {
     }
 
     fn take(&mut self, mirror: usize, answer: &[u8], buffer: &mut [u8]) -> Result<(), u8> {
-        self.fields(Some(mirror))?;
+        self.fields(None, Some(mirror))?;
         let size = slot(self.cat);
         if buffer.len() < self.cat.n * size {
             return Err(9);
@@ -433,7 +537,7 @@ impl Session {
     }
 
     fn recover(&self, buffer: &[u8], pack: &mut [u8]) -> Result<(), u8> {
-        self.fields(None)?;
+        self.fields(None, None)?;
         let size = slot(self.cat);
         if buffer.len() < self.cat.n * size || pack.len() < pack_length(self.cat) {
             return Err(9);
@@ -652,6 +756,7 @@ fn printer_inputs() -> Vec<Bytes> {
         all.push(input(c, 7, &[9, 9, 99999, 9]).into_bytes());
     }
     printer_sums(&mut draw, &mut all);
+    printer_seasons(&mut draw, &mut all);
     all.push(vec![b'0'; 65536]);
     all.push([good.as_bytes(), &vec![b' '; 65537 - good.len()]].concat());
     all.push((0..=255).collect());
@@ -696,6 +801,112 @@ fn printer_sums(draw: &mut Draw, all: &mut Vec<Bytes>) {
 /// What may stand in the place of `sum=add` and is no such line.
 const OTHER_SUMS: [&str; 17] = ["sum=xor\n", "sum=\n", "sum=1\n", "sum=Add\n", "sum=adds\n", "sum=ad\n", "sum=add \n", "sum= add\n", "sum=add\r\n",
     "sum=add\n\n", "sum=add\nsum=add\n", "sum=add\nsum=xor\n", "sum=xor\nsum=add\n", "Sum=add\n", "sums=add\n", "sum add\n", "\nsum=add\n"];
+
+/// A season in a catalogue's text, with the requests of the same catalogue without it (02, item 1): the printer tests none. Then each fault of the
+/// dates, with other refusals besides; the lines damaged and misplaced.
+fn printer_seasons(draw: &mut Draw, all: &mut Vec<Bytes>) {
+    for (i, (even, n, k)) in [(false, 2, 2), (false, 3, 3), (false, 16, 32), (true, 2, 2), (true, 3, 3), (true, 2, 8)].into_iter().enumerate() {
+        let (c, key) = (plain(even, n, k, 4096), draw.key(plain(even, n, k, 1)));
+        let (open, close) = SEASONS[i];
+        for c in [c, dated(c, open, close), dated(adding(c), open, close)] {
+            all.push(input(c, 0, &key).into_bytes());
+            all.push(input(c, k - 1, &key).into_bytes());
+        }
+        for (open, close) in [(open, close), (close, open), (open, open), (UNREAL[i], LAST), (FIRST, UNREAL[i])] {
+            for c in [c, Catalogue { n: 17, ..c }, Catalogue { k: 1, ..c }, Catalogue { s: 7, ..adding(c) }] {
+                all.push(input(dated(c, open, close), 0, &key).into_bytes());
+            }
+            let c = dated(c, open, close);
+            all.push(input(c, k, &key).into_bytes());
+            all.push(input(c, 0, &[&key[..], &[0]].concat()).into_bytes());
+            all.push(input(c, 0, &[&[99999], &key[1..]].concat()).into_bytes());
+            all.push(format!("{}\n", input(c, 0, &key)).into_bytes());
+        }
+    }
+    let good = input(dated(plain(false, 3, 3, 4), A, B), 1, &[2, 0]);
+    let lines = season_text(&spelled(A), &spelled(B));
+    for to in other_lines() {
+        all.push(good.replacen(&lines, &to, 1).into_bytes());
+    }
+    for (from, to) in moved_lines() {
+        all.push(good.replacen(&from, &to, 1).into_bytes());
+    }
+    for day in UNREAL.iter().chain(&EDGES) {
+        all.push(good.replacen(&spelled(A), &spelled(*day), 1).into_bytes());
+        all.push(good.replacen(&spelled(B), &spelled(*day), 1).into_bytes());
+    }
+    let line = good.find("open=").unwrap();
+    for at in line..line + lines.len() {
+        let mut text = good.clone().into_bytes();
+        text[at] ^= 1;
+        all.push(text.clone());
+        text.remove(at);
+        all.push(text.clone());
+        text.truncate(at);
+        all.push(text);
+    }
+}
+
+/// The first and the last day of the calendar, and two days between them.
+const FIRST: Day = [2000, 1, 1];
+const LAST: Day = [2399, 12, 31];
+const A: Day = [2024, 2, 3];
+const B: Day = [2025, 10, 9];
+
+/// Seasons: months of one and of two digits, a year's end, a leap day alone, all days, a month that comes sooner in its year, a century without its
+/// leap day, first days that follow a 31st, a closing day with the smaller month and day.
+const SEASONS: [(Day, Day); 8] = [([2024, 9, 30], [2024, 10, 2]), ([2024, 12, 30], [2025, 1, 2]), ([2024, 2, 29], [2024, 3, 1]), (FIRST, LAST),
+    ([2023, 11, 15], [2024, 2, 10]), ([2099, 12, 31], [2100, 3, 1]), ([2024, 2, 1], [2024, 6, 1]), ([2019, 8, 25], [2021, 3, 7])];
+
+/// Days of which the first of each two comes before the second, though not by each way to compare them.
+const PAIRS: [(Day, Day); 12] = [([2024, 5, 6], [2024, 5, 7]), ([2024, 12, 31], [2025, 1, 1]), ([2024, 2, 29], [2024, 3, 1]), ([2023, 2, 28], [2023, 3, 1]),
+    ([2024, 1, 31], [2024, 2, 1]), ([2023, 5, 6], [2024, 5, 5]), ([2023, 5, 6], [2024, 4, 6]), ([2024, 9, 30], [2024, 10, 1]), ([2024, 10, 9], [2024, 10, 10]),
+    ([2099, 12, 31], [2100, 1, 1]), ([2399, 12, 30], LAST), (FIRST, [2000, 1, 2])];
+
+/// Real days at the ends of the calendar, and leap days and their neighbours.
+const EDGES: [Day; 10] = [FIRST, LAST, [2000, 2, 29], [2024, 2, 29], [2096, 2, 29], [2396, 2, 29], [2100, 2, 28], [2100, 3, 1], [2023, 2, 28], [2200, 2, 28]];
+
+/// No real days of the years 2000 to 2399; a date of the text form has room for each.
+const UNREAL: [Day; 26] = [[1999, 12, 31], [2400, 1, 1], [2023, 2, 29], [2024, 13, 10], [2024, 5, 0], [2024, 9, 31], [2024, 0, 10], [2024, 5, 32],
+    [2024, 4, 31], [2024, 6, 31], [2024, 11, 31], [2024, 2, 30], [2001, 2, 29], [2100, 2, 29], [2200, 2, 29], [2300, 2, 29], [2400, 2, 29], [1996, 2, 29],
+    [2399, 12, 32], [2024, 10, 0], [2024, 0, 0], [0, 0, 5], [0, 5, 0], [24, 5, 6], [9999, 12, 31], [2024, 99, 99]];
+
+/// Two dates of a value that are neither both there nor both zeros, though some of their numbers look so.
+const PARTS: [(Day, Day); 7] = [([0, 0, 5], NO_DAY), ([0, 5, 0], NO_DAY), ([2024, 0, 0], NO_DAY), (NO_DAY, [0, 0, 5]), (NO_DAY, [0, 5, 0]),
+    (NO_DAY, [2024, 0, 0]), ([0, 5, 6], [0, 5, 7])];
+
+/// No real days either, and with numbers that the form has no room for; the first three are days of a season in their lowest bytes.
+const HUGE: [Day; 9] = [[67560, 9, 30], [2024, 265, 30], [2024, 9, 286], [20240, 5, 6], [99999, 12, 31], [999999999, 1, 1], [2024, 999999999, 1],
+    [2024, 1, 999999999], [999999999, 999999999, 999999999]];
+
+/// What may stand in the place of a date and is none.
+const OTHER_DATES: [&str; 36] = ["", "2024-2-03", "2024-02-3", "02024-02-03", "12024-02-03", "20240-02-03", "024-02-03", "24-02-03", "2024/02/03",
+    "2024.02-03", "20240203", "2024-0203", "2024-02-03 ", " 2024-02-03", "2024 02 03", "2024-02-03\r", "2024-02-0a", "2024-0b-03", "2o24-02-03", "+024-02-03",
+    "2024-+2-03", "2024-02-+3", "2024--2-03", "2024-002-03", "2024-02-003", "2024-02", "2024-02-03-04", "03-02-2024", "2024-02-03\n", "\n2024-02-03",
+    "2024-02-\u{663}", "0000-00-00", "2024-0:-03", "2024-02-0:", "202:-02-03", "2024-1/-03"];
+
+/// What may stand in the place of the two lines and is not both of them, A and B for the dates.
+const OTHER_LINES: [&str; 38] = ["open=A\n", "close=B\n", "close=B\nopen=A\n", "open=A\nopen=A\nclose=B\n", "open=A\nclose=B\nclose=B\n",
+    "open=A\nclose=B\nopen=A\nclose=B\n", "open=A\nopen=B\n", "close=A\nclose=B\n", "open=A\nsum=add\nclose=B\n", "sum=add\nopen=A\nclose=B\n",
+    "open=A\nclose=B\nsum=add\nopen=A\n", "sum=add\nclose=B\n", "open=A\n\nclose=B\n", "\nopen=A\nclose=B\n", "open=Aclose=B\n", "open=A close=B\n",
+    "open=A\nclose=B", "open=A\nclose=B\r\n", "Open=A\nclose=B\n", "opens=A\nclose=B\n", "open:A\nclose=B\n", "open =A\nclose=B\n", " open=A\nclose=B\n",
+    "open=A\nClose=B\n", "open=A\ncloses=B\n", "open=A\n close=B\n", "open=A\nclose B\n", "open=\nclose=\n", "open\n", "close\n", "open", "clos", "open=",
+    "close=", "open=0000-00-00\nclose=0000-00-00\n", "open=A\nwanted=0\n", "A\nB\n", "open=A\nclose=B\nsum=add\nsum=add\n"];
+
+/// What may stand in the place of the lines with the dates A and B, and is no season: other lines, and other dates in the first or the second.
+fn other_lines() -> Vec<String> {
+    let (a, b) = (spelled(A), spelled(B));
+    let lines = OTHER_LINES.iter().map(|lines| lines.replace('A', &a).replace('B', &b));
+    let dates = OTHER_DATES.iter().enumerate().map(|(i, date)| if i % 2 == 0 { season_text(date, &b) } else { season_text(&a, date) });
+    lines.chain(dates).collect()
+}
+
+/// The lines with the dates A and B, or one of them, moved to other places of a text.
+fn moved_lines() -> Vec<(String, String)> {
+    let (a, b) = (format!("open={}\n", spelled(A)), format!("close={}\n", spelled(B)));
+    let places = ["code=", "mirrors=", "piece="].map(|name| (name.to_string(), format!("{a}{b}{name}")));
+    places.into_iter().chain([(format!("piece=4\n{a}"), format!("{a}piece=4\n")), (format!("piece=4\n{a}{b}"), format!("{a}{b}piece=4\n"))]).collect()
+}
 
 // ---------------------------------------------------------------- cases for the conformance program: what each line gives
 
@@ -751,8 +962,14 @@ fn shown_bytes(bytes: &[u8]) -> String {
     out + " )"
 }
 
-fn shown_catalogue(c: Catalogue) -> String {
+/// A catalogue as a line gives it, whose dates other lines set.
+fn given(c: Catalogue) -> String {
     format!("{} {} {} {} {}", c.even as u8, c.n, c.k, c.s, c.add as u8)
+}
+
+fn shown_catalogue(c: Catalogue) -> String {
+    let dates = [c.open, c.close].concat().iter().map(|x| x.to_string()).collect::<Vec<_>>();
+    format!("{} {}", given(c), dates.join(" "))
 }
 
 fn shown_session(s: &Session) -> String {
@@ -768,9 +985,13 @@ fn outcome(result: Result<usize, u8>) -> String {
     result.map_or_else(|refusal| format!("-{refusal}"), |value| value.to_string())
 }
 
-/// What stands between two lines: the catalogue, the session, the lent buffers, and how much of key and store is lent.
+/// What stands between two lines: the catalogue, the dates that the next one gets, the day that it is, the session, the lent buffers, and how
+/// much of key and store is lent.
 struct Bench {
     cat: Catalogue,
+    open: Day,
+    close: Day,
+    today: Day,
     session: Session,
     key: Bytes,
     store: Bytes,
@@ -786,7 +1007,8 @@ const LENGTHS: [usize; 6] = [2304, 262656, 2304, 66048, 139776, 131584];
 impl Bench {
     fn new() -> Bench {
         let [key, store, query, answer, answers, message] = LENGTHS.map(|length| vec![0; length]);
-        Bench { cat: ZERO, session: blank(), key, store, query, answer, answers, message, lent: [0, 0] }
+        let [open, close, today] = [NO_DAY; 3];
+        Bench { cat: ZERO, open, close, today, session: blank(), key, store, query, answer, answers, message, lent: [0, 0] }
     }
 
     /// A line that reads a catalogue's text.
@@ -805,9 +1027,12 @@ impl Bench {
 
     /// A line of a letter and numbers; those that make no call print nothing.
     fn line(&mut self, letter: &str, [a, b, c, d, e]: [usize; 5]) -> String {
-        let cat = Catalogue { add: e != 0, ..plain(a != 0, b, c, d) };
+        let cat = Catalogue { add: e != 0, ..dated(plain(a != 0, b, c, d), self.open, self.close) };
         match letter {
             "c" => return self.catalogue(cat),
+            "f" => self.open = [a, b, c],
+            "l" => self.close = [a, b, c],
+            "n" => self.today = [a, b, c],
             "k" => {
                 if admitted(self.cat) {
                     self.key = drawn_key(a as u64, self.cat, self.key.len());
@@ -864,12 +1089,12 @@ impl Bench {
             }
             "i" => {
                 self.query[..b].fill(238);
-                let gave = verdict(self.session.issue(a, &mut self.query[..b]));
+                let gave = verdict(self.session.issue(self.today, a, &mut self.query[..b]));
                 format!("i {gave} {} {}\n", shown_bytes(&self.query[..b]), shown_session(&self.session))
             }
             "a" => {
                 self.answer[..c].fill(221);
-                let result = answering(self.cat, a, &self.store[..self.lent[1]], &self.query[..b], c);
+                let result = answering(self.cat, self.today, a, &self.store[..self.lent[1]], &self.query[..b], c);
                 if let Ok(bytes) = &result {
                     self.answer[..bytes.len()].copy_from_slice(bytes);
                 }
@@ -888,28 +1113,37 @@ impl Bench {
         }
     }
 
-    /// A whole fetch, in buffers of exactly the lengths that it needs.
+    /// A whole fetch, in buffers of exactly the lengths that it needs, on one day: in season nothing is refused and the pack is the store's; out of
+    /// season each issue, each answer and each take is refused, and then recover, which misses the answers.
     fn whole(&mut self, wanted: usize) -> String {
         let mut session = match begin(self.cat, wanted, &self.key[..self.lent[0]]) {
             Ok(session) => session,
             Err(refusal) => return format!("x {refusal}\n"),
         };
-        let (cat, store) = (self.cat, &self.store[..self.lent[1]]);
+        let (cat, today, store) = (self.cat, self.today, &self.store[..self.lent[1]]);
         let (asked, room, slots) = (request_length(cat), slot(cat), cat.n * slot(cat));
+        let season = in_season(cat, today);
         let (mut queries, mut answers, mut received) = (0, 0, 0);
         for mirror in 0..cat.n {
-            session.issue(mirror, &mut self.query[..asked]).unwrap();
-            let answer = answering(cat, mirror, store, &self.query[..asked], room).unwrap();
-            session.take(mirror, &answer, &mut self.answers[..slots]).unwrap();
+            let issued = session.issue(today, mirror, &mut self.query[..asked]);
+            let answered = answering(cat, today, mirror, store, &self.query[..asked], room);
+            assert_eq!([issued, answered.as_ref().map(|_| ()).map_err(|&refusal| refusal)], [season; 2]);
+            let answer = answered.unwrap_or_default();
+            let taken = session.take(mirror, &answer, &mut self.answers[..slots]);
+            assert_eq!(taken.is_ok(), season.is_ok());
             self.answer[..answer.len()].copy_from_slice(&answer);
             queries = sum(queries, &self.query[..asked]);
             answers = sum(answers, &answer);
             received += answer.len();
         }
         let message = &mut self.message[..pack_length(cat)];
-        session.recover(&self.answers[..slots], message).unwrap();
-        assert_eq!(message, &store[wanted * pack_length(cat)..(wanted + 1) * pack_length(cat)]);
-        format!("x 0 {queries} {answers} {received} 0 {}\n", shown_bytes(message))
+        message.fill(204);
+        let gave = verdict(session.recover(&self.answers[..slots], message));
+        match season {
+            Ok(()) => assert_eq!((gave, &*message), (0, &store[wanted * pack_length(cat)..(wanted + 1) * pack_length(cat)])),
+            Err(_) => assert_eq!(gave, 12),
+        }
+        format!("x 0 {queries} {answers} {received} {gave} {}\n", shown_bytes(message))
     }
 }
 
@@ -957,9 +1191,22 @@ fn fitted(c: Catalogue, s: usize) -> Catalogue {
     Catalogue { s: (1..=s).rev().find(|&s| fits(s)).unwrap(), ..c }
 }
 
+/// The last day of each month of a year.
+fn month_ends(year: usize) -> Vec<Day> {
+    calendar().days.windows(2).filter(|two| two[0][0] == year && two[1][2] == 1).map(|two| two[0]).collect()
+}
+
+/// A catalogue in the title of a section.
+fn titled(c: Catalogue) -> String {
+    if has_dates(c) { format!("{} {} {}", given(c), spelled(c.open), spelled(c.close)) } else { given(c) }
+}
+
+/// The lines so far, and the dates that the last of them have set.
 struct Cases {
     out: Bytes,
     draw: Draw,
+    open: Day,
+    close: Day,
 }
 
 impl Cases {
@@ -974,8 +1221,34 @@ impl Cases {
         self.out.extend(b"~\n");
     }
 
+    fn day(&mut self, letter: &str, [year, month, day]: Day) {
+        self.put(format!("{letter} {year} {month} {day}"));
+    }
+
+    fn today(&mut self, day: Day) {
+        self.day("n", day);
+    }
+
+    /// The dates of the catalogues in the next lines, where they are others than in the last ones.
+    fn dates(&mut self, c: Catalogue) {
+        if self.open != c.open {
+            self.day("f", c.open);
+        }
+        if self.close != c.close {
+            self.day("l", c.close);
+        }
+        (self.open, self.close) = (c.open, c.close);
+    }
+
     fn catalogue(&mut self, c: Catalogue) {
-        self.put(format!("c {}", shown_catalogue(c)));
+        self.dates(c);
+        self.put(format!("c {}", given(c)));
+    }
+
+    /// A catalogue put into the session.
+    fn hold(&mut self, c: Catalogue) {
+        self.dates(c);
+        self.put(format!("g {}", given(c)));
     }
 
     /// A store and a key for the catalogue.
@@ -1077,6 +1350,7 @@ impl Cases {
 
     /// The requests and answers of the papers' tables: I to III of 000 and those of 003, with keys that leave places in order.
     fn papers(&mut self) {
+        self.dates(ZERO);
         self.put("# 000, table I".to_string());
         self.put("c 0 2 2 1\ns 1 2\nd 0 90\nd 1 195".to_string());
         for (key, wanted) in [(0, 0), (1, 0), (0, 1), (1, 1)] {
@@ -1146,7 +1420,8 @@ impl Cases {
         for (x, y) in [(0x00FF, 0x0001), (0xFFFF, 0x0001), (0xFFFF, 0xFFFF), (0x8000, 0x8000), (0xFF00, 0x0100), (0x0100, 0x00FF), (0x1234, 0xABCD), (0, 0)] {
             for s in [2, 4] {
                 // each pack's first word, and zeros after it
-                self.put(format!("c {}\ns 0 {}\nz 255", shown_catalogue(adding(plain(false, 2, 2, s))), 2 * s));
+                self.catalogue(adding(plain(false, 2, 2, s)));
+                self.put(format!("s 0 {}\nz 255", 2 * s));
                 let bytes: [usize; 4] = [x & 255, x >> 8, y & 255, y >> 8];
                 for (place, byte) in [0, 1, s, s + 1].into_iter().zip(bytes) {
                     self.put(format!("d {place} {byte}"));
@@ -1160,8 +1435,8 @@ impl Cases {
                 }
             }
         }
-        let c = adding(plain(true, 2, 2, 2));
-        self.put(format!("c {}\ns 9 16\nk 0 8\nx 0\nx 1\nk 3 8\nx 0\nx 1", shown_catalogue(c)));
+        self.catalogue(adding(plain(true, 2, 2, 2)));
+        self.put("s 9 16\nk 0 8\nx 0\nx 1\nk 3 8\nx 0\nx 1".to_string());
         for place in 0..16 {
             self.put(format!("d {place} {}", if place < 8 { 255 } else { place % 2 * 254 + 1 }));
         }
@@ -1172,7 +1447,7 @@ impl Cases {
     fn refusals(&mut self, c: Catalogue) {
         let (asked, slots, pack) = (request_length(c), c.n * slot(c), pack_length(c));
         let last = c.n - 1;
-        self.put(format!("# refusals {}", shown_catalogue(c)));
+        self.put(format!("# refusals {}", titled(c)));
         // a catalogue out of bounds, one of a single pack, and one that adds odd pieces: 2, 17 and 15 of every call that is given one
         let odd = adding(Catalogue { s: c.s | 1, ..c });
         for bad in [Catalogue { n: 17, ..c }, Catalogue { k: 0, ..c }, Catalogue { s: 4097, ..c }, Catalogue { k: 1, ..c }, odd] {
@@ -1218,7 +1493,8 @@ impl Cases {
     /// Every field of a session set to what no history gives: 2, 17, 4, 6, 11 of each call, and the places that are not used.
     fn fields(&mut self, c: Catalogue, asked: usize, slots: usize, pack: usize) {
         let calls = format!("i 0 {asked}\nh 0 {} {slots}\nr {slots} {pack}", slot(c));
-        let set_cat = |n: usize, k: usize, s: usize| format!("g {}", shown_catalogue(Catalogue { n, k, s, ..c }));
+        let set_cat = |n: usize, k: usize, s: usize| format!("g {}", given(Catalogue { n, k, s, ..c }));
+        self.dates(c);
         let most = if c.even { pieces(c) } else { c.n };
         let mut sets = vec![
             (set_cat(17, c.k, c.s), set_cat(c.n, c.k, c.s)),
@@ -1242,7 +1518,7 @@ impl Cases {
 
     /// A single pack beside two, in every call (02, item 9): 17 alone, after 1 and 2, and before each number that applies besides.
     fn one_pack(&mut self, two: Catalogue) {
-        self.put(format!("# one pack {}", shown_catalogue(two)));
+        self.put(format!("# one pack {}", titled(two)));
         let one = Catalogue { k: 1, ..two };
         let broken = [Catalogue { n: 17, ..one }, Catalogue { n: 1, ..one }, Catalogue { s: 0, ..one }, Catalogue { s: 4097, ..one }];
         for c in [two, one].into_iter().chain(broken) {
@@ -1262,7 +1538,7 @@ impl Cases {
     /// An odd piece beside an even one where words are added (02, item 2): 15 alone, after 1, 2 and 17, and before each number that applies besides;
     /// without the line an odd piece is as good as any.
     fn odd_piece(&mut self, whole: Catalogue) {
-        self.put(format!("# odd piece {}", shown_catalogue(whole)));
+        self.put(format!("# odd piece {}", titled(whole)));
         let odd = Catalogue { s: whole.s - 1, ..whole };
         let other = [Catalogue { n: 17, ..odd }, Catalogue { s: 4097, ..odd }, Catalogue { k: 1, ..odd }, Catalogue { n: 1, k: 1, ..odd }, Catalogue { add: false, ..odd }];
         for c in [whole, odd].into_iter().chain(other) {
@@ -1307,14 +1583,24 @@ impl Cases {
 
     /// The calls of a session that has taken all answers, once with each of these catalogues in it, and each other field and length broken besides.
     fn held_values(&mut self, two: Catalogue, held: &[Catalogue]) {
+        self.all_taken(two);
+        self.held_calls(two, held);
+    }
+
+    /// A session for pack 1 that takes all answers.
+    fn all_taken(&mut self, two: Catalogue) {
         let (asked, room, slots, pack) = (request_length(two), slot(two), two.n * slot(two), pack_length(two));
         self.catalogue(two);
         self.put(format!("s 5 {}\nk 0 {}\nb 1", two.k * pack, key_length(two)));
         for mirror in 0..two.n {
             self.put(format!("i {mirror} {asked}\na {mirror} {asked} {room}\nh {mirror} {room} {slots}\nh {mirror} 0 {slots}"));
         }
+    }
+
+    fn held_calls(&mut self, two: Catalogue, held: &[Catalogue]) {
+        let (asked, room, slots, pack) = (request_length(two), slot(two), two.n * slot(two), pack_length(two));
         for &c in held {
-            self.put(format!("g {}", shown_catalogue(c)));
+            self.hold(c);
             // nothing else, then 4, 6, 11 by a mark, 11 or 12 by a mark; with each 3, 9, 10
             for (set, undo) in [("v 1", "v 1"), ("v 9", "v 1"), ("y 0 255", "y 0 0"), ("u 0 0", "u 0 1"), ("j 0 0", "j 0 1")] {
                 self.put(format!("{set}\ni 0 {asked}\ni {} {asked}\ni 0 0", two.n));
@@ -1324,14 +1610,244 @@ impl Cases {
         }
     }
 
-    /// A session with calls in any order, with numbers and lengths at their bounds and beside them.
+    /// Texts with the lines of a season (02, item 1): good, written, before more lines, and then in calls; damaged and misplaced.
+    fn season_texts(&mut self) {
+        self.put("# texts with a season".to_string());
+        for (i, (even, n, k, s)) in [(false, 2, 2, 2), (false, 16, 32, 4096), (true, 2, 8, 128), (true, 16, 2, 10)].into_iter().enumerate() {
+            let (open, close) = SEASONS[i];
+            let text = write_text(Catalogue { add: i % 2 == 1, ..dated(plain(even, n, k, s), open, close) });
+            self.text(text.as_bytes());
+            for room in [text.len(), text.len() - 1, text.len() - 33, text.len() + 3] {
+                self.put(format!("w {room}"));
+            }
+            for more in ["wanted=0\n", "open=2024-01-01\nclose=2025-01-01\n", "open=", "close=2025-01-01\n", "sum=add\n", "sum=xor\n"] {
+                self.text(format!("{text}{more}").as_bytes());
+            }
+        }
+        // the dates of a text in calls
+        for (c, (open, close)) in [plain(false, 3, 3, 4), adding(plain(true, 2, 3, 2))].into_iter().zip(SEASONS) {
+            self.text(write_text(dated(c, open, close)).as_bytes());
+            self.lend(c);
+            for day in [open, close, NO_DAY] {
+                self.today(day);
+                self.put("b 2\nx 1".to_string());
+            }
+        }
+        let good = write_text(dated(plain(false, 3, 3, 4), A, B));
+        let lines = season_text(&spelled(A), &spelled(B));
+        for to in other_lines() {
+            self.text(good.replacen(&lines, &to, 1).as_bytes());
+        }
+        for (from, to) in moved_lines() {
+            self.text(good.replacen(&from, &to, 1).as_bytes());
+        }
+        let line = good.find("open=").unwrap();
+        for at in line..line + lines.len() {
+            let mut text = good.clone().into_bytes();
+            text[at] ^= 1 << self.draw.below(4);
+            self.text(&text);
+            self.text(&good.as_bytes()[..at]);
+        }
+    }
+
+    /// Days in texts: real and unreal ones in each line, the ends of the months, opening before closing and not; with a fault of the value or a byte
+    /// too many besides.
+    fn day_texts(&mut self) {
+        self.put("# days in texts".to_string());
+        let (short, even) = (plain(false, 2, 2, 2), plain(true, 2, 2, 2));
+        for &day in UNREAL.iter().chain(&EDGES) {
+            self.text(write_text(dated(short, day, LAST)).as_bytes());
+            self.text(write_text(dated(even, FIRST, day)).as_bytes());
+        }
+        for two in month_ends(2023).chunks(2) {
+            self.text(write_text(dated(short, two[0], two[1])).as_bytes());
+            for &[year, month, day] in two {
+                self.text(write_text(dated(short, FIRST, [year, month, day + 1])).as_bytes());
+            }
+        }
+        for (a, b) in PAIRS {
+            self.text(write_text(dated(even, a, b)).as_bytes());
+            self.text(write_text(dated(short, b, a)).as_bytes());
+        }
+        self.text(write_text(dated(even, A, A)).as_bytes());
+        for (open, close) in [(A, B), (B, A), (A, [2025, 2, 29])] {
+            let odd = Catalogue { s: 7, ..adding(even) };
+            for c in [Catalogue { n: 17, ..short }, Catalogue { k: 1, ..short }, odd, Catalogue { k: 1, ..odd }, even] {
+                let text = write_text(dated(c, open, close));
+                self.text(text.as_bytes());
+                self.text(format!("{text}\n").as_bytes());
+            }
+        }
+    }
+
+    /// Catalogue values with dates, written and in begin: each fault of the dates, and what is just none; with each other fault of a value besides;
+    /// and then in every call. The single days open in one code and close in the other.
+    fn season_values(&mut self, c: Catalogue) {
+        self.put(format!("# dates in values {}", titled(c)));
+        self.today(A);
+        self.catalogue(c);
+        self.lend(c);
+        let single = UNREAL.iter().chain(&HUGE).chain(&EDGES).chain([&NO_DAY]).enumerate();
+        let single = single.map(|(i, &day)| if (i % 2 == 0) == c.even { (day, LAST) } else { (FIRST, day) });
+        let pairs = PAIRS.into_iter().flat_map(|(a, b)| [(a, b), (b, a), (a, a)]);
+        for (open, close) in single.chain(pairs).chain(PARTS) {
+            self.catalogue(dated(c, open, close));
+            self.put("w 100\nb 0".to_string());
+        }
+        let (faults, odd) = ([(B, A), (A, A), (NO_DAY, B), (A, NO_DAY), (UNREAL[2], LAST), (A, HUGE[0])], Catalogue { s: 7, ..adding(c) });
+        for &(open, close) in [(A, B), (NO_DAY, NO_DAY)].iter().chain(&faults) {
+            for c in [Catalogue { n: 17, ..c }, Catalogue { k: 1, ..c }, odd, Catalogue { k: 1, ..odd }] {
+                self.catalogue(dated(c, open, close));
+                self.put("w 0\nb 9".to_string());
+            }
+        }
+        let faulty = faults.map(|(open, close)| dated(c, open, close));
+        for c in [faulty[0], faulty[3]] {
+            self.given_values(c, c);
+        }
+        self.held_values(dated(c, A, B), &[faulty[2], faulty[5], dated(c, A, B)]);
+    }
+
+    /// Answering and issue on each of these days, as they should be but for the day.
+    fn on_days(&mut self, c: Catalogue, days: &[Day]) {
+        let (asked, last) = (request_length(c), c.n - 1);
+        self.put(format!("# days {}", titled(c)));
+        self.today(c.open);
+        self.catalogue(c);
+        self.lend(c);
+        self.put(format!("b 0\ni {last} {asked}"));
+        for &day in days {
+            self.today(day);
+            self.put(format!("a {last} {asked} {}", slot(c)));
+        }
+        for &day in days {
+            self.today(day);
+            self.put(format!("i {last} {asked}"));
+        }
+    }
+
+    /// Days near the ends of each season, and the same days of other years; real and unreal days and the ends of the months in a season of all days;
+    /// all of these without a season.
+    fn days(&mut self) {
+        let codes = [adding(plain(false, 2, 2, 2)), plain(true, 2, 2, 2)];
+        for (i, (open, close)) in SEASONS.into_iter().enumerate() {
+            let near = [open, close].into_iter().flat_map(|day| [-1, 0, 1].map(|by| (day, by)));
+            let mut days: Vec<Day> = near.filter(|pair| ![(FIRST, -1), (LAST, 1)].contains(pair)).map(|(day, by)| later(day, by)).collect();
+            days.extend([open, close].iter().flat_map(|&[year, month, day]| [[year - 1, month, day], [year + 1, month, day], [year, day, month]]));
+            days.extend(&HUGE[..3]);
+            self.on_days(dated(codes[i % 2], open, close), &days);
+        }
+        let few = [&UNREAL[..8], &HUGE, &[NO_DAY]].concat();
+        let all = [&few[..], &UNREAL[8..], &EDGES].concat();
+        let ends: Vec<Day> = month_ends(2023).into_iter().flat_map(|[year, month, day]| [[year, month, day], [year, month, day + 1]]).collect();
+        self.on_days(dated(codes[0], FIRST, LAST), &[&all[..], &ends].concat());
+        self.on_days(dated(codes[1], FIRST, LAST), &few);
+        self.on_days(codes[0], &all);
+        self.on_days(codes[1], &few);
+    }
+
+    /// 13 and 14 of issue and answering with every other number besides, and the calls that test no season on the same days.
+    fn season_orders(&mut self, c: Catalogue) {
+        self.put(format!("# orders {}", titled(c)));
+        let (asked, room, slots, pack, last) = (request_length(c), slot(c), c.n * slot(c), pack_length(c), c.n - 1);
+        let faulty = [Catalogue { n: 17, ..c }, Catalogue { k: 1, ..c }, adding(Catalogue { s: c.s | 1, ..c }), dated(c, c.close, c.open)];
+        self.today(c.open);
+        self.all_taken(c);
+        self.put(format!("i {last} {asked}"));
+        let first = request(c, 1, last, &drawn_key(0, c, key_length(c)))[0];
+        for (day, held) in [(c.close, vec![c]), (UNREAL[2], vec![c, undated(c)])] {
+            self.today(day);
+            for c in held {
+                // answering: as it should be, then 3, 7 by a number and by a length, 8, 9, and all of them; writing
+                self.catalogue(c);
+                self.put(format!("a {last} {asked} {room}\na {} {asked} {room}\na {last} {} {room}\na {last} {asked} 0", c.n, asked + 1));
+                self.put(format!("q 0 255\na {last} {asked} {room}\nq 0 {first}\ns 5 {}\na {last} {asked} {room}\na {} 0 0", c.k * pack + 1, c.n));
+                self.put(format!("s 5 {}\nw 100", c.k * pack));
+            }
+            for c in faulty {
+                self.catalogue(c);
+                self.put(format!("a {last} {asked} {room}\na 17 0 0"));
+            }
+        }
+        for (day, held) in [(c.close, vec![c]), (UNREAL[2], vec![c, undated(c)])] {
+            self.today(day);
+            self.held_calls(c, &held);
+            for c in faulty {
+                self.hold(c);
+                self.put(format!("i 0 {asked}\ni 17 0\nh 0 {room} {slots}\nr {slots} {pack}"));
+            }
+        }
+        // begin, and a whole fetch with its refusals
+        self.catalogue(c);
+        let (key, packs) = (key_length(c), c.k);
+        self.put(format!("b 0\nb {packs}\nx 0\nx {packs}\nk 0 {}\nb 0\nx 0\nk 0 {key}\no 0 255\nb 0\nx 0", key + 1));
+    }
+
+    /// Whole fetches on the first and on the last day of a season, on the days beside it, and on no real day.
+    fn season_fetches(&mut self) {
+        self.put("# fetches in season and out of it\nz 255".to_string());
+        let even = [(2, 2, 3), (3, 2, 34), (2, 8, 2), (4, 3, 4), (16, 2, 6)].map(|(n, k, s)| plain(true, n, k, s));
+        let short = [(2, 2, 1), (3, 3, 4096), (16, 32, 2), (5, 4, 7), (7, 31, 6)].map(|(n, k, s)| plain(false, n, k, s));
+        for (i, c) in even.into_iter().chain(short).enumerate() {
+            let (open, close) = [SEASONS[0], SEASONS[1], SEASONS[2], SEASONS[4], SEASONS[5], SEASONS[6], SEASONS[7]][i % 7];
+            let c = dated(Catalogue { add: c.s % 2 == 0, ..c }, open, close);
+            self.catalogue(c);
+            self.lend(c);
+            for day in [open, later(close, -1), close, later(open, -1), UNREAL[i]] {
+                self.today(day);
+                let wanted = self.draw.below(c.k);
+                self.put(format!("x {wanted}"));
+            }
+            self.put(format!("x {}", c.k));
+        }
+    }
+
+    /// Fetches whose calls come on days in season and out of it: begun, taken and recovered out of it; issued in it and asked out of it, and the other
+    /// way round.
+    fn across(&mut self, c: Catalogue) {
+        let (asked, room, slots, pack) = (request_length(c), slot(c), c.n * slot(c), pack_length(c));
+        self.put(format!("# across the ends {}", titled(c)));
+        let (first, last, before, after) = (c.open, later(c.close, -1), later(c.open, -1), c.close);
+        self.today(before);
+        self.catalogue(c);
+        self.lend(c);
+        self.put(format!("z 77\nb 1\ni 0 {asked}\nh 0 {room} {slots}\nh 0 0 {slots}\nr {slots} {pack}"));
+        for mirror in 0..c.n {
+            let (issue, ask) = (format!("i {mirror} {asked}"), format!("a {mirror} {asked} {room}"));
+            for (day, calls) in [(first, &format!("{issue}\n{ask}")), (after, &ask), (UNREAL[mirror], &ask), (last, &ask), (after, &issue)] {
+                self.today(day);
+                self.put(calls.to_string());
+            }
+            // the request is gone with the issue that was refused; asked for again on the last day, and its answer taken when all is over
+            self.today(last);
+            self.put(format!("{issue}\n{ask}"));
+            self.today([after, before, UNREAL[2]][mirror % 3]);
+            self.put(format!("h {mirror} {room} {slots}\nh {mirror} 0 {slots}\nr {slots} {pack}"));
+        }
+        for day in [after, NO_DAY, HUGE[5], first] {
+            self.today(day);
+            self.put(format!("r {slots} {pack}\ni 0 {asked}"));
+        }
+    }
+
+    /// A day near the ends of a catalogue's season, more often in it than not.
+    fn near_day(&mut self, c: Catalogue) -> Day {
+        let (first, last) = (c.open, later(c.close, -1));
+        [first, last, first, last, first, last, later(first, -1), c.close, UNREAL[self.draw.below(6)]][self.draw.below(9)]
+    }
+
+    /// A session with calls in any order, with numbers and lengths at their bounds and beside them; where there are dates, on days near their ends.
     fn session(&mut self, c: Catalogue, calls: usize) {
-        self.put(format!("# session {}", shown_catalogue(c)));
+        self.put(format!("# session {}", titled(c)));
         self.catalogue(c);
         self.lend(c);
         let (before, wanted) = (self.draw.below(256), self.draw.below(c.k));
         self.put(format!("z {before}\nb {wanted}"));
         for _ in 0..calls {
+            if has_dates(c) {
+                let day = self.near_day(c);
+                self.today(day);
+            }
             let mirror = self.draw.below(c.n + 1).min(c.n - 1 + self.draw.below(20) / 19);
             let mut near = |length: usize| match self.draw.below(8) {
                 0 => length - 1,
@@ -1357,7 +1873,7 @@ impl Cases {
 
 /// The lines of the program `conformance`.
 fn cases() -> Bytes {
-    let mut cases = Cases { out: Vec::new(), draw: Draw(7) };
+    let mut cases = Cases { out: Vec::new(), draw: Draw(7), open: NO_DAY, close: NO_DAY };
     cases.texts();
     cases.sum_texts();
     cases.bounds();
@@ -1384,7 +1900,31 @@ fn cases() -> Bytes {
     for (even, n, k, s) in [(false, 2, 2, 2), (false, 4, 3, 4096), (false, 5, 4, 6), (true, 2, 3, 2), (true, 4, 2, 4096), (true, 3, 3, 4)] {
         cases.session(adding(plain(even, n, k, s)), 40);
     }
+    seasons(&mut cases);
     cases.out
+}
+
+/// The lines about days and seasons (02, item 1).
+fn seasons(cases: &mut Cases) {
+    cases.season_texts();
+    cases.day_texts();
+    cases.season_values(plain(false, 3, 2, 2));
+    cases.season_values(plain(true, 2, 2, 1));
+    cases.days();
+    let codes = [plain(false, 3, 2, 2), adding(plain(true, 2, 2, 2))];
+    for (c, (open, close)) in codes.into_iter().zip(SEASONS) {
+        cases.season_orders(dated(c, open, close));
+    }
+    cases.season_fetches();
+    for (c, (open, close)) in codes.into_iter().zip(SEASONS) {
+        cases.across(dated(c, open, close));
+        cases.today(open);
+        cases.refusals(dated(c, open, close));
+    }
+    for (i, (even, n, k, s)) in [(false, 2, 2, 1), (false, 4, 3, 4096), (true, 2, 3, 2), (true, 3, 2, 4)].into_iter().enumerate() {
+        let (open, close) = SEASONS[i * 2 % 3];
+        cases.session(dated(Catalogue { add: i % 2 == 1, ..plain(even, n, k, s) }, open, close), 40);
+    }
 }
 
 /// The sum of 02, item 2, by its words: low byte first, carried into the high one, wrapping at 65,536, nothing carried into the next word.
@@ -1403,14 +1943,61 @@ fn added_words() {
     }
 }
 
-/// Whole fetches: every (N, K) of the even code and a spread of the short one recover each wanted pack, in both sums, by the same requests.
+/// The calendar, by facts that it was not made from: how many days there are and of which kinds, days known to be a number of days apart, weekdays.
+fn days() {
+    let all = &calendar().days;
+    let count = |test: fn(&&Day) -> bool| all.iter().filter(test).count();
+    assert_eq!((all.len(), all.len() % 7, all[0], all[146_096]), (146_097, 0, FIRST, LAST));
+    assert_eq!((count(|d| d[1..] == [2, 29]), count(|d| d[2] == 31), count(|d| d[2] == 30), count(|d| d[2] == 1)), (97, 7 * 400, 11 * 400, 12 * 400));
+    assert_eq!(calendar().places.len(), all.len());
+    assert!(all.iter().enumerate().all(|(i, &day)| place(day) == Some(i)));
+    assert!(EDGES.iter().all(|&day| place(day).is_some()));
+    assert!(UNREAL.iter().chain(&HUGE).chain([&NO_DAY]).all(|&day| place(day).is_none()));
+    assert!((2000..2400).all(|year| place([year, 2, 29]).is_some() == (place([year, 12, 31]).unwrap() - place([year, 1, 1]).unwrap() == 365)));
+    // 1970 began 10,957 days before 2000: the days on which the seconds since then pass 2^31, 2^32 and ten milliards
+    let seconds = [(1 << 31, [2038, 1, 19]), (1 << 32, [2106, 2, 7]), (10_000_000_000, [2286, 11, 20])];
+    assert!(seconds.iter().all(|&(seconds, day)| place(day) == Some(seconds / 86_400 - 10_957)));
+    // 2000 began on a Saturday; 2024-02-29 was a Thursday, 2100-03-01 will be a Monday
+    assert_eq!([FIRST, [2024, 2, 29], [2100, 3, 1]].map(|day| (place(day).unwrap() + 6) % 7), [6, 4, 1]);
+    assert_eq!([later([2024, 2, 28], 1), later([2100, 2, 28], 1), later([2025, 1, 1], -1)], [[2024, 2, 29], [2100, 3, 1], [2024, 12, 31]]);
+}
+
+/// Seasons by 02, item 1: dates read and written, their refusals, the days in and out of them.
+fn season_rules() {
+    for c in [plain(false, 3, 3, 4), adding(plain(true, 2, 2, 2))] {
+        for (open, close) in PAIRS.into_iter().chain(SEASONS) {
+            assert_eq!(read(write_text(dated(c, open, close)).as_bytes()), Ok(dated(c, open, close)));
+            assert_eq!([(close, open), (open, open)].map(|(open, close)| read(write_text(dated(c, open, close)).as_bytes())), [Err(2); 2]);
+            let days = [later(close, -1), open, close, NO_DAY, [2023, 2, 29]];
+            assert_eq!(days.map(|day| in_season(dated(c, open, close), day)), [Ok(()), Ok(()), Err(14), Err(13), Err(13)]);
+            assert_eq!(days.map(|day| in_season(c, day)), [Ok(()); 5]);
+        }
+        for day in UNREAL {
+            assert_eq!([(day, LAST), (FIRST, day)].map(|(open, close)| read(write_text(dated(c, open, close)).as_bytes())), [Err(1); 2]);
+        }
+        for day in UNREAL.into_iter().chain(HUGE).chain([NO_DAY]) {
+            assert_eq!([(day, LAST), (FIRST, day)].map(|(open, close)| judged(dated(c, open, close))), [Err(2); 2]);
+        }
+        assert_eq!(PARTS.map(|(open, close)| judged(dated(c, open, close))), [Err(2); 7]);
+        let good = write_text(dated(undated(c), A, B));
+        let lines = season_text(&spelled(A), &spelled(B));
+        assert!(other_lines().iter().all(|to| read(good.replacen(&lines, to, 1).as_bytes()) == Err(1)));
+    }
+    let text = "code=short\nmirrors=3\npacks=3\npiece=4\nopen=2024-02-03\nclose=2025-10-09\nsum=add\n";
+    assert_eq!(write_text(adding(dated(plain(false, 3, 3, 4), A, B))), text);
+}
+
+/// Whole fetches: every (N, K) of the even code and a spread of the short one recover each wanted pack, in both sums, by the same requests; with a
+/// season too, on its days and on no other.
 fn fetches() {
     let mut draw = Draw(1);
     for n in 2..=16 {
         let even = (2..=8).map(|k| plain(true, n, k, 2));
         let short = [2, 5, 32].into_iter().flat_map(|k| [plain(false, n, k, 3), plain(false, n, k, 6)]);
         let both = even.chain(short).flat_map(|c| [c, adding(c)]);
-        for c in both.filter(|&c| admitted(c)).collect::<Vec<_>>() {
+        let (open, close) = SEASONS[n % SEASONS.len()];
+        let all = both.flat_map(|c| [c, dated(c, open, close)]).filter(|&c| admitted(c));
+        for c in all.collect::<Vec<_>>() {
             assert_eq!(read(write_text(c).as_bytes()), Ok(c));
             let store: Bytes = (0..c.k * pack_length(c)).map(|_| draw.below(256) as u8).collect();
             for wanted in 0..c.k {
@@ -1419,9 +2006,14 @@ fn fetches() {
                 let (mut buffer, mut answers, mut pack) = (vec![0; 1024], vec![7; n * slot(c)], vec![9; pack_length(c) + 1]);
                 assert_eq!(session.recover(&answers, &mut pack), Err(12));
                 for mirror in 0..n {
-                    session.issue(mirror, &mut buffer).unwrap();
+                    let today = if mirror % 2 == 0 { open } else { later(close, -1) };
+                    session.issue(today, mirror, &mut buffer).unwrap();
                     assert_eq!(buffer[..request_length(c)], request(Catalogue { add: !c.add, ..c }, wanted, mirror, &key));
-                    let answer = answering(c, mirror, &store, &buffer[..request_length(c)], slot(c)).unwrap();
+                    let answer = answering(c, today, mirror, &store, &buffer[..request_length(c)], slot(c)).unwrap();
+                    if has_dates(c) {
+                        assert_eq!(session.issue(close, mirror, &mut buffer), Err(14));
+                        assert_eq!(answering(c, NO_DAY, mirror, &store, &buffer[..request_length(c)], slot(c)), Err(13));
+                    }
                     session.take(mirror, &answer, &mut answers).unwrap();
                     assert_eq!(session.take(mirror, &answer, &mut answers), Err(11));
                 }
@@ -1440,8 +2032,10 @@ fn main() {
             tables();
             cards();
             added_words();
+            days();
+            season_rules();
             fetches();
-            println!("second implementation: the papers' tables, the bench cards and whole fetches agree");
+            println!("second implementation: the papers' tables, the bench cards, the calendar and whole fetches agree");
         }
         ["printer", folder] => {
             for (i, input) in printer_inputs().iter().enumerate() {

@@ -1,15 +1,18 @@
--- What an admitted catalogue's numbers and sizes are bounded by (`admitted-numbers`, `admitted-small`). Rests on the bounds of each code.
+-- What an admitted catalogue's numbers and sizes are bounded by (`admitted-numbers`, `admitted-small`), and what its dates are (`admitted-dates`). Rests
+-- on the bounds of each code.
 use mathlib.Core.Path.{_≡_}
 use mathlib.Core.Bool.{true}
 use Prim.Native.Nat.{ℕ, _≤_}
 use native.Mathlib.Omega.{arith}
 use borrow.Author.Tests.{eqb-false, not-false}
+use Rattle.lists.proofs.Both.{both-true}
 use Rattle.refusal.proofs.Accepted.{accepted-none}
 use Rattle.parameters.proofs.Bounds.{short-bounds, even-bounds}
 use Rattle.catalogue.specs.declared.Code.{Code}
 use Rattle.catalogue.specs.declared.Code.the-variants.{Short, Even}
 use Rattle.catalogue.specs.declared.Catalogue.{Catalogue}
-use Rattle.catalogue.specs.Catalogue.{fits, inBounds, catalogueFaults, catalogueVerdict, Admitted, sizesBy, sizesOf}
+use Rattle.catalogue.specs.Catalogue.{fits, numbersFit, datesFit, inBounds, catalogueFaults, catalogueVerdict, Admitted}
+use Rattle.catalogue.specs.Catalogue.{sizesBy, sizesOf}
 use Rattle.parameters.proofs.SmallSizes.{Small, short-small, even-small}
 
 -- the numbers of an admitted catalogue, in every code
@@ -29,9 +32,16 @@ fits-small : (code : Code) (N K S : ℕ) → fits code N K S ≡ true → Small 
 fits-small Short N K S e = short-small N K S (short-bounds N K S e)
 fits-small Even N K S e = even-small N K S (even-bounds N K S e)
 
-pub admitted-fits : (c : Catalogue) → Admitted c → inBounds c ≡ true
+admitted-bounds : (c : Catalogue) → Admitted c → (numbersFit c ≡ true) × (datesFit (c .opening) (c .closing) ≡ true)
 unfolding catalogueVerdict
-admitted-fits c a = not-false (inBounds c) (accepted-none (catalogueFaults c) a .0)
+admitted-bounds c a =
+    both-true (numbersFit c) (datesFit (c .opening) (c .closing)) (not-false (inBounds c) (accepted-none (catalogueFaults c) a .0))
+
+pub admitted-fits : (c : Catalogue) → Admitted c → numbersFit c ≡ true
+admitted-fits c a = admitted-bounds c a .0
+
+pub admitted-dates : (c : Catalogue) → Admitted c → datesFit (c .opening) (c .closing) ≡ true
+admitted-dates c a = admitted-bounds c a .1
 
 pub admitted-numbers : (c : Catalogue) → Admitted c → Numbers (c .servers) (c .messages) (c .symbol)
 unfolding catalogueVerdict

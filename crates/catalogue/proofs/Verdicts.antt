@@ -8,7 +8,7 @@ use native.Mathlib.Nat.{pow-le-pow-left}
 use native.Mathlib.Omega.{arith}
 use borrow.Author.Tests.{eqb-true, eqb-false, eq-eqb, ne-eqb, leb-true, le-leb}
 use lib.Dec.{eqb, leb}
-use Rattle.lists.proofs.Both.{both-true}
+use Rattle.lists.proofs.Both.{both-true, true-both}
 use Rattle.refusal.specs.declared.Verdict.the-variants.{Accepted}
 use Rattle.refusal.specs.Chain.{refused, refuseIf}
 use Rattle.refusal.specs.Numbers.{refusalOf}
@@ -20,7 +20,7 @@ use Rattle.symbol.proofs.Operations.{not-added}
 use Rattle.catalogue.specs.declared.Code.{Code}
 use Rattle.catalogue.specs.declared.Code.the-variants.{Short, Even}
 use Rattle.catalogue.specs.declared.Catalogue.{Catalogue}
-use Rattle.catalogue.specs.Catalogue.{fits, inBounds, wholeWords, catalogueVerdict, Admitted}
+use Rattle.catalogue.specs.Catalogue.{fits, numbersFit, datesFit, inBounds, wholeWords, catalogueVerdict, Admitted}
 use Rattle.catalogue.proofs.Admitted.{fits-numbers}
 use Rattle.catalogue.proofs.Faults.{catalogue-chain}
 
@@ -51,7 +51,9 @@ module _ (c : Catalogue) where
 
   -- within its bounds with more than one message there are two or more
   two-messages : inBounds c ≡ true → (c .messages ≡ 1 → ⊥) → 2 ≤ c .messages
-  two-messages within more = fits-numbers (c .code) (c .servers) (c .messages) (c .symbol) within more .messages-low
+  two-messages within more =
+      let kept = both-true (numbersFit c) (datesFit (c .opening) (c .closing)) within .0 in
+      fits-numbers (c .code) (c .servers) (c .messages) (c .symbol) kept more .messages-low
 
   -- out of bounds and refused 2, or within them with one message and refused 17, or with more, and odd symbols are added, and refused 15, or admitted
   cases : {A : Type 0} → (inBounds c ≡ false → catalogueVerdict c ≡ refused 2 → A)
@@ -117,8 +119,9 @@ one-fits Even N S n s =
     let few : leb (N ^ 1) 256 ≡ true = le-leb (N ^ 1) 256 (omega arith) in
     rw (n, s, few)
 
--- so that no code refuses it by 2, and none by 15
-pub one-message : (code : Code) (N S : ℕ) (sum : Operation) → serversFit N ≡ true → symbolFits S ≡ true
-    → catalogueVerdict (record { code = code; servers = N; messages = 1; symbol = S; sum = sum }) ≡ refused 17
-one-message code N S sum n s =
-    refused-one-message (record { code = code; servers = N; messages = 1; symbol = S; sum = sum }) .1 (one-fits code N S n s, refl)
+-- so that no code refuses it by 2 where its dates are kept, and none by 15
+pub one-message : (c : Catalogue) → serversFit (c .servers) ≡ true → symbolFits (c .symbol) ≡ true → datesFit (c .opening) (c .closing) ≡ true
+    → c .messages ≡ 1 → catalogueVerdict c ≡ refused 17
+one-message c n s dates one =
+    let fit : numbersFit c ≡ true = rw one (one-fits (c .code) (c .servers) (c .symbol) n s) in
+    refused-one-message c .1 (true-both fit dates, one)

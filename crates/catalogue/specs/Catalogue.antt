@@ -1,6 +1,6 @@
--- Catalogue values: which are admitted, and the sizes that follow (document 01, 'Catalogue'; document 02, items 2 and 9).
+-- Catalogue values: which are admitted, and the sizes that follow (document 01, 'Catalogue'; document 02, items 1, 2 and 9).
 use mathlib.Core.Path.{_≡_}
-use mathlib.Core.Bool.{Bool, true, not}
+use mathlib.Core.Bool.{Bool, true, not, _&&_, _||_}
 use mathlib.Core.List.{List, [], _∷_}
 use Prim.Native.Nat.{ℕ, _%_}
 use lib.Dec.{eqb}
@@ -10,6 +10,8 @@ use Rattle.refusal.specs.Foremost.{Fault, fault, foremost}
 use Rattle.parameters.specs.declared.Sizes.{Sizes}
 use Rattle.parameters.specs.Bounds.{shortFits, evenFits}
 use Rattle.parameters.specs.Measures.{shortSizes, evenSizes}
+use Rattle.calendar.specs.declared.Day.{Day}
+use Rattle.calendar.specs.Calendar.{realDay, before, noDay, undated}
 use Rattle.symbol.specs.declared.Operation.{Operation}
 use Rattle.symbol.specs.declared.Operation.the-variants.{ExclusiveOr, Addition}
 use Rattle.catalogue.specs.declared.Code.{Code}
@@ -24,8 +26,16 @@ fits Short = shortFits
 fits Even = evenFits
 
 -- the catalogue's numbers are within the bounds of its code
+abbrev pub numbersFit : Catalogue → Bool
+numbersFit c = fits (c .code) (c .servers) (c .messages) (c .symbol)
+
+-- two dates that a catalogue may hold (02, item 1): none, or two real days, of which the opening comes before the closing. One date only is not such
+unfoldable pub datesFit : Day → Day → Bool
+datesFit opening closing = undated opening closing || realDay opening && (realDay closing && before opening closing)
+
+-- the catalogue keeps its bounds, those of its dates too
 abbrev pub inBounds : Catalogue → Bool
-inBounds c = fits (c .code) (c .servers) (c .messages) (c .symbol)
+inBounds c = numbersFit c && datesFit (c .opening) (c .closing)
 
 -- symbols (01: pieces) of S bytes are whole words, where words are added (02, item 2)
 abbrev pub wholeWords : Operation → ℕ → Bool
@@ -64,6 +74,7 @@ measuredBy (Refused refusal) sizes = NotMeasured refusal
 unfoldable pub measuredOf : Catalogue → Measured
 measuredOf c = measuredBy (catalogueVerdict c) (sizesOf c)
 
--- what a refused reading hands back: zeros, the code short, the sum exclusive or
+-- what a refused reading hands back: zeros, the dates' places too, the code short, the sum exclusive or
 abbrev pub zeroCatalogue : Catalogue
-zeroCatalogue = record { code = Short; servers = 0; messages = 0; symbol = 0; sum = ExclusiveOr }
+zeroCatalogue =
+    record { code = Short; sum = ExclusiveOr; opening = noDay; closing = noDay; servers = 0; messages = 0; symbol = 0 }

@@ -1,11 +1,13 @@
-// The catalogue: which code, how many servers and messages, how long a symbol, what symbols are combined by; whether it is admitted, and the
-// sizes that follow.
+// The catalogue: which code, how many servers and messages, how long a symbol, what symbols are combined by, in which season; whether it is
+// admitted, and on which days it is served, and the sizes that follow.
+use calendar::Day;
 use parameters::Sizes;
 use refusal::Refusal;
 use refusal::Verdict;
 use symbol::Operation;
 ghost use mathlib.Core.Path.{_≡_};
-ghost use Rattle.catalogue.specs.Catalogue.{inBounds, wholeWords, catalogueVerdict, zeroCatalogue, measuredOf};
+ghost use Rattle.catalogue.specs.Catalogue.{numbersFit, datesFit, inBounds, wholeWords, catalogueVerdict, zeroCatalogue, measuredOf};
+ghost use Rattle.catalogue.specs.Days.{dayVerdict};
 
 // The code that every fetch from the catalogue uses.
 pub enum Code {
@@ -19,6 +21,9 @@ pub struct Catalogue {
     pub code: Code,
     // What symbols are combined by (02, item 2: `sum=`).
     pub sum: Operation,
+    // The season (02, item 1: `open=` and `close=`): its first day, and the first day after it. Zeros in both where there are no dates.
+    pub opening: Day,
+    pub closing: Day,
     // N (01: mirrors).
     pub servers: usize,
     // K (01: packs).
@@ -33,15 +38,41 @@ pub enum Measured {
     Refused(Refusal),
 }
 
-// Whether the catalogue is within the bounds of its code.
-fn in_bounds(c: Catalogue) -> bool
-    ensures { λ r. ⌜ r ≡ inBounds c ⌝ }
+// Whether the numbers of servers, messages and a symbol's bytes are within the bounds of the code.
+fn numbers_fit(c: Catalogue) -> bool
+    ensures { λ r. ⌜ r ≡ numbersFit c ⌝ }
 {
     let code = c.code;
     match code {
         Code::Short => parameters::short::fits(c.servers, c.messages, c.symbol),
         Code::Even => parameters::even::fits(c.servers, c.messages, c.symbol),
     }
+}
+
+// Whether two dates can be a season's: none, or two real days, of which the opening comes first.
+fn dates_fit(opening: Day, closing: Day) -> bool
+    ensures { λ r. ⌜ r ≡ datesFit opening closing ⌝ }
+{
+    if calendar::are_none(opening, closing) {
+        return true;
+    }
+    if !calendar::is_real(opening) {
+        return false;
+    }
+    if !calendar::is_real(closing) {
+        return false;
+    }
+    calendar::is_before(opening, closing)
+}
+
+// Whether the catalogue keeps its bounds.
+fn in_bounds(c: Catalogue) -> bool
+    ensures { λ r. ⌜ r ≡ inBounds c ⌝ }
+{
+    if !numbers_fit(c) {
+        return false;
+    }
+    dates_fit(c.opening, c.closing)
 }
 
 // Whether symbols of s bytes are whole words, where words are added.
@@ -71,16 +102,34 @@ pub fn verdict(c: Catalogue) -> Verdict
     Verdict::Accepted
 }
 
+// Whether today is a day on which the catalogue is served: any day where it has no dates, else a real one in its season.
+pub fn day_verdict(c: Catalogue, today: Day) -> Verdict
+    ensures { λ r. ⌜ r ≡ dayVerdict c today ⌝ }
+{
+    if calendar::are_none(c.opening, c.closing) {
+        return Verdict::Accepted;
+    }
+    if !calendar::is_real(today) {
+        return Verdict::Refused(Refusal::UnrealDay);
+    }
+    if calendar::in_season(c.opening, c.closing, today) {
+        return Verdict::Accepted;
+    }
+    Verdict::Refused(Refusal::OutOfSeason)
+}
+
 // The catalogue of zeros, its code short, its sum exclusive or.
 pub fn zero() -> Catalogue
     ensures { λ r. ⌜ r ≡ zeroCatalogue ⌝ }
 {
     Catalogue {
         code: Code::Short,
+        sum: Operation::ExclusiveOr,
+        opening: calendar::none(),
+        closing: calendar::none(),
         servers: 0,
         messages: 0,
         symbol: 0,
-        sum: Operation::ExclusiveOr,
     }
 }
 

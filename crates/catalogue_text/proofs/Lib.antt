@@ -1,4 +1,5 @@
 pub mod TextParts
+pub mod FirstLines
 pub mod CatalogueLines
 pub mod Faults
 pub mod RoundTrip

@@ -1,20 +1,26 @@
--- The lines of a catalogue's text: their lengths (`text-length`), and how they come to stand side by side in a buffer (`put-five`).
-use mathlib.Core.Path.{_≡_, ap, _∙_}
+-- The lines of a catalogue's text: how it is put together from them (`text-parts`), their lengths (`text-length`), and how they come to stand side by
+-- side in a buffer (`put-six`). What an admitted catalogue's text can hold (`admitted-writable`).
+use mathlib.Core.Path.{_≡_, refl, ap, _∙_}
+use mathlib.Core.Bool.{Bool, true, false, _&&_, _||_}
 use mathlib.Core.List.{List, _++_, append-assoc}
 use Prim.Native.Nat.{ℕ, _+_, _≤_}
 use native.Mathlib.Omega.{arith}
 use lib.ListN.{length, length-append}
 use Rattle.lists.specs.Parts.{put}
-use Rattle.lists.proofs.Puts.{put-next}
+use Rattle.lists.proofs.Both.{both-true, true-both}
+use Rattle.lists.proofs.Puts.{put-next, put-three}
 use Rattle.text_lines.specs.Lines.{numberText}
 use Rattle.symbol.specs.declared.Operation.{Operation}
 use Rattle.symbol.specs.declared.Operation.the-variants.{ExclusiveOr, Addition}
+use Rattle.calendar.specs.declared.Day.{Day}
+use Rattle.calendar.specs.Calendar.{realDay, before, undated}
+use Rattle.season_text.specs.SeasonLines.{inForm, seasonText}
 use Rattle.catalogue.specs.declared.Code.{Code}
 use Rattle.catalogue.specs.declared.Code.the-variants.{Short, Even}
 use Rattle.catalogue.specs.declared.Catalogue.{Catalogue}
-use Rattle.catalogue.specs.Catalogue.{Admitted}
-use Rattle.catalogue.proofs.Admitted.{admitted-numbers}
-use Rattle.catalogue_text.specs.Text.{codeText, serversName, messagesName, symbolName, sumText, textOf, FiveDigits}
+use Rattle.catalogue.specs.Catalogue.{datesFit, Admitted}
+use Rattle.catalogue.proofs.Admitted.{admitted-numbers, admitted-dates}
+use Rattle.catalogue_text.specs.Text.{codeText, serversName, messagesName, symbolName, sumText, textOf, Writable}
 
 pub code-most : (code : Code) → length (codeText code) ≤ 11
 code-most Short = omega arith
@@ -24,37 +30,82 @@ pub sum-most : (sum : Operation) → length (sumText sum) ≤ 8
 sum-most ExclusiveOr = omega arith
 sum-most Addition = omega arith
 
+-- the first four lines
+abbrev pub firstText : Code → ℕ → ℕ → ℕ → List ℕ
+firstText code N K S = codeText code ++ (numberText serversName N ++ (numberText messagesName K ++ numberText symbolName S))
+
+pub first-length : (code : Code) (N K S : ℕ)
+    → length (codeText code) + length (numberText serversName N) + length (numberText messagesName K) + length (numberText symbolName S)
+    ≡ length (firstText code N K S)
+first-length code N K S =
+    let b = numberText serversName N in
+    let d = numberText messagesName K in
+    let e = numberText symbolName S in
+    let l = length-append (codeText code) (b ++ (d ++ e)) in
+    let m = length-append b (d ++ e) in
+    let n = length-append d e in
+    omega arith
+
+-- the first lines, the dates and the sum
+pub text-parts : (c : Catalogue)
+    → textOf c ≡ firstText (c .code) (c .servers) (c .messages) (c .symbol) ++ (seasonText (c .opening) (c .closing) ++ sumText (c .sum))
+unfolding textOf
+text-parts c = simp append-assoc
+
+pub parts-length : (c : Catalogue)
+    → length (firstText (c .code) (c .servers) (c .messages) (c .symbol)) + length (seasonText (c .opening) (c .closing)) + length (sumText (c .sum))
+    ≡ length (textOf c)
+parts-length c =
+    let first = firstText (c .code) (c .servers) (c .messages) (c .symbol) in
+    let season = seasonText (c .opening) (c .closing) in
+    let l = ap length (text-parts c) in
+    let m = length-append first (season ++ sumText (c .sum)) in
+    let n = length-append season (sumText (c .sum)) in
+    omega arith
+
 pub text-length : (c : Catalogue)
     → length (textOf c)
     ≡ length (codeText (c .code)) + length (numberText serversName (c .servers))
-    + length (numberText messagesName (c .messages)) + length (numberText symbolName (c .symbol)) + length (sumText (c .sum))
-unfolding textOf
-text-length c =
-    let servers = numberText serversName (c .servers) in
-    let messages = numberText messagesName (c .messages) in
-    let symbol = numberText symbolName (c .symbol) in
-    let sum = sumText (c .sum) in
-    let a = length-append (codeText (c .code)) (servers ++ (messages ++ (symbol ++ sum))) in
-    let b = length-append servers (messages ++ (symbol ++ sum)) in
-    let d = length-append messages (symbol ++ sum) in
-    let e = length-append symbol sum in
-    omega arith
+    + length (numberText messagesName (c .messages)) + length (numberText symbolName (c .symbol))
+    + length (seasonText (c .opening) (c .closing)) + length (sumText (c .sum))
+text-length c = let l = parts-length c in let m = first-length (c .code) (c .servers) (c .messages) (c .symbol) in omega arith
 
-pub admitted-digits : (c : Catalogue) → Admitted c → FiveDigits c
-admitted-digits c a = let b = admitted-numbers c a in omega arith
+-- ---- an admitted catalogue can be written
 
--- ---- five parts written one after another
+-- a test left out
+without-last : (t u v w : Bool) → t || u && (v && w) ≡ true → t || u && v ≡ true
+without-last true u v w e = refl
+without-last false u v w e = let p = both-true u (v && w) e in true-both (p .0) (both-true v w (p .1) .0)
 
-pub put-five : (a b d e f out out₁ out₂ out₃ out₄ out₅ : List ℕ) (p₁ p₂ p₃ p₄ : ℕ)
-    → p₁ ≡ length a → p₂ ≡ p₁ + length b → p₃ ≡ p₂ + length d → p₄ ≡ p₃ + length e
-    → out₁ ≡ put 0 a out → out₂ ≡ put p₁ b out₁ → out₃ ≡ put p₂ d out₂ → out₄ ≡ put p₃ e out₃ → out₅ ≡ put p₄ f out₄
-    → out₅ ≡ put 0 (a ++ (b ++ (d ++ (e ++ f)))) out
-put-five a b d e f out out₁ out₂ out₃ out₄ out₅ p₁ p₂ p₃ p₄ i₁ i₂ i₃ i₄ o₁ o₂ o₃ o₄ o₅ =
-    let j₂ : p₂ ≡ 0 + length (a ++ b) = let l = length-append a b in omega arith in
-    let j₃ : p₃ ≡ 0 + length ((a ++ b) ++ d) = let l = length-append (a ++ b) d in omega arith in
-    let j₄ : p₄ ≡ 0 + length (((a ++ b) ++ d) ++ e) = let l = length-append ((a ++ b) ++ d) e in omega arith in
-    let all : (((a ++ b) ++ d) ++ e) ++ f ≡ a ++ (b ++ (d ++ (e ++ f))) = simp append-assoc in
-    let two : out₂ ≡ put 0 (a ++ b) out = o₂ ∙ put-next 0 p₁ a b out out₁ (omega arith) (omega arith) o₁ in
-    let three : out₃ ≡ put 0 ((a ++ b) ++ d) out = o₃ ∙ put-next 0 p₂ (a ++ b) d out out₂ (omega arith) j₂ two in
-    let four : out₄ ≡ put 0 (((a ++ b) ++ d) ++ e) out = o₄ ∙ put-next 0 p₃ ((a ++ b) ++ d) e out out₃ (omega arith) j₃ three in
-    o₅ ∙ put-next 0 p₄ (((a ++ b) ++ d) ++ e) f out out₄ (omega arith) j₄ four ∙ ap (λ (l : List ℕ). put 0 l out) all
+dates-fit : (opening closing : Day) → datesFit opening closing ≡ true → inForm opening closing ≡ true
+unfolding datesFit inForm
+dates-fit opening closing e = without-last (undated opening closing) (realDay opening) (realDay closing) (before opening closing) e
+
+pub admitted-writable : (c : Catalogue) → Admitted c → Writable c
+admitted-writable c a =
+    let b = admitted-numbers c a in
+    record {
+      servers = omega arith;
+      messages = omega arith;
+      symbol = omega arith;
+      dates = dates-fit (c .opening) (c .closing) (admitted-dates c a);
+    }
+
+-- ---- six parts written one after another
+
+pub put-six : (a b d e f g out out₁ out₂ out₃ out₄ out₅ out₆ : List ℕ) (p₁ p₂ p₃ p₄ p₅ : ℕ)
+    → p₁ ≡ length a → p₂ ≡ p₁ + length b → p₃ ≡ p₂ + length d → p₄ ≡ p₃ + length e → p₅ ≡ p₄ + length f
+    → out₁ ≡ put 0 a out → out₂ ≡ put p₁ b out₁ → out₃ ≡ put p₂ d out₂
+    → out₄ ≡ put p₃ e out₃ → out₅ ≡ put p₄ f out₄ → out₆ ≡ put p₅ g out₅
+    → out₆ ≡ put 0 (a ++ (b ++ (d ++ (e ++ (f ++ g))))) out
+put-six a b d e f g out out₁ out₂ out₃ out₄ out₅ out₆ p₁ p₂ p₃ p₄ p₅ i₁ i₂ i₃ i₄ i₅ o₁ o₂ o₃ o₄ o₅ o₆ =
+    let three = a ++ (b ++ d) in
+    let five = three ++ (e ++ f) in
+    let l = length-append a (b ++ d) in
+    let m = length-append b d in
+    let n = length-append three (e ++ f) in
+    let k = length-append e f in
+    let done : out₃ ≡ put 0 three out = put-three 0 a b d out out₁ out₂ out₃ p₁ p₂ (omega arith) (omega arith) i₂ o₁ o₂ o₃ in
+    let more : out₅ ≡ put 0 five out = put-three 0 three e f out out₃ out₄ out₅ p₃ p₄ (omega arith) (omega arith) i₄ done o₄ o₅ in
+    let all : five ++ g ≡ a ++ (b ++ (d ++ (e ++ (f ++ g)))) = simp append-assoc in
+    o₆ ∙ put-next 0 p₅ five g out out₅ (omega arith) (omega arith) more ∙ ap (λ (x : List ℕ). put 0 x out) all

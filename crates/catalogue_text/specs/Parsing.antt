@@ -1,5 +1,5 @@
--- Reading catalogue text (document 01, 'Catalogue' and 'Numbers a call can give'; document 02, item 2): each line yields its value and where the
--- next line begins, or ends the reading. `readOf` is the reading of a whole text, `linesOf` that of its start.
+-- Reading catalogue text (document 01, 'Catalogue' and 'Numbers a call can give'; document 02, items 1 and 2): each line yields its value and where
+-- the next line begins, or ends the reading. `readOf` is the reading of a whole text, `linesOf` that of its start.
 use Prim.Native.Nat.{ℕ, zero, suc, _+_}
 use mathlib.Core.Bool.{cond, not}
 use mathlib.Core.List.{List, _∷_}
@@ -20,6 +20,12 @@ use Rattle.catalogue.specs.Catalogue.{catalogueFaults, zeroCatalogue}
 use Rattle.text_lines.specs.declared.Line.{Line}
 use Rattle.text_lines.specs.declared.Line.the-variants.{Value, Refused as NoLine}
 use Rattle.text_lines.specs.Lines.{begins, numberLine}
+use Rattle.calendar.specs.declared.Day.{Day}
+use Rattle.season_text.specs.declared.Season.{Season}
+use Rattle.season_text.specs.declared.Season.the-variants.{Of as Dates, Refused as NoSeason}
+use Rattle.season_text.specs.SeasonLines.{seasonLines}
+use Rattle.catalogue_text.specs.declared.First.{First}
+use Rattle.catalogue_text.specs.declared.First.the-variants.{Of, Refused as NoFirst}
 use Rattle.catalogue_text.specs.declared.Lines.{Lines}
 use Rattle.catalogue_text.specs.declared.Reading.{Reading}
 use Rattle.catalogue_text.specs.Text.{codeText, serversName, messagesName, symbolName, sumName, sumText}
@@ -46,24 +52,51 @@ sumLine text at =
     let rest = drop at text in
     cond (begins sumName rest) (cond (begins (sumText Addition) rest) (Value 1 (at + length (sumText Addition))) NoLine) (Value 0 at)
 
+-- ---- the four lines of document 01
+
+-- a line's value and the next place go on, or the reading ends
+abbrev pub onFirst : Line → (ℕ → ℕ → First) → First
+onFirst (Value value next) continue = continue value next
+onFirst NoLine continue = NoFirst
+
+unfoldable pub firstLines : List ℕ → First
+firstLines text =
+    onFirst (codeLine text) λ code a.
+    onFirst (numberLine serversName text a) λ N b.
+    onFirst (numberLine messagesName text b) λ K d.
+    onFirst (numberLine symbolName text d) λ S e.
+    Of (codeNamed code) N K S e
+
+-- ---- all lines
+
 -- a refused reading holds zeros, its code short, its sum exclusive or
 abbrev pub refusedLines : Refusal → Lines
 refusedLines refusal = record { verdict = Refused refusal; catalogue = zeroCatalogue; next = 0 }
 
--- a line's value and the next place go on, or the reading ends
-abbrev pub onLine : Line → (ℕ → ℕ → Lines) → Lines
-onLine (Value value next) continue = continue value next
-onLine NoLine continue = refusedLines (refusalOf 1)
+-- what was read and the next place go on, or the reading ends
+abbrev pub afterFirst : First → (Code → ℕ → ℕ → ℕ → ℕ → Lines) → Lines
+afterFirst (Of code N K S next) continue = continue code N K S next
+afterFirst NoFirst continue = refusedLines (refusalOf 1)
+
+abbrev pub afterSeason : Season → (Day → Day → ℕ → Lines) → Lines
+afterSeason (Dates opening closing next) continue = continue opening closing next
+afterSeason NoSeason continue = refusedLines (refusalOf 1)
+
+abbrev pub afterSum : Line → (ℕ → ℕ → Lines) → Lines
+afterSum (Value value next) continue = continue value next
+afterSum NoLine continue = refusedLines (refusalOf 1)
+
+abbrev pub catalogueOf : Code → ℕ → ℕ → ℕ → Day → Day → ℕ → Catalogue
+catalogueOf code N K S opening closing sum =
+    record { code = code; sum = sumNamed sum; opening = opening; closing = closing; servers = N; messages = K; symbol = S }
 
 -- the catalogue's lines at the start of a text, in any bounds
 unfoldable pub catalogueLines : List ℕ → Lines
 catalogueLines text =
-    onLine (codeLine text) λ code a.
-    onLine (numberLine serversName text a) λ N b.
-    onLine (numberLine messagesName text b) λ K d.
-    onLine (numberLine symbolName text d) λ S e.
-    onLine (sumLine text e) λ sum f.
-    record { verdict = Accepted; catalogue = record { code = codeNamed code; servers = N; messages = K; symbol = S; sum = sumNamed sum }; next = f }
+    afterFirst (firstLines text) λ code N K S e.
+    afterSeason (seasonLines text e) λ opening closing f.
+    afterSum (sumLine text f) λ sum g.
+    record { verdict = Accepted; catalogue = catalogueOf code N K S opening closing sum; next = g }
 
 -- a line is not there or not in its form
 abbrev pub lineFault : List ℕ → Fault

@@ -1,7 +1,8 @@
--- A catalogue's text: four lines, each ended by byte 10 (document 01, 'Catalogue'), and a line more where words are added (document 02, item 2).
+-- A catalogue's text: four lines, each ended by byte 10 (document 01, 'Catalogue'), then two with its dates, if it has any, and one more where words are
+-- added (document 02, items 1 and 2).
 use Prim.Native.Nat.{ℕ, _<_}
 use mathlib.Core.Path.{_≡_}
-use mathlib.Core.Bool.{Bool, false}
+use mathlib.Core.Bool.{Bool, true, false, _&&_, _||_}
 use mathlib.Core.List.{List, [], _++_}
 use Rattle.lists.specs.Ascii.{ascii}
 use Rattle.symbol.specs.declared.Operation.{Operation}
@@ -10,6 +11,7 @@ use Rattle.catalogue.specs.declared.Code.{Code}
 use Rattle.catalogue.specs.declared.Code.the-variants.{Short, Even}
 use Rattle.catalogue.specs.declared.Catalogue.{Catalogue}
 use Rattle.text_lines.specs.Lines.{numberText, begins}
+use Rattle.season_text.specs.SeasonLines.{inForm, seasonText, datesGoOn}
 
 -- the first line
 abbrev pub codeText : Code → List ℕ
@@ -40,19 +42,26 @@ unfoldable pub textOf : Catalogue → List ℕ
 textOf c =
     codeText (c .code)
     ++ (numberText serversName (c .servers)
-    ++ (numberText messagesName (c .messages) ++ (numberText symbolName (c .symbol) ++ sumText (c .sum))))
+    ++ (numberText messagesName (c .messages)
+    ++ (numberText symbolName (c .symbol) ++ (seasonText (c .opening) (c .closing) ++ sumText (c .sum)))))
 
--- What stands behind the text of a catalogue goes on with it: there is no line of the sum, and one begins. A reader sees what comes by its name
-abbrev pub goesOn : Operation → List ℕ → Bool
-goesOn ExclusiveOr rest = begins sumName rest
-goesOn Addition rest = false
+-- there is no line of the sum
+abbrev pub unsummed : Operation → Bool
+unsummed ExclusiveOr = true
+unsummed Addition = false
+
+-- What stands behind the text of a catalogue goes on with it: there is no line of the sum, and one begins, or there are no dates either, and a line of
+-- one begins. A reader sees what comes by its name
+abbrev pub goesOn : Catalogue → List ℕ → Bool
+goesOn c rest = unsummed (c .sum) && (begins sumName rest || datesGoOn (c .opening) (c .closing) rest)
 
 -- the catalogue's text ends where the rest begins
 abbrev pub Ends : Catalogue → List ℕ → Type 0
-Ends c rest = goesOn (c .sum) rest ≡ false
+Ends c rest = goesOn c rest ≡ false
 
--- N, K and S have at most five digits, as every number of a text has
-pub record FiveDigits (c : Catalogue) : Type 0 where
+-- A value that a text can hold: N, K and S have at most five digits, and there are no dates, or two real ones. It need not be within its bounds
+pub record Writable (c : Catalogue) : Type 0 where
   pub servers : c .servers < 100000
   pub messages : c .messages < 100000
   pub symbol : c .symbol < 100000
+  pub dates : inForm (c .opening) (c .closing) ≡ true

@@ -1,19 +1,34 @@
 // The catalogue's text: reading it line by line, and writing it.
+use calendar::Day;
 use catalogue::Catalogue;
+use catalogue::Code;
 use refusal::Outcome;
 use refusal::Refusal;
 use refusal::Verdict;
+use season_text::Season;
 use text_lines::Line;
 ghost use mathlib.Core.Path.{_≡_};
 ghost use Prim.Native.Nat.{_≤_};
 ghost use lib.ListN.{length};
 ghost use Rattle.lists.specs.Parts.{put};
 ghost use Rattle.catalogue_text.specs.Text.{textOf};
-ghost use Rattle.catalogue_text.specs.Parsing.{refusedLines, catalogueLines, linesOf, unread, readOf};
+ghost use Rattle.catalogue_text.specs.Parsing.{firstLines, catalogueOf, refusedLines, catalogueLines, linesOf, unread, readOf};
 ghost use Rattle.catalogue_text.specs.Writing.{Wrote};
 
-// The lines of the code and of the sum.
+// The lines of the code and of the sum; those of the dates are `season_text`'s.
 mod named;
+
+// The four lines that every catalogue's text begins with, and where they end; or lines out of form.
+enum First {
+    Of {
+        code: Code,
+        servers: usize,
+        messages: usize,
+        symbol: usize,
+        next: usize,
+    },
+    Refused,
+}
 
 // The catalogue's lines at the start of a text, and where they end.
 pub struct Lines {
@@ -26,6 +41,58 @@ pub struct Lines {
 pub struct Reading {
     pub verdict: Verdict,
     pub catalogue: Catalogue,
+}
+
+// The first four lines at the start of the text.
+fn first_lines(text: &[u8]) -> First
+    ensures { λ r. ⌜ r ≡ firstLines (now (text .entry)) ⌝ }
+{
+    let Line::Value {
+        value: code,
+        next: a,
+    } = named::code_line(text)
+    else {
+        return First::Refused;
+    };
+    let Line::Value { value: n, next: b } = text_lines::number_line(b"mirrors=", text, a) else {
+        return First::Refused;
+    };
+    let Line::Value { value: k, next: d } = text_lines::number_line(b"packs=", text, b) else {
+        return First::Refused;
+    };
+    let Line::Value { value: s, next: e } = text_lines::number_line(b"piece=", text, d) else {
+        return First::Refused;
+    };
+    First::Of {
+        code: named::code_named(code),
+        servers: n,
+        messages: k,
+        symbol: s,
+        next: e,
+    }
+}
+
+// The catalogue of what its lines say, the sum by its line's value.
+fn catalogue_of(
+    code: Code,
+    servers: usize,
+    messages: usize,
+    symbol: usize,
+    opening: Day,
+    closing: Day,
+    sum: usize,
+) -> Catalogue
+    ensures { λ r. ⌜ r ≡ catalogueOf code servers messages symbol opening closing sum ⌝ }
+{
+    Catalogue {
+        code: code,
+        sum: named::sum_named(sum),
+        opening: opening,
+        closing: closing,
+        servers: servers,
+        messages: messages,
+        symbol: symbol,
+    }
 }
 
 // Lines that are refused.
@@ -43,39 +110,35 @@ fn refused(refusal: Refusal) -> Lines
 pub fn catalogue_lines(text: &[u8]) -> Lines
     ensures { λ r. ⌜ r ≡ catalogueLines (now (text .entry)) ⌝ }
 {
-    let Line::Value {
-        value: code,
-        next: a,
-    } = named::code_line(text)
+    let First::Of {
+        code,
+        servers,
+        messages,
+        symbol,
+        next: e,
+    } = first_lines(text)
     else {
         return refused(Refusal::Text);
     };
-    let Line::Value { value: n, next: b } = text_lines::number_line(b"mirrors=", text, a) else {
-        return refused(Refusal::Text);
-    };
-    let Line::Value { value: k, next: d } = text_lines::number_line(b"packs=", text, b) else {
-        return refused(Refusal::Text);
-    };
-    let Line::Value { value: s, next: e } = text_lines::number_line(b"piece=", text, d) else {
+    let Season::Of {
+        opening,
+        closing,
+        next: f,
+    } = season_text::season_lines(text, e)
+    else {
         return refused(Refusal::Text);
     };
     let Line::Value {
         value: sum,
-        next: f,
-    } = named::sum_line(text, e)
+        next: g,
+    } = named::sum_line(text, f)
     else {
         return refused(Refusal::Text);
     };
     Lines {
         verdict: Verdict::Accepted,
-        catalogue: Catalogue {
-            code: named::code_named(code),
-            servers: n,
-            messages: k,
-            symbol: s,
-            sum: named::sum_named(sum),
-        },
-        next: f,
+        catalogue: catalogue_of(code, servers, messages, symbol, opening, closing, sum),
+        next: g,
     }
 }
 
@@ -139,8 +202,9 @@ fn put_text(out: &mut [u8], c: Catalogue) -> usize
     let b = text_lines::put_line(out, a, b"mirrors=", c.servers);
     let d = text_lines::put_line(out, b, b"packs=", c.messages);
     let e = text_lines::put_line(out, d, b"piece=", c.symbol);
+    let f = season_text::put_season(out, e, c.opening, c.closing);
     let sum = c.sum;
-    named::put_sum(out, e, sum)
+    named::put_sum(out, f, sum)
 }
 
 // The bytes of the catalogue's text.
@@ -152,8 +216,9 @@ fn text_length(c: Catalogue) -> usize
     let b = a + text_lines::line_length(b"mirrors=", c.servers);
     let d = b + text_lines::line_length(b"packs=", c.messages);
     let e = d + text_lines::line_length(b"piece=", c.symbol);
+    let f = e + season_text::season_length(c.opening, c.closing);
     let sum = c.sum;
-    e + named::sum_length(sum)
+    f + named::sum_length(sum)
 }
 
 // Writes the catalogue's text at the start of `out`, and gives its length.

@@ -1,5 +1,6 @@
--- Catalogues that differ at most in their sums have the same keys, queries, admission and lengths (`same-queries`), and such a catalogue of exclusive
--- or is admitted wherever one is (`admitted-without`). Each code, over any two sums (`any-sum`).
+-- Catalogues that differ at most in their sums and dates have the same keys, queries, admission and lengths (`same-queries`), and with the same sum the
+-- same scheme, so that answers and recovery do not depend on dates (`same-scheme`). Such a catalogue of exclusive or is admitted wherever one with the
+-- same dates is (`admitted-without`). Each code, over any two sums (`any-sum`).
 use mathlib.Core.Path.{_≡_, refl, sym, _∙_}
 use Prim.Native.Nat.{ℕ}
 use Rattle.symbol.specs.Sum.{Sum}
@@ -12,7 +13,7 @@ use Rattle.catalogue.specs.declared.Catalogue.{Catalogue}
 use Rattle.catalogue.specs.Catalogue.{Admitted}
 use Rattle.catalogue.proofs.Verdicts.{admitted-exactly}
 use Rattle.codes.specs.Codes.{schemeBy, schemeOf}
-use Rattle.codes.specs.Sums.{SameQueries, ButForSum}
+use Rattle.codes.specs.Sums.{SameQueries, SameNumbers}
 
 any-sum : (code : Code) (one other : Sum) (N K S : ℕ) → SameQueries (schemeBy code one N K S) (schemeBy code other N K S)
 any-sum Short one other N K S = record {
@@ -30,17 +31,22 @@ any-sum Even one other N K S = record {
   lengths = λ query. refl;
 }
 
-pub same-queries : (c d : Catalogue) → ButForSum c d → SameQueries (schemeOf c) (schemeOf d)
+pub same-queries : (c d : Catalogue) → SameNumbers c d → SameQueries (schemeOf c) (schemeOf d)
 unfolding schemeOf
 same-queries c d same =
     rw (same .code, same .servers, same .messages, same .symbol)
     (any-sum (d .code) (sumOf (c .sum)) (sumOf (d .sum)) (d .servers) (d .messages) (d .symbol))
 
-pub admitted-without : (c d : Catalogue) → ButForSum c d → d .sum ≡ ExclusiveOr → Admitted c → Admitted d
-admitted-without c d same without admitted =
+pub same-scheme : (c d : Catalogue) → SameNumbers c d → c .sum ≡ d .sum → schemeOf c ≡ schemeOf d
+unfolding schemeOf
+same-scheme c d same sum = rw (same .code, same .servers, same .messages, same .symbol, sum)
+
+pub admitted-without : (c d : Catalogue) → SameNumbers c d → c .opening ≡ d .opening → c .closing ≡ d .closing → d .sum ≡ ExclusiveOr
+    → Admitted c → Admitted d
+admitted-without c d same opens closes without admitted =
     let in-numbers = admitted-exactly c .0 admitted in
     admitted-exactly d .1 (
-      rw (← same .code, ← same .servers, ← same .messages, ← same .symbol) (in-numbers .0),
+      rw (← same .code, ← same .servers, ← same .messages, ← same .symbol, ← opens, ← closes) (in-numbers .0),
       rw (← same .messages) (in-numbers .1),
       λ added. not-added (sym without ∙ added),
     )

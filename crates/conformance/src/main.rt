@@ -73,7 +73,7 @@ fn on_line(
 }
 
 fn main() {
-    let mut input = [0u8; 131072];
+    let mut input = [0u8; 262144];
     let n = io::read_full(STDIN_FILENO, &mut input);
     let text = &input[..n];
     // Each buffer has room for more than any catalogue of the input calls for.
@@ -92,7 +92,7 @@ fn main() {
     let mut s = state::first();
     let mut at: usize = 0;
     let mut turn: usize = 0;
-    while turn < 131072 {
+    while turn < 262144 {
         let line = input::line_at(text, at);
         if line.letter == 0 {
             break;

@@ -1,7 +1,7 @@
 -- DEMAND 3, closed: the claim on whole lists of fetches for the codes of this library, with no hypothesis left but the demand's own
--- (`no-server-can-tell`); and beside it, for every admitted catalogue, the plain fetch, the marks that histories give, and the bound on
--- received bytes. The functions that the claim runs are those in the contracts of `session` and `server`, at the scheme that each
--- catalogue names.
+-- (`no-server-can-tell`); and beside it, for every admitted catalogue, the plain fetch, the marks that histories give, the bound on
+-- received bytes, and the fetch whose issues come out of season. The functions that the claim runs are those in the contracts of `session` and
+-- `server`, at the scheme that each catalogue names.
 use mathlib.Core.Path.{_≡_, ap}
 use mathlib.Core.List.{List, map}
 use Prim.Native.Nat.{ℕ}
@@ -17,10 +17,12 @@ use Rattle.fetches.specs.Claim.{Claim, Demand3}
 use Rattle.fetches.specs.Plain.{PlainFetches}
 use Rattle.fetches.specs.Received.{Bounded}
 use Rattle.fetches.specs.Reached.{MarksByHistory}
+use Rattle.fetches.specs.Unserved.{NothingRecovered}
 use Rattle.fetches.proofs.Theorem.{demand3}
 use Rattle.fetches.proofs.Served.{plain-fetch}
 use Rattle.fetches.proofs.Received.{bound-holds}
 use Rattle.fetches.proofs.Reached.{marks-by-history}
+use Rattle.fetches.proofs.Unserved.{nothing-recovered}
 
 pub no-server-can-tell : Demand3 schemeOf
 no-server-can-tell = demand3 schemeOf promises
@@ -38,3 +40,6 @@ marks-are-good-exactly-if-reached = marks-by-history schemeOf promises
 
 pub the-bound-holds : (c : Catalogue) → Admitted c → Bounded schemeOf c
 the-bound-holds = bound-holds schemeOf promises
+
+pub out-of-season-nothing-is-recovered : NothingRecovered schemeOf
+out-of-season-nothing-is-recovered = nothing-recovered schemeOf promises

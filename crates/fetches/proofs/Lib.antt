@@ -9,4 +9,5 @@ pub mod Plain
 pub mod Served
 pub mod Received
 pub mod Reached
+pub mod Unserved
 pub mod Closed

@@ -15,8 +15,10 @@ use Rattle.lists.specs.Ranges.{range}
 use Rattle.refusal.specs.declared.Verdict.the-variants.{Accepted}
 use Rattle.scheme.specs.Scheme.{Scheme, Valid, messageOf}
 use Rattle.scheme.specs.Laws.{Laws}
+use Rattle.calendar.specs.declared.Day.{Day}
 use Rattle.catalogue.specs.declared.Catalogue.{Catalogue}
 use Rattle.catalogue.specs.Catalogue.{Admitted}
+use Rattle.catalogue.specs.Days.{Served}
 use Rattle.session.specs.declared.Session.{Session}
 use Rattle.session_parts.specs.Marks.{noMarks, marked}
 use Rattle.session.specs.Calls.{slotsOf, issueVerdict}
@@ -33,7 +35,8 @@ use Rattle.fetches.proofs.Theorem.{kept-first, held-first, begun}
 module _ (schemeOf : Catalogue → Scheme) (c : Catalogue) (admitted : Admitted c) (laws : Laws (c .servers) (c .messages) (schemeOf c))
     (wanted : ℕ) (inside : wanted < c .messages) (key : List ℕ) (valid : Valid (schemeOf c) key)
     (store : List ℕ) (bytes : Below 256 store) (long : length store ≡ schemeOf c .sizes .store)
-    (message : List ℕ) (fits : schemeOf c .sizes .message ≤ length message) (room : ℕ) (roomy : slotsOf schemeOf c ≤ room) where
+    (message : List ℕ) (fits : schemeOf c .sizes .message ≤ length message) (room : ℕ) (roomy : slotsOf schemeOf c ≤ room)
+    (day answerDay : ℕ → Day) (in-season : (server : ℕ) → server < c .servers → Served c (day server) × Served c (answerDay server)) where
   abbrev answerFrom : ℕ → List ℕ
   answerFrom = answerOf schemeOf c store wanted key
 
@@ -45,7 +48,8 @@ module _ (schemeOf : Catalogue → Scheme) (c : Catalogue) (admitted : Admitted 
   takesFrom from count = map (λ (server : ℕ). taking server (answerFrom server)) (range from count) ++ (recovering message ∷ [])
 
   abbrev issuesFrom : List ℕ → List ℕ → ℕ → ℕ → List Call
-  issuesFrom query answer from count = map (λ (server : ℕ). issuing server query answer) (range from count) ++ takesFrom 0 (c .servers)
+  issuesFrom query answer from count =
+      map (λ (server : ℕ). issuing server (day server) query (answerDay server) answer) (range from count) ++ takesFrom 0 (c .servers)
 
   answer-long : (server : ℕ) → server < c .servers → length (answerFrom server) ≡ schemeOf c .answerLength (queryTo schemeOf c store wanted key server)
   answer-long server h = laws .answer-length server store _ long (laws .query-admitted wanted server key inside h valid)
@@ -104,14 +108,18 @@ module _ (schemeOf : Catalogue → Scheme) (c : Catalogue) (admitted : Admitted 
       (held-first schemeOf c store wanted key answers)
       (λ i h. had i (omega arith)) (λ i h. absurd (not-suc-le-zero h)) (λ i h. refl)
   issues-end query answer room-for (suc count) from e issued to answers k had =
-      let h : from < c .servers = omega arith in
+      let below : from < c .servers = omega arith in
       let s : Session = sessionOf c wanted key issued noMarks in
-      let accepted : issueVerdict schemeOf s from (length query) ≡ Accepted = issue-accepted schemeOf s from (length query)
-      (record { sound = sound schemeOf c admitted laws wanted inside key valid issued noMarks (k .marks); below = h; roomy = room-for }) in
-      rw (issue-by schemeOf s from query Accepted (sym accepted))
+      let accepted : issueVerdict schemeOf s (day from) from (length query) ≡ Accepted = issue-accepted schemeOf s (day from) from (length query) (record {
+        sound = sound schemeOf c admitted laws wanted inside key valid issued noMarks (k .marks);
+        served = in-season from below .0;
+        below = below;
+        roomy = room-for;
+      }) in
+      rw (issue-by schemeOf s (day from) from query Accepted (sym accepted))
       (later refl
       (issues-end query answer room-for count (suc from) (omega arith) (set issued from true) (from ∷ to) answers
-      (issue-kept schemeOf c admitted laws wanted inside key valid room (record { issued = to; taken = [] }) issued noMarks answers k from h)
+      (issue-kept schemeOf c admitted laws wanted inside key valid room (record { issued = to; taken = [] }) issued noMarks answers k from below)
       (λ i l. had-more i l (eqb i from) refl)))
     where
       had-more : (i : ℕ) → i < suc from → (b : Bool) → eqb i from ≡ b → marked (set issued from true) i ≡ true
@@ -123,10 +131,13 @@ module _ (schemeOf : Catalogue → Scheme) (c : Catalogue) (admitted : Admitted 
 pub plain-ends : (schemeOf : Catalogue → Scheme) (c : Catalogue) → Admitted c → Laws (c .servers) (c .messages) (schemeOf c)
     → (wanted : ℕ) → wanted < c .messages → (key : List ℕ) → Valid (schemeOf c) key
     → (store : List ℕ) → Below 256 store → length store ≡ schemeOf c .sizes .store → (message : List ℕ) → schemeOf c .sizes .message ≤ length message
-    → (answers : List ℕ) → slotsOf schemeOf c ≤ length answers → (query answer : List ℕ) → schemeOf c .sizes .query ≤ length query
+    → (answers : List ℕ) → slotsOf schemeOf c ≤ length answers → (day answerDay : ℕ → Day)
+    → ((server : ℕ) → server < c .servers → Served c (day server) × Served c (answerDay server))
+    → (query answer : List ℕ) → schemeOf c .sizes .query ≤ length query
     → Ends (λ (made : Made). made .left ≡ put 0 (messageOf (schemeOf c) store wanted) message)
-    (history schemeOf c (plainFetch schemeOf c store wanted key answers query answer message))
-plain-ends schemeOf c admitted laws wanted inside key valid store bytes long message fits answers roomy query answer room-for =
+    (history schemeOf c (plainFetch schemeOf c store wanted key day answerDay answers query answer message))
+plain-ends schemeOf c admitted laws wanted inside key valid store bytes long message fits answers roomy day answerDay in-season query answer room-for =
     rw (begun schemeOf c admitted laws wanted inside key valid)
-    (issues-end schemeOf c admitted laws wanted inside key valid store bytes long message fits (length answers) roomy query answer room-for (c .servers) 0
+    (issues-end schemeOf c admitted laws wanted inside key valid store bytes long message fits (length answers) roomy day answerDay in-season
+    query answer room-for (c .servers) 0
     (zero-add (c .servers)) noMarks [] answers (kept-first schemeOf c answers) (λ i h. absurd (not-suc-le-zero h)))

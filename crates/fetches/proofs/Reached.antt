@@ -1,5 +1,5 @@
--- Some history gives marks exactly if they are good (`marks-by-history`). Good marks are reached place by place: a query is issued to the server where
--- the first mark is set, and its answer is taken where the second is. And every call of a fetch keeps its marks good (`next`).
+-- Some history gives marks exactly if they are good (`marks-by-history`). Good marks are reached place by place: a query is issued, on the opening
+-- day, to the server where the first mark is set, and its answer is taken where the second is. And every call of a fetch keeps its marks good (`next`).
 use mathlib.Core.Path.{_≡_, refl, sym, ap, _∙_, subst}
 use mathlib.Core.Bool.{Bool, true, false, cond}
 use mathlib.Core.List.{List, [], _∷_}
@@ -17,6 +17,7 @@ use Rattle.scheme.specs.Scheme.{Scheme, Valid}
 use Rattle.scheme.specs.Laws.{Laws}
 use Rattle.catalogue.specs.declared.Catalogue.{Catalogue}
 use Rattle.catalogue.specs.Catalogue.{Admitted}
+use Rattle.catalogue.proofs.Season.{opening-served}
 use Rattle.refusal.specs.declared.Verdict.the-variants.{Accepted}
 use Rattle.session.specs.declared.Session.{Session}
 use Rattle.session_parts.specs.Marks.{noMarks, marked, markGood, marksGood}
@@ -95,10 +96,11 @@ module _ (schemeOf : Catalogue → Scheme) (c : Catalogue) (admitted : Admitted 
     in-first : i < length first
     in-first = omega (arith, b .kept .marks .issued-long, laws .servers-fit)
 
-    issue-after : make schemeOf (stateOf c wanted key first second answers) (issuing i query []) .after
+    issue-after : make schemeOf (stateOf c wanted key first second answers) (issuing i (c .opening) query (c .opening) []) .after
         ≡ stateOf c wanted key (set first i true) second answers
-    issue-after = rw (issue-by schemeOf s i query Accepted (sym (issue-accepted schemeOf s i (length query) (record {
+    issue-after = rw (issue-by schemeOf s (c .opening) i query Accepted (sym (issue-accepted schemeOf s (c .opening) i (length query) (record {
       sound = sound schemeOf c admitted laws wanted inside key valid first second (b .kept .marks);
+      served = opening-served c admitted;
       below = below;
       roomy = let l = length-replicate {A = ℕ} (schemeOf c .sizes .query) 0 in omega arith;
     }))))
@@ -170,12 +172,12 @@ module _ (schemeOf : Catalogue → Scheme) (c : Catalogue) (admitted : Admitted 
             → markGood (c .servers) i x y ≡ true → Leads (stateOf c wanted key first second answers)
         go true true f g further m =
             let below = ltb-true i (c .servers) m in
-            call-leads (issuing i _ []) (issue-after i past first second answers b below f)
+            call-leads (issuing i (c .opening) _ (c .opening) []) (issue-after i past first second answers b below f)
             (call-leads (taking i _) (take-after i past first second answers b below f g)
             (further _ _ _ _ (take-before i past first second answers b below f g)))
         go true false f g further m =
             let below = ltb-true i (c .servers) m in
-            call-leads (issuing i _ []) (issue-after i past first second answers b below f)
+            call-leads (issuing i (c .opening) _ (c .opening) []) (issue-after i past first second answers b below f)
             (further _ _ _ _ (issue-before i past first second answers b below f g))
         go false true f g further m = absurd (let z : _≡_ {A = ℕ} 0 1 = cc in let w : ⊥ = omega arith in w)
         go false false f g further m =

@@ -84,10 +84,10 @@ module _ (schemeOf : Catalogue → Scheme) (c : Catalogue) (admitted : Admitted 
           ≤ taken (c .servers) (since past (made call) .taken) * slot
 
       grows : (call : Call) → Grows call
-      grows (issuing server query answer) = issued-grows (issue schemeOf s server query .handed .verdict)
+      grows (issuing server day query answerDay answer) = issued-grows (issue schemeOf s day server query .handed .verdict)
         where
           issued-grows : (v : Verdict)
-              → 0 + taken (c .servers) (past .taken) * slot ≤ taken (c .servers) (pastBy (issuing server query answer) v past .taken) * slot
+              → 0 + taken (c .servers) (past .taken) * slot ≤ taken (c .servers) (pastBy (issuing server day query answerDay answer) v past .taken) * slot
           issued-grows Accepted = omega arith
           issued-grows (Refused refusal) = omega arith
       grows (recovering message) = omega arith

@@ -96,7 +96,8 @@ module _ (schemeOf : Catalogue → Scheme) (c : Catalogue) (admitted : Admitted 
   -- over the calls of a fetch
   says : (room : ℕ) (past : Past) (issued taken : List Bool) (answers : List ℕ) → Kept schemeOf c room past issued taken answers → (call : Call)
       → RecoverVerdict schemeOf c room past (make schemeOf (stateOf c wanted key issued taken answers) call)
-  says room past issued taken answers k (issuing server query answer) message e = absurd (let z : _≡_ {A = ℕ} 0 1 = cc in let w : ⊥ = omega arith in w)
+  says room past issued taken answers k (issuing server day query answerDay answer) message e =
+      absurd (let z : _≡_ {A = ℕ} 0 1 = cc in let w : ⊥ = omega arith in w)
   says room past issued taken answers k (taking server answer) message e = absurd (let z : _≡_ {A = ℕ} 0 1 = cc in let w : ⊥ = omega arith in w)
   says room past issued taken answers k (recovering own) message e = rw (← same-message e) (recover-right room past issued taken answers k own)
 
@@ -112,7 +113,8 @@ module _ (schemeOf : Catalogue → Scheme) (c : Catalogue) (admitted : Admitted 
     leaves : (room : ℕ) (past : Past) (issued taken : List Bool) (answers : List ℕ) → Kept schemeOf c room past issued taken answers
         → Held schemeOf c store wanted key past answers → (call : Call)
         → MessageLeft schemeOf c store wanted past (make schemeOf (stateOf c wanted key issued taken answers) call)
-    leaves room past issued taken answers k held (issuing server query answer) message e = absurd (let z : _≡_ {A = ℕ} 0 1 = cc in let w : ⊥ = omega arith in w)
+    leaves room past issued taken answers k held (issuing server day query answerDay answer) message e =
+        absurd (let z : _≡_ {A = ℕ} 0 1 = cc in let w : ⊥ = omega arith in w)
     leaves room past issued taken answers k held (taking server answer) message e = absurd (let z : _≡_ {A = ℕ} 0 1 = cc in let w : ⊥ = omega arith in w)
     leaves room past issued taken answers k held (recovering own) message e =
         rw (← same-message e) (λ all fits. recover-message room past issued taken answers k own store bytes held all fits)

@@ -16,8 +16,10 @@ use Rattle.refusal.specs.declared.Verdict.the-variants.{Accepted}
 use Rattle.refusal.specs.declared.Outcome.the-variants.{Value}
 use Rattle.scheme.specs.Scheme.{Scheme, Valid, messageOf}
 use Rattle.scheme.specs.Laws.{Laws}
+use Rattle.calendar.specs.declared.Day.{Day}
 use Rattle.catalogue.specs.declared.Catalogue.{Catalogue}
 use Rattle.catalogue.specs.Catalogue.{Admitted}
+use Rattle.catalogue.specs.Days.{Served}
 use Rattle.server.specs.Answering.{answerVerdict}
 use Rattle.server.proofs.Laws.{answer-accepted, answer-by, writes-answer}
 use Rattle.fetches.specs.Fetches.{Call, issuing, taking, recovering, history}
@@ -36,29 +38,32 @@ no-issues answer message zero from = refl
 no-issues answer message (suc count) from = no-issues answer message count (suc from)
 
 -- issues to the servers from `from` on show server n one of them, if it is there
-module _ (schemeOf : Catalogue → Scheme) (c : Catalogue) (store : List ℕ) (n : ℕ) (asked-for query answer : List ℕ)
+module _ (schemeOf : Catalogue → Scheme) (c : Catalogue) (store : List ℕ) (n : ℕ) (asked-for query answer : List ℕ) (day answerDay : ℕ → Day)
     (rest : List Call) (none : issues rest ≡ []) where
+  abbrev issuesFrom : ℕ → ℕ → List Call
+  issuesFrom from count = map (λ (server : ℕ). issuing server (day server) query (answerDay server) answer) (range from count) ++ rest
+
+  abbrev shownOnce : ℕ → Shown
+  shownOnce server = seen schemeOf c store n asked-for (day server) (length query) (answerDay server) (length answer)
+
   seen-none : (count from : ℕ) → n < from
-      → seenOf schemeOf c store n asked-for (issues (map (λ (server : ℕ). issuing server query answer) (range from count) ++ rest)) ≡ []
+      → seenOf schemeOf c store n asked-for (issues (issuesFrom from count)) ≡ []
   unfolding range
   seen-none zero from h = rw none
   seen-none (suc count) from h = rw (ne-eqb from n (λ q. omega arith)) (seen-none count (suc from) (omega arith))
 
   pub seen-once : (count from : ℕ) → from ≤ n → n < from + count
-      → seenOf schemeOf c store n asked-for (issues (map (λ (server : ℕ). issuing server query answer) (range from count) ++ rest))
-      ≡ seen schemeOf c store n asked-for (length query) (length answer) ∷ []
+      → seenOf schemeOf c store n asked-for (issues (issuesFrom from count)) ≡ shownOnce n ∷ []
   unfolding range
   seen-once zero from l u = absurd (let w : ⊥ = omega arith in w)
   seen-once (suc count) from l u = go (seen-once count (suc from)) (eqb from n) refl
     where
-      go : (suc from ≤ n → n < suc from + count
-          → seenOf schemeOf c store n asked-for (issues (map (λ (server : ℕ). issuing server query answer) (range (suc from) count) ++ rest))
-          ≡ seen schemeOf c store n asked-for (length query) (length answer) ∷ [])
+      go : (suc from ≤ n → n < suc from + count → seenOf schemeOf c store n asked-for (issues (issuesFrom (suc from) count)) ≡ shownOnce n ∷ [])
           → (t : Bool) → eqb from n ≡ t
-          → cond t (seen schemeOf c store n asked-for (length query) (length answer) ∷ []) []
-          ++ seenOf schemeOf c store n asked-for (issues (map (λ (server : ℕ). issuing server query answer) (range (suc from) count) ++ rest))
-          ≡ seen schemeOf c store n asked-for (length query) (length answer) ∷ []
-      go later true q = let e : from ≡ n = eqb-true from n q in rw (seen-none count (suc from) (omega arith))
+          → cond t (shownOnce from ∷ []) [] ++ seenOf schemeOf c store n asked-for (issues (issuesFrom (suc from) count)) ≡ shownOnce n ∷ []
+      go later true q =
+          let e : from ≡ n = eqb-true from n q in
+          rw (seen-none count (suc from) (omega arith)) (ap (λ (server : ℕ). shownOnce server ∷ []) e)
       go later false q = let ne : (from ≡ n → ⊥) = eqb-false from n q in later (omega (arith, ne)) (omega (arith, ne))
 
 module _ (schemeOf : Catalogue → Scheme) (c : Catalogue) (admitted : Admitted c) (laws : Laws (c .servers) (c .messages) (schemeOf c))
@@ -70,36 +75,46 @@ module _ (schemeOf : Catalogue → Scheme) (c : Catalogue) (admitted : Admitted 
   abbrev answer : List ℕ
   answer = answerOf schemeOf c store wanted key n
 
-  -- a server answers the query honestly
-  pub honest : (buffer : List ℕ) → schemeOf c .sizes .slot ≤ length buffer → asking schemeOf c store n query buffer ≡ asked query (Value (length answer)) answer
-  honest buffer roomy =
+  -- a server answers the query honestly, on a day in season
+  pub honest : (day : Day) → Served c day → (buffer : List ℕ) → schemeOf c .sizes .slot ≤ length buffer
+      → asking schemeOf c store n query day buffer ≡ asked query (Value (length answer)) answer
+  honest day in-season buffer roomy =
       let admits = laws .query-admitted wanted n key inside below valid in
       let sized : length answer ≡ schemeOf c .answerLength query = laws .answer-length n store query long admits in
-      let accepted : answerVerdict schemeOf c n (length store) query (length buffer) ≡ Accepted =
-      answer-accepted schemeOf c n (length store) query (length buffer)
-      (record { admitted = admitted; below = below; admits = admits; store-long = long; roomy = omega (arith, laws .answer-fits n query admits) }) in
-      let by = answer-by schemeOf c n store query buffer Accepted (sym accepted) in
-      let written = writes-answer schemeOf c laws n store query buffer accepted in
+      let accepted : answerVerdict schemeOf c day n (length store) query (length buffer) ≡ Accepted =
+      answer-accepted schemeOf c day n (length store) query (length buffer) (record {
+        admitted = admitted;
+        served = in-season;
+        below = below;
+        admits = admits;
+        store-long = long;
+        roomy = omega (arith, laws .answer-fits n query admits);
+      }) in
+      let by = answer-by schemeOf c day n store query buffer Accepted (sym accepted) in
+      let written = writes-answer schemeOf c laws day n store query buffer accepted in
       rw by
       (ap (asked query (Value (schemeOf c .answerLength query))) (rw by at written) ∙ ap (λ (size : ℕ). asked query (Value size) answer) (sym sized))
 
-  pub served : (answers queryBuffer answerBuffer message : List ℕ) → schemeOf c .sizes .query ≤ length queryBuffer
+  pub served : (day answerDay : ℕ → Day) → Served c (day n) → Served c (answerDay n)
+      → (answers queryBuffer answerBuffer message : List ℕ) → schemeOf c .sizes .query ≤ length queryBuffer
       → schemeOf c .sizes .slot ≤ length answerBuffer
-      → shownTo schemeOf c store n (history schemeOf c (plainFetch schemeOf c store wanted key answers queryBuffer answerBuffer message))
+      → shownTo schemeOf c store n (history schemeOf c (plainFetch schemeOf c store wanted key day answerDay answers queryBuffer answerBuffer message))
       ≡ asked query (Value (length answer)) answer ∷ []
-  served answers queryBuffer answerBuffer message query-fits answer-fits =
-      fetch-shown schemeOf c admitted laws store n below (plainFetch schemeOf c store wanted key answers queryBuffer answerBuffer message) inside valid
-      ∙ seen-once schemeOf c store n query queryBuffer answerBuffer _ (no-issues (answerOf schemeOf c store wanted key) message (c .servers) 0) (c .servers) 0
-      (omega arith) (omega (arith, zero-add (c .servers)))
+  served day answerDay issued-in answered-in answers queryBuffer answerBuffer message query-fits answer-fits =
+      fetch-shown schemeOf c admitted laws store n below
+      (plainFetch schemeOf c store wanted key day answerDay answers queryBuffer answerBuffer message) inside valid
+      ∙ seen-once schemeOf c store n query queryBuffer answerBuffer day answerDay _
+      (no-issues (answerOf schemeOf c store wanted key) message (c .servers) 0) (c .servers) 0 (omega arith) (omega (arith, zero-add (c .servers)))
       ∙ ap (λ (s : Shown). s ∷ []) once
     where
-      once : seen schemeOf c store n query (length queryBuffer) (length answerBuffer) ≡ asked query (Value (length answer)) answer
+      once : seen schemeOf c store n query (day n) (length queryBuffer) (answerDay n) (length answerBuffer) ≡ asked query (Value (length answer)) answer
       once =
           rw (
+            issued-in,
             le-ltb (length queryBuffer) (schemeOf c .sizes .query) query-fits,
             take-all (schemeOf c .sizes .query) query (omega (arith, laws .query-length wanted n key inside below valid)),
           )
-          (honest (replicate (length answerBuffer) 0) (omega (arith, length-replicate {A = ℕ} (length answerBuffer) 0)))
+          (honest (answerDay n) answered-in (replicate (length answerBuffer) 0) (omega (arith, length-replicate {A = ℕ} (length answerBuffer) 0)))
 
 -- a message of the store has all its bytes
 whole-message : (servers messages : ℕ) (scheme : Scheme) → Laws servers messages scheme → (store : List ℕ) → length store ≡ scheme .sizes .store
@@ -109,12 +124,14 @@ whole-message servers messages scheme laws store long wanted inside =
     (omega (arith, slot-end wanted messages (scheme .sizes .message) inside, laws .store-whole))
 
 pub plain-fetch : (schemeOf : Catalogue → Scheme) → Promises schemeOf → PlainFetches schemeOf
-plain-fetch schemeOf promises c admitted store bytes long wanted inside key valid answers query answer message slots-fit query-fits answer-fits message-fits =
+plain-fetch schemeOf promises c admitted store bytes long wanted inside key valid day answerDay in-season answers query answer message
+    slots-fit query-fits answer-fits message-fits =
     record {
       whole = whole-message (c .servers) (c .messages) (schemeOf c) (promises c admitted) store long wanted inside;
       served = λ n below.
-          served schemeOf c admitted (promises c admitted) store long wanted inside key valid n below answers query answer message query-fits answer-fits;
+          served schemeOf c admitted (promises c admitted) store long wanted inside key valid n below day answerDay
+          (in-season n below .0) (in-season n below .1) answers query answer message query-fits answer-fits;
       ends =
           plain-ends schemeOf c admitted (promises c admitted) wanted inside key valid store bytes long message message-fits answers slots-fit
-          query answer query-fits;
+          day answerDay in-season query answer query-fits;
     }

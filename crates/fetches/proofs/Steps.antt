@@ -14,6 +14,7 @@ use Rattle.refusal.specs.declared.Verdict.{Verdict}
 use Rattle.refusal.specs.declared.Verdict.the-variants.{Accepted, Refused}
 use Rattle.scheme.specs.Scheme.{Scheme, Valid}
 use Rattle.scheme.specs.Laws.{Laws}
+use Rattle.calendar.specs.declared.Day.{Day}
 use Rattle.catalogue.specs.declared.Catalogue.{Catalogue}
 use Rattle.catalogue.specs.Catalogue.{Admitted}
 use Rattle.session.specs.declared.Session.{Session}
@@ -118,22 +119,24 @@ module _ (schemeOf : Catalogue → Scheme) (c : Catalogue) (admitted : Admitted 
       roomy = k .roomy;
     }
 
-    next-issue : (server : ℕ) (buffer answer : List ℕ) → Next schemeOf c wanted key room past at (issuing server buffer answer)
-    next-issue server buffer answer = go (issueVerdict schemeOf s server (length buffer)) refl
+    next-issue : (server : ℕ) (day answerDay : Day) (buffer answer : List ℕ)
+        → Next schemeOf c wanted key room past at (issuing server day buffer answerDay answer)
+    next-issue server day answerDay buffer answer = go (issueVerdict schemeOf s day server (length buffer)) refl
       where
-        go : (v : Verdict) → v ≡ issueVerdict schemeOf s server (length buffer) → Next schemeOf c wanted key room past at (issuing server buffer answer)
+        go : (v : Verdict) → v ≡ issueVerdict schemeOf s day server (length buffer)
+            → Next schemeOf c wanted key room past at (issuing server day buffer answerDay answer)
         go Accepted e =
-            let done = issue-by schemeOf s server buffer Accepted e in
+            let done = issue-by schemeOf s day server buffer Accepted e in
             record {
               issued = set issued server true;
               taken = taken;
               answers = answers;
               is = rw done;
-              kept = rw done (issue-kept server (issue-passed schemeOf s server (length buffer) (sym e) .below));
+              kept = rw done (issue-kept server (issue-passed schemeOf s day server (length buffer) (sym e) .below));
               held = rw done (λ store h honest. h);
             }
         go (Refused refusal) e =
-            let done = issue-by schemeOf s server buffer (Refused refusal) e in
+            let done = issue-by schemeOf s day server buffer (Refused refusal) e in
             record { issued = issued; taken = taken; answers = answers; is = rw done; kept = rw done k; held = rw done (λ store h honest. h) }
 
     next-recover : (message : List ℕ) → Next schemeOf c wanted key room past at (recovering message)
@@ -201,6 +204,6 @@ module _ (schemeOf : Catalogue → Scheme) (c : Catalogue) (admitted : Admitted 
             record { issued = issued; taken = taken; answers = answers; is = rw by; kept = rw by k; held = rw by (λ store h honest. h) }
 
     pub next : (call : Call) → Next schemeOf c wanted key room past at call
-    next (issuing server buffer answer) = next-issue server buffer answer
+    next (issuing server day buffer answerDay answer) = next-issue server day answerDay buffer answer
     next (taking server answer) = next-take server answer
     next (recovering message) = next-recover message

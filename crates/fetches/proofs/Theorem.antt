@@ -67,7 +67,7 @@ module _ (schemeOf : Catalogue → Scheme) (c : Catalogue) (admitted : Admitted 
       (view schemeOf c admitted laws (f .wanted) inside (f .key) valid store n below (f .calls) (length (f .answers)) nothing noMarks noMarks (f .answers)
       (kept-first schemeOf c (f .answers)))
 
-  fetch-right : (store : List ℕ) → Below 256 store → (f : Fetch) → f .wanted < c .messages → Valid (schemeOf c) (f .key) → FetchRight schemeOf c store f
+  pub fetch-right : (store : List ℕ) → Below 256 store → (f : Fetch) → f .wanted < c .messages → Valid (schemeOf c) (f .key) → FetchRight schemeOf c store f
   fetch-right store bytes f inside valid = record {
     begun = rw (begun (f .wanted) inside (f .key) valid);
     refusals = all-unchanged schemeOf (f .calls) nothing _;

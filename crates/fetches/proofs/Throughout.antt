@@ -36,7 +36,8 @@ module _ (schemeOf : Catalogue → Scheme) where
   always p (call ∷ calls) past at = step (p past at call) (always p calls (since past (make schemeOf at call)) (make schemeOf at call .after))
 
   unchanged : (past : Past) (at : State) (call : Call) → Unchanged past (make schemeOf at call)
-  unchanged past at (issuing server query answer) refusal e = let q = issue-goes schemeOf (at .session) server query .unchanged refusal e in rw q (refl, refl)
+  unchanged past at (issuing server day query answerDay answer) refusal e =
+      let q = issue-goes schemeOf (at .session) day server query .unchanged refusal e in rw q (refl, refl)
   unchanged past at (taking server answer) refusal e =
       let q = take-goes schemeOf (at .session) server answer (at .answers) .unchanged refusal e in rw q (refl, refl)
   unchanged past at (recovering message) refusal e = let q = recover-goes schemeOf (at .session) (at .answers) message .unchanged refusal e in rw q (refl, refl)
@@ -47,5 +48,5 @@ module _ (schemeOf : Catalogue → Scheme) where
   pub all-answers-left : (c : Catalogue) → Laws (c .servers) (c .messages) (schemeOf c) → (store : List ℕ) (calls : List Call) (past : Past) (at : State)
       → Throughout (AnswerLeft schemeOf c store) past (run schemeOf at calls)
   all-answers-left c laws store =
-      always (λ past at call server query answer e f.
-      writes-only schemeOf c laws server store (take (schemeOf c .sizes .query) (make schemeOf at call .left)) answer)
+      always (λ past at call server day answerDay query answer e f.
+      writes-only schemeOf c laws answerDay server store (take (schemeOf c .sizes .query) (make schemeOf at call .left)) answer)

@@ -13,6 +13,7 @@ use Rattle.refusal.specs.declared.Verdict.the-variants.{Accepted}
 use Rattle.refusal.specs.Chain.{refuseIf}
 use Rattle.scheme.specs.Scheme.{Scheme, Valid}
 use Rattle.scheme.specs.Laws.{Laws}
+use Rattle.calendar.specs.declared.Day.{Day}
 use Rattle.catalogue.specs.declared.Catalogue.{Catalogue}
 use Rattle.catalogue.specs.Catalogue.{Admitted}
 use Rattle.session.specs.declared.Session.{Session}
@@ -29,21 +30,21 @@ use Rattle.fetches.proofs.Steps.{sessionOf, stateOf, Kept, kept-query, 
 
 -- a call is one of its kind
 module _ {A : Type 0} where
-  not-take : {server other : ℕ} {query answer own : List ℕ} → issuing server query answer ≡ taking other own → A
-  not-take {server} {other} {query} {answer} {own} e = absurd (let z : _≡_ {A = ℕ} 0 1 = cc in let w : ⊥ = omega arith in w)
+  not-take : {server other : ℕ} {day answerDay : Day} {query answer own : List ℕ} → issuing server day query answerDay answer ≡ taking other own → A
+  not-take {server} {other} {day} {answerDay} {query} {answer} {own} e = absurd (let z : _≡_ {A = ℕ} 0 1 = cc in let w : ⊥ = omega arith in w)
 
-  not-issue : {server other : ℕ} {query answer own : List ℕ} → taking other own ≡ issuing server query answer → A
-  not-issue {server} {other} {query} {answer} {own} e = absurd (let z : _≡_ {A = ℕ} 0 1 = cc in let w : ⊥ = omega arith in w)
+  not-issue : {server other : ℕ} {day answerDay : Day} {query answer own : List ℕ} → taking other own ≡ issuing server day query answerDay answer → A
+  not-issue {server} {other} {day} {answerDay} {query} {answer} {own} e = absurd (let z : _≡_ {A = ℕ} 0 1 = cc in let w : ⊥ = omega arith in w)
 
-  recover-no-issue : {server : ℕ} {query answer message : List ℕ} → recovering message ≡ issuing server query answer → A
-  recover-no-issue {server} {query} {answer} {message} e = absurd (let z : _≡_ {A = ℕ} 0 1 = cc in let w : ⊥ = omega arith in w)
+  recover-no-issue : {server : ℕ} {day answerDay : Day} {query answer message : List ℕ} → recovering message ≡ issuing server day query answerDay answer → A
+  recover-no-issue {server} {day} {answerDay} {query} {answer} {message} e = absurd (let z : _≡_ {A = ℕ} 0 1 = cc in let w : ⊥ = omega arith in w)
 
   recover-no-take : {server : ℕ} {answer message : List ℕ} → recovering message ≡ taking server answer → A
   recover-no-take {server} {answer} {message} e = absurd (let z : _≡_ {A = ℕ} 0 1 = cc in let w : ⊥ = omega arith in w)
 
-same-issue : {server other : ℕ} {query answer query′ answer′ : List ℕ} → issuing server query answer ≡ issuing other query′ answer′
-    → (server ≡ other) × (query ≡ query′)
-same-issue {server} {other} {query} {answer} {query′} {answer′} e = (cc, cc)
+same-issue : {server other : ℕ} {day day′ answerDay answerDay′ : Day} {query answer query′ answer′ : List ℕ}
+    → issuing server day query answerDay answer ≡ issuing other day′ query′ answerDay′ answer′ → (server ≡ other) × (day ≡ day′) × (query ≡ query′)
+same-issue {server} {other} {day} {day′} {answerDay} {answerDay′} {query} {answer} {query′} {answer′} e = (cc, cc, cc)
 
 same-take : {server other : ℕ} {answer answer′ : List ℕ} → taking server answer ≡ taking other answer′ → (server ≡ other) × (answer ≡ answer′)
 same-take {server} {other} {answer} {answer′} e = (cc, cc)
@@ -60,14 +61,15 @@ module _ (schemeOf : Catalogue → Scheme) (c : Catalogue) (admitted : Admitted 
     abbrev made : Call → Made
     made call = make schemeOf (stateOf c wanted key issued taken answers) call
 
-    issue-told : (server : ℕ) (query answer : List ℕ) → made (issuing server query answer) .verdict ≡ issueSays schemeOf c server (length query)
-    issue-told server query answer = issue-goes schemeOf s server query .says ∙ issue-sound schemeOf s server good (length query)
+    issue-told : (server : ℕ) (day answerDay : Day) (query answer : List ℕ)
+        → made (issuing server day query answerDay answer) .verdict ≡ issueSays schemeOf c day server (length query)
+    issue-told server day answerDay query answer = issue-goes schemeOf s day server query .says ∙ issue-sound schemeOf s day server good (length query)
 
-    query-told : (server : ℕ) (query answer : List ℕ) → made (issuing server query answer) .verdict ≡ Accepted
-        → made (issuing server query answer) .left ≡ put 0 (schemeOf c .query wanted server key) query
-    query-told server query answer e =
+    query-told : (server : ℕ) (day answerDay : Day) (query answer : List ℕ) → made (issuing server day query answerDay answer) .verdict ≡ Accepted
+        → made (issuing server day query answerDay answer) .left ≡ put 0 (schemeOf c .query wanted server key) query
+    query-told server day answerDay query answer e =
         rw (
-          issue-by schemeOf s server query Accepted (sym e ∙ issue-goes schemeOf s server query .says),
+          issue-by schemeOf s day server query Accepted (sym e ∙ issue-goes schemeOf s day server query .says),
           kept-query schemeOf c admitted laws wanted inside key valid issued taken server,
         )
 
@@ -92,21 +94,23 @@ module _ (schemeOf : Catalogue → Scheme) (c : Catalogue) (admitted : Admitted 
             )
 
     told : (call : Call) → Told schemeOf c wanted key room past (made call)
-    told (issuing server query answer) = record {
-      issues = λ other query′ answer′ e. let same = same-issue e in rw (← same .0, ← same .1) (issue-told server query answer);
-      queries = λ other query′ answer′ e v. let same = same-issue e in rw (← same .0, ← same .1) (query-told server query answer v);
+    told (issuing server day query answerDay answer) = record {
+      issues = λ other day′ answerDay′ query′ answer′ e.
+          let same = same-issue e in rw (← same .0, ← same .1, ← same .2) (issue-told server day answerDay query answer);
+      queries = λ other day′ answerDay′ query′ answer′ e v.
+          let same = same-issue e in rw (← same .0, ← same .2) (query-told server day answerDay query answer v);
       takes = λ other own e. not-take e;
     }
     told (taking server answer) = record {
-      issues = λ other query answer′ e. not-issue e;
-      queries = λ other query answer′ e v. not-issue e;
+      issues = λ other day answerDay query answer′ e. not-issue e;
+      queries = λ other day answerDay query answer′ e v. not-issue e;
       takes = λ other answer′ e.
           let same = same-take e in
           rw (← same .0, ← same .1) (take-goes schemeOf s server answer answers .says ∙ take-told server (length answer));
     }
     told (recovering message) = record {
-      issues = λ other query answer e. recover-no-issue e;
-      queries = λ other query answer e v. recover-no-issue e;
+      issues = λ other day answerDay query answer e. recover-no-issue e;
+      queries = λ other day answerDay query answer e v. recover-no-issue e;
       takes = λ other answer e. recover-no-take e;
     }
 

@@ -4,14 +4,16 @@ use mathlib.Core.List.{List, [], _∷_}
 use Prim.Native.Nat.{ℕ}
 use Rattle.refusal.specs.declared.Verdict.{Verdict}
 use Rattle.scheme.specs.Scheme.{Scheme}
+use Rattle.calendar.specs.declared.Day.{Day}
 use Rattle.catalogue.specs.declared.Catalogue.{Catalogue}
 use Rattle.session.specs.declared.Session.{Session}
 use Rattle.session.specs.Calls.{Out, begin, issue, takeAnswer, recover}
 
 -- A call of a fetch, with the buffers that are its own as they are when it is made: an issue has the one for the query, and the one that the server
--- answers the query into; a recover has the one for the message. A take and a recover are lent the fetch's one answer buffer besides
+-- answers the query into; a recover has the one for the message. A take and a recover are lent the fetch's one answer buffer besides. An issue has two
+-- days, the one on which it is issued and the one on which it is answered (document 02, item 1)
 pub data Call : Type 0 where
-  issuing : (server : ℕ) (query answer : List ℕ) → Call
+  issuing : (server : ℕ) (day : Day) (query : List ℕ) (answerDay : Day) (answer : List ℕ) → Call
   taking : (server : ℕ) (answer : List ℕ) → Call
   recovering : (message : List ℕ) → Call
 
@@ -37,7 +39,7 @@ pub record Made : Type 0 where
 
 -- the call's own buffer, as it was lent
 abbrev pub lent : Call → List ℕ
-lent (issuing server query answer) = query
+lent (issuing server day query answerDay answer) = query
 lent (taking server answer) = []
 lent (recovering message) = message
 
@@ -62,7 +64,8 @@ answersWritten call at o = record {
 
 module _ (schemeOf : Catalogue → Scheme) where
   abbrev pub make : State → Call → Made
-  make at (issuing server query answer) = ownWritten (issuing server query answer) at (issue schemeOf (at .session) server query)
+  make at (issuing server day query answerDay answer) =
+      ownWritten (issuing server day query answerDay answer) at (issue schemeOf (at .session) day server query)
   make at (taking server answer) = answersWritten (taking server answer) at (takeAnswer schemeOf (at .session) server answer (at .answers))
   make at (recovering message) = ownWritten (recovering message) at (recover schemeOf (at .session) (at .answers) message)
 

@@ -7,3 +7,4 @@ pub mod Claim
 pub mod Plain
 pub mod Received
 pub mod Reached
+pub mod Unserved

@@ -16,8 +16,8 @@ nothing = record { issued = []; taken = [] }
 
 -- one server more after an issue or a take that was not refused
 abbrev pub pastBy : Call → Verdict → Past → Past
-pastBy (issuing server query answer) Accepted past = record { issued = server ∷ past .issued; taken = past .taken }
-pastBy (issuing server query answer) (Refused refusal) past = past
+pastBy (issuing server day query answerDay answer) Accepted past = record { issued = server ∷ past .issued; taken = past .taken }
+pastBy (issuing server day query answerDay answer) (Refused refusal) past = past
 pastBy (taking server answer) Accepted past = record { issued = past .issued; taken = server ∷ past .taken }
 pastBy (taking server answer) (Refused refusal) past = past
 pastBy (recovering message) verdict past = past

@@ -1,6 +1,6 @@
 -- The plain fetch: a query issued to each server, the answer of each taken, the message recovered. What is promised of it, for every admitted catalogue,
--- store of the catalogue's length, wanted message and valid key, shuts out ends that refuse everything, or ask or answer nothing (demand 2):
--- `PlainFetches`.
+-- store of the catalogue's length, wanted message and valid key, and any days in the catalogue's season, shuts out ends that refuse everything, or ask or
+-- answer nothing (demand 2): `PlainFetches`.
 use mathlib.Core.Path.{_≡_}
 use mathlib.Core.List.{List, [], _∷_, _++_, map}
 use Prim.Native.Nat.{ℕ, _≤_, _<_}
@@ -11,8 +11,10 @@ use Rattle.lists.specs.Ranges.{range}
 use Rattle.refusal.specs.declared.Verdict.the-variants.{Accepted}
 use Rattle.refusal.specs.declared.Outcome.the-variants.{Value}
 use Rattle.scheme.specs.Scheme.{Scheme, Valid, messageOf}
+use Rattle.calendar.specs.declared.Day.{Day}
 use Rattle.catalogue.specs.declared.Catalogue.{Catalogue}
 use Rattle.catalogue.specs.Catalogue.{Admitted}
+use Rattle.catalogue.specs.Days.{Served}
 use Rattle.session.specs.Calls.{slotsOf}
 use Rattle.fetches.specs.Fetches.{issuing, taking, recovering, Fetch, Made, history}
 use Rattle.fetches.specs.Shown.{asked, shownTo}
@@ -30,30 +32,31 @@ module _ (schemeOf : Catalogue → Scheme) (c : Catalogue) (store : List ℕ) (w
   abbrev pub answerOf : ℕ → List ℕ
   answerOf server = schemeOf c .answer store (queryTo server)
 
-  -- the buffers: the fetch's for the answers, and for each issue a query's and a server's, and the message's
-  abbrev pub plainFetch : List ℕ → List ℕ → List ℕ → List ℕ → Fetch
-  plainFetch answers query answer message = record {
+  -- each server's issue has days of its own. The buffers: the fetch's for the answers, and for each issue a query's and a server's, and the message's
+  abbrev pub plainFetch : (ℕ → Day) → (ℕ → Day) → List ℕ → List ℕ → List ℕ → List ℕ → Fetch
+  plainFetch day answerDay answers query answer message = record {
     wanted = wanted;
     key = key;
     answers = answers;
-    calls = map (λ (server : ℕ). issuing server query answer) (range 0 (c .servers))
+    calls = map (λ (server : ℕ). issuing server (day server) query (answerDay server) answer) (range 0 (c .servers))
         ++ (map (λ (server : ℕ). taking server (answerOf server)) (range 0 (c .servers)) ++ (recovering message ∷ []));
   }
 
   -- the wanted message has all its bytes; each server is asked the query that the code calls for, once, and writes the answer that is taken from it; no
   -- call is refused; and the message's buffer ends with the wanted message at its start and the rest as it was
-  pub record PlainRight (answers query answer message : List ℕ) : Type 0 where
+  pub record PlainRight (day answerDay : ℕ → Day) (answers query answer message : List ℕ) : Type 0 where
     pub whole : length (messageOf (schemeOf c) store wanted) ≡ schemeOf c .sizes .message
     pub served : (n : ℕ) → n < c .servers
-        → shownTo schemeOf c store n (history schemeOf c (plainFetch answers query answer message))
+        → shownTo schemeOf c store n (history schemeOf c (plainFetch day answerDay answers query answer message))
         ≡ asked (queryTo n) (Value (length (answerOf n))) (answerOf n) ∷ []
     pub ends : Ends (λ (made : Made). made .left ≡ put 0 (messageOf (schemeOf c) store wanted) message)
-        (history schemeOf c (plainFetch answers query answer message))
+        (history schemeOf c (plainFetch day answerDay answers query answer message))
 
 abbrev pub PlainFetches : (Catalogue → Scheme) → Type 0
 PlainFetches schemeOf =
     (c : Catalogue) → Admitted c → (store : List ℕ) → Below 256 store → length store ≡ schemeOf c .sizes .store
     → (wanted : ℕ) → wanted < c .messages → (key : List ℕ) → Valid (schemeOf c) key
+    → (day answerDay : ℕ → Day) → ((server : ℕ) → server < c .servers → Served c (day server) × Served c (answerDay server))
     → (answers query answer message : List ℕ) → slotsOf schemeOf c ≤ length answers → schemeOf c .sizes .query ≤ length query
     → schemeOf c .sizes .slot ≤ length answer → schemeOf c .sizes .message ≤ length message
-    → PlainRight schemeOf c store wanted key answers query answer message
+    → PlainRight schemeOf c store wanted key day answerDay answers query answer message

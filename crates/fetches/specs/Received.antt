@@ -13,7 +13,7 @@ use Rattle.fetches.specs.Fetches.{Call, issuing, taking, recovering, Fet
 
 -- the bytes of an answer that was taken
 abbrev pub receivedBy : Call → Verdict → ℕ
-receivedBy (issuing server query answer) verdict = 0
+receivedBy (issuing server day query answerDay answer) verdict = 0
 receivedBy (taking server answer) Accepted = length answer
 receivedBy (taking server answer) (Refused refusal) = 0
 receivedBy (recovering message) verdict = 0

@@ -13,6 +13,7 @@ use Rattle.refusal.specs.declared.Verdict.{Verdict}
 use Rattle.refusal.specs.declared.Verdict.the-variants.{Accepted, Refused}
 use Rattle.refusal.specs.Chain.{refused, refuseIf}
 use Rattle.scheme.specs.Scheme.{Scheme, messageOf}
+use Rattle.calendar.specs.declared.Day.{Day}
 use Rattle.catalogue.specs.declared.Catalogue.{Catalogue}
 use Rattle.server.specs.Answering.{Answered, writtenBy, answering}
 use Rattle.session.specs.Calls.{slotsOf, begin}
@@ -62,8 +63,8 @@ module _ (schemeOf : Catalogue → Scheme) (c : Catalogue) where
     -- of the buffer that a query is answered into, nothing is left changed but what the server is shown to write
     abbrev pub AnswerLeft : Past → Made → Type 0
     AnswerLeft past made =
-        (server : ℕ) (query answer : List ℕ) → made .call ≡ issuing server query answer → made .verdict ≡ Accepted
-        → OnlyWritten (answering schemeOf c server store (take (schemeOf c .sizes .query) (made .left)) answer) answer
+        (server : ℕ) (day answerDay : Day) (query answer : List ℕ) → made .call ≡ issuing server day query answerDay answer → made .verdict ≡ Accepted
+        → OnlyWritten (answering schemeOf c answerDay server store (take (schemeOf c .sizes .query) (made .left)) answer) answer
 
     -- What holds in each fetch
     pub record FetchRight (f : Fetch) : Type 0 where

@@ -9,6 +9,7 @@ use Rattle.refusal.specs.declared.Verdict.the-variants.{Accepted, Refused}
 use Rattle.refusal.specs.Foremost.{foremost}
 use Rattle.refusal.proofs.Foremost.{after-first}
 use Rattle.refusal.proofs.Accepted.{accepted-none, none-accepted}
+use Rattle.calendar.specs.declared.Day.{Day}
 use Rattle.catalogue.specs.declared.Catalogue.{Catalogue}
 use Rattle.catalogue.specs.Catalogue.{catalogueFaults, catalogueVerdict, Admitted}
 use Rattle.catalogue.proofs.Faults.{after-catalogue}
@@ -19,26 +20,26 @@ use Rattle.codes.specs.Codes.{schemeOf}
 use Rattle.server.specs.Answering.{answerVerdict, answerBy, answering}
 use Rattle.gozimpe.specs.Host.{answeringBy, answeringText, hostFaults, longestBy, longestAnswer}
 
-pub host-answers : (c : Catalogue) → Admitted c → (server : ℕ) (store query buffer : List ℕ)
-    → answeringText (textOf c) server store query buffer ≡ answering schemeOf c server store query buffer
+pub host-answers : (c : Catalogue) → Admitted c → (day : Day) (server : ℕ) (store query buffer : List ℕ)
+    → answeringText (textOf c) day server store query buffer ≡ answering schemeOf c day server store query buffer
 unfolding answeringText
-host-answers c a server store query buffer = rw (written-reads-back c a)
+host-answers c a day server store query buffer = rw (written-reads-back c a)
 
 module _ (text : List ℕ) where
   abbrev c : Catalogue
   c = catalogueLines text .catalogue
 
-  pub host-foremost : (server : ℕ) (store query buffer : List ℕ)
-      → answeringText text server store query buffer
-      ≡ answerBy schemeOf c store query buffer (foremost (hostFaults text server (length store) query (length buffer)))
+  pub host-foremost : (day : Day) (server : ℕ) (store query buffer : List ℕ)
+      → answeringText text day server store query buffer
+      ≡ answerBy schemeOf c store query buffer (foremost (hostFaults text day server (length store) query (length buffer)))
   unfolding answeringText readOf answering answerVerdict catalogueVerdict
-  host-foremost server store query buffer = go (foremost (readFaults text)) refl
+  host-foremost day server store query buffer = go (foremost (readFaults text)) refl
     where
       all : Verdict
-      all = foremost (hostFaults text server (length store) query (length buffer))
+      all = foremost (hostFaults text day server (length store) query (length buffer))
 
       go : (v : Verdict) → v ≡ foremost (readFaults text)
-          → answeringBy (readingBy v c .verdict) (readingBy v c .catalogue) server store query buffer ≡ answerBy schemeOf c store query buffer all
+          → answeringBy (readingBy v c .verdict) (readingBy v c .catalogue) day server store query buffer ≡ answerBy schemeOf c store query buffer all
       go Accepted e =
           let admitted = none-accepted (catalogueFaults c) (accepted-none (readFaults text) (sym e) .1 .1) in
           ap (answerBy schemeOf c store query buffer)

@@ -8,6 +8,7 @@ use Rattle.refusal.specs.declared.Verdict.{Verdict}
 use Rattle.refusal.specs.Foremost.{foremost}
 use Rattle.refusal.specs.Within.{ValueWithin}
 use Rattle.refusal.proofs.Within.{faults-within, value-within}
+use Rattle.calendar.specs.declared.Day.{Day}
 use Rattle.catalogue.specs.declared.Catalogue.{Catalogue}
 use Rattle.catalogue.specs.Catalogue.{catalogueNumbers}
 use Rattle.catalogue_text.specs.Parsing.{catalogueLines, readFaults}
@@ -22,12 +23,12 @@ module _ (text : List ℕ) where
   abbrev c : Catalogue
   c = catalogueLines text .catalogue
 
-  answer-numbers : (server : ℕ) (store query buffer : List ℕ)
-      → ValueWithin (1 ∷ answerNumbers) (answeringText text server store query buffer .outcome)
+  answer-numbers : (day : Day) (server : ℕ) (store query buffer : List ℕ)
+      → ValueWithin (1 ∷ answerNumbers) (answeringText text day server store query buffer .outcome)
   unfolding stands
-  answer-numbers server store query buffer =
-      let faults = hostFaults text server (length store) query (length buffer) in
-      rw (host-foremost text server store query buffer)
+  answer-numbers day server store query buffer =
+      let faults = hostFaults text day server (length store) query (length buffer) in
+      rw (host-foremost text day server store query buffer)
       (value-within (1 ∷ answerNumbers) (λ (v : Verdict). answerBy schemeOf c store query buffer v .outcome) (schemeOf c .answerLength query)
       refl (λ refusal. refl) (foremost faults) (faults-within _ faults _ refl refl))
 

@@ -10,6 +10,7 @@ use Rattle.refusal.specs.declared.Verdict.{Verdict}
 use Rattle.refusal.specs.declared.Verdict.the-variants.{Accepted, Refused}
 use Rattle.refusal.specs.declared.Outcome.{Outcome}
 use Rattle.refusal.specs.declared.Outcome.the-variants.{Value, Refused as NoValue}
+use Rattle.calendar.specs.declared.Day.{Day}
 use Rattle.catalogue.specs.declared.Catalogue.{Catalogue}
 use Rattle.catalogue.specs.Catalogue.{Admitted}
 use Rattle.catalogue.proofs.Admitted.{admitted-small}
@@ -34,21 +35,21 @@ same-value : (a b : ℕ) → Value a ≡ Value b → a ≡ b
 same-value a b e = cc
 
 -- the length that answering returns is at most a slot
-pub answer-small : (c : Catalogue) (server : ℕ) (store query buffer : List ℕ) (outcome : Outcome) (size : ℕ)
-    → outcome ≡ answering schemeOf c server store query buffer .outcome → outcome ≡ Value size → size < 2 ^ 32
-answer-small c server store query buffer outcome size is e = go (answerVerdict schemeOf c server (length store) query (length buffer)) refl
+pub answer-small : (c : Catalogue) (day : Day) (server : ℕ) (store query buffer : List ℕ) (outcome : Outcome) (size : ℕ)
+    → outcome ≡ answering schemeOf c day server store query buffer .outcome → outcome ≡ Value size → size < 2 ^ 32
+answer-small c day server store query buffer outcome size is e = go (answerVerdict schemeOf c day server (length store) query (length buffer)) refl
   where
-    given : (x : Answered) → answering schemeOf c server store query buffer ≡ x → x .outcome ≡ Value size
+    given : (x : Answered) → answering schemeOf c day server store query buffer ≡ x → x .outcome ≡ Value size
     given x by = ap (λ (y : Answered). y .outcome) (sym by) ∙ sym is ∙ e
 
-    go : (v : Verdict) → v ≡ answerVerdict schemeOf c server (length store) query (length buffer) → size < 2 ^ 32
+    go : (v : Verdict) → v ≡ answerVerdict schemeOf c day server (length store) query (length buffer) → size < 2 ^ 32
     go Accepted v =
-        let a = answer-passed schemeOf c server (length store) query (length buffer) (sym v) in
+        let a = answer-passed schemeOf c day server (length store) query (length buffer) (sym v) in
         let fits = promises c (a .admitted) .answer-fits server query (a .admits) in
         let whole : schemeOf c .answerLength query ≡ size =
-        same-value (schemeOf c .answerLength query) size (given _ (answer-by schemeOf c server store query buffer Accepted v)) in
+        same-value (schemeOf c .answerLength query) size (given _ (answer-by schemeOf c day server store query buffer Accepted v)) in
         omega (arith, slot-small c (a .admitted))
-    go (Refused refusal) v = no-value refusal size (given _ (answer-by schemeOf c server store query buffer (Refused refusal) v))
+    go (Refused refusal) v = no-value refusal size (given _ (answer-by schemeOf c day server store query buffer (Refused refusal) v))
 
 -- ---- by the verdict on the text, as it was read
 
@@ -67,20 +68,20 @@ module _ (text : List ℕ) (reading : Reading) (read : reading ≡ readOf text) 
   unfolding longestAnswer
   longest-given e = rw (accepted Accepted e, read)
 
-  module _ (server : ℕ) (store query buffer : List ℕ) where
+  module _ (day : Day) (server : ℕ) (store query buffer : List ℕ) where
     -- refused, it leaves the buffer as it was
     pub text-refused : (refusal : Refusal) → reading .verdict ≡ Refused refusal
-        → DidAnswer (answeringText text server store query buffer) (NoValue refusal) buffer
+        → DidAnswer (answeringText text day server store query buffer) (NoValue refusal) buffer
     unfolding answeringText
     text-refused refusal e = rw (accepted (Refused refusal) e) (record { outcome = refl; buffer = refl })
 
     answers-text : reading .verdict ≡ Accepted
-        → answeringText text server store query buffer ≡ answering schemeOf (reading .catalogue) server store query buffer
+        → answeringText text day server store query buffer ≡ answering schemeOf (reading .catalogue) day server store query buffer
     unfolding answeringText
     answers-text e = rw (accepted Accepted e, read)
 
     -- else it does what the answering end does
     pub text-answered : reading .verdict ≡ Accepted → (outcome : Outcome) (after : List ℕ)
-        → DidAnswer (answering schemeOf (reading .catalogue) server store query buffer) outcome after
-        → DidAnswer (answeringText text server store query buffer) outcome after
+        → DidAnswer (answering schemeOf (reading .catalogue) day server store query buffer) outcome after
+        → DidAnswer (answeringText text day server store query buffer) outcome after
     text-answered e outcome after did = rw (answers-text e) did

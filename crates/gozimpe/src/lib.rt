@@ -1,5 +1,6 @@
 // The answering end for the host program of a mirror, in C. Here the names are document 01's: mirror is the server, request the query.
 // The catalogue comes as its text; a refusal is its number with a minus sign. Each slice is a pointer and a length in C.
+use calendar::Day;
 use catalogue::Measured;
 use refusal::Outcome;
 use refusal::Refusal;
@@ -8,7 +9,7 @@ ghost use mathlib.Core.Path.{_≡_};
 ghost use Prim.Native.Nat.{_^_, _<_};
 ghost use lib.IntN.{pos, negℤ};
 ghost use Rattle.refusal.specs.Numbers.{numberOf};
-ghost use Rattle.gozimpe.specs.Host.{signed, answeringText, longestAnswer};
+ghost use Rattle.gozimpe.specs.Host.{signed, dayOf, answeringText, longestAnswer};
 
 // A length, as a signed number.
 fn plus(length: usize) -> i64
@@ -26,19 +27,24 @@ fn minus(refusal: Refusal) -> i64
     -(number as i64)
 }
 
-// Answers one request: the answer's length, or minus the refusal's number.
+// Answers one request today, which is year, month and day: the answer's length, or minus the refusal's number.
 #[no_mangle]
 pub extern "C" fn gozimpe_answer(
     catalogue: &[u8],
+    year: u32,
+    month: u32,
+    day: u32,
     mirror: u64,
     store: &[u8],
     request: &[u8],
     answer: &mut [u8],
 ) -> i64
     ensures { λ r. ⌜ r
-        ≡ signed (answeringText (now (catalogue .entry)) mirror (now (store .entry)) (now (request .entry)) (now (answer .entry)) .outcome) ⌝ }
+        ≡ signed (answeringText (now (catalogue .entry)) (dayOf year month day) mirror
+        (now (store .entry)) (now (request .entry)) (now (answer .entry)) .outcome) ⌝ }
     ensures { λ _. ⌜ now (answer .exit)
-        ≡ answeringText (now (catalogue .entry)) mirror (now (store .entry)) (now (request .entry)) (now (answer .entry)) .buffer ⌝ }
+        ≡ answeringText (now (catalogue .entry)) (dayOf year month day) mirror
+        (now (store .entry)) (now (request .entry)) (now (answer .entry)) .buffer ⌝ }
 {
     let reading = catalogue_text::read(catalogue);
     let verdict = reading.verdict;
@@ -46,7 +52,12 @@ pub extern "C" fn gozimpe_answer(
     if let Verdict::Refused(fault) = verdict {
         return minus(fault);
     }
-    let outcome = server::answer(c, mirror as usize, store, request, answer);
+    let today = Day {
+        year: year,
+        month: month,
+        day: day,
+    };
+    let outcome = server::answer(c, today, mirror as usize, store, request, answer);
     match outcome {
         Outcome::Value(length) => plus(length),
         Outcome::Refused(refusal) => minus(refusal),

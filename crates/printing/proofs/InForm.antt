@@ -22,17 +22,17 @@ use Rattle.text_lines.specs.Lines.{numberText, begins, isNumeral, numberLine}
 use Rattle.text_lines.proofs.Begins.{begins-split}
 use Rattle.text_lines.proofs.Numerals.{NumeralRead, numeral-read}
 use Rattle.text_lines.proofs.RoundTrip.{LineRead, line-read}
-use Rattle.catalogue_text.specs.Text.{textOf, FiveDigits}
+use Rattle.catalogue_text.specs.Text.{textOf, Writable}
 use Rattle.catalogue_text.specs.Parsing.{catalogueLines}
 use Rattle.catalogue_text.proofs.CatalogueLines.{LinesRead, lines-cases}
 use Rattle.number_lists.specs.NumberLists.{afterSpaces, spaced, onNumber, numeralFrom, numeralAt, endsAt, before, numbersFrom, numbersAt}
 use Rattle.printing.specs.Input.{Asked, asked, wantedName, keyName, mostInput, keyLine, onKey, linesAsk, inputAsks, inputOf}
 use Rattle.printing.proofs.RoundTrip.{input-reads-back}
 
--- The text is what is written for this, in at most five digits for each number, and not too long
+-- The text is what is written for this, in at most five digits for each number and with real dates or none, and not too long
 pub record InForm (text : List ℕ) (a : Asked) : Type 0 where
   pub short : length text ≤ mostInput
-  pub catalogue-digits : FiveDigits (a .catalogue)
+  pub catalogue-writable : Writable (a .catalogue)
   pub wanted-digits : a .wanted < 100000
   pub key-digits : Below 100000 (a .key)
   pub text-is : text ≡ inputOf a
@@ -187,7 +187,7 @@ module _ (text : List ℕ) (a : Asked) (short : length text ≤ mostInput) (r : 
           begins-split keyName (drop next text) named ∙ ap (λ (l : List ℕ). keyName ++ l) (drop-drop (length keyName) next text ∙ k .here) in
           rw (← same) (record {
             short = short;
-            catalogue-digits = r .digits;
+            catalogue-writable = r .writable;
             wanted-digits = w .below;
             key-digits = k .below;
             text-is = r .here
@@ -222,7 +222,7 @@ refused-input text = (λ e a f. none-some (sym e ∙ read a f), λ never. go (in
     read : (a : Asked) → InForm text a → inputAsks text ≡ some a
     read a f =
         ap inputAsks (f .text-is)
-        ∙ input-reads-back a (f .catalogue-digits) (f .wanted-digits) (f .key-digits) (rw (f .text-is) at (f .short))
+        ∙ input-reads-back a (f .catalogue-writable) (f .wanted-digits) (f .key-digits) (rw (f .text-is) at (f .short))
 
     go : (o : Option Asked) → inputAsks text ≡ o → ((a : Asked) → InForm text a → ⊥) → inputAsks text ≡ none
     go none e never = e

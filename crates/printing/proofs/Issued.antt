@@ -1,5 +1,6 @@
 -- The printer prints the queries that a session issues (`printed-as-issued`): for an input that is accepted, begin is accepted too, and
--- issue to each server writes the very query that stands on the server's line. Rests on the session's laws of begin and issue.
+-- issue to each server, on any day in the catalogue's season, writes the very query that stands on the server's line; the printer itself tests no season
+-- (document 02, item 1). Rests on the session's laws of begin and issue.
 use mathlib.Core.Path.{_≡_, refl, sym, ap, _∙_}
 use mathlib.Core.List.{List}
 use mathlib.Core.Option.{some}
@@ -10,7 +11,9 @@ use Rattle.refusal.specs.declared.Verdict.{Verdict}
 use Rattle.refusal.specs.declared.Verdict.the-variants.{Accepted}
 use Rattle.refusal.proofs.Accepted.{first-accepted}
 use Rattle.scheme.specs.Scheme.{Scheme}
+use Rattle.calendar.specs.declared.Day.{Day}
 use Rattle.catalogue.specs.declared.Catalogue.{Catalogue}
+use Rattle.catalogue.specs.Days.{Served}
 use Rattle.session.specs.declared.Session.{Session}
 use Rattle.session.specs.declared.Handed.{Handed}
 use Rattle.session.specs.Fields.{newSession}
@@ -29,10 +32,11 @@ module _ (schemeOf : Catalogue → Scheme) where
     -- the whole output: a line for each server, with the query that is asked for there
     pub output : printed schemeOf input ≡ queryLines schemeOf a
     pub begun : begunBy a .verdict ≡ Accepted
-    -- into every buffer with room for it, the session writes that query
-    pub issued : (server : ℕ) (buffer : List ℕ) → server < a .catalogue .servers → schemeOf (a .catalogue) .sizes .query ≤ length buffer
-        → (issue schemeOf (begunBy a .session) server buffer .handed .verdict ≡ Accepted)
-        × (issue schemeOf (begunBy a .session) server buffer .buffer ≡ put 0 (askedQuery schemeOf a server) buffer)
+    -- on every day in season, and into every buffer with room for it, the session writes that query
+    pub issued : (day : Day) (server : ℕ) (buffer : List ℕ) → Served (a .catalogue) day → server < a .catalogue .servers
+        → schemeOf (a .catalogue) .sizes .query ≤ length buffer
+        → (issue schemeOf (begunBy a .session) day server buffer .handed .verdict ≡ Accepted)
+        × (issue schemeOf (begunBy a .session) day server buffer .buffer ≡ put 0 (askedQuery schemeOf a server) buffer)
 
   module _ (a : Asked) (e : beginVerdict schemeOf (a .catalogue) (a .wanted) (a .key) ≡ Accepted) where
     b : Begins schemeOf (a .catalogue) (a .wanted) (a .key)
@@ -48,14 +52,15 @@ module _ (schemeOf : Catalogue → Scheme) where
     new-query server =
         ap (schemeOf (a .catalogue) .query (a .wanted) server) (key-kept schemeOf (a .catalogue) (a .wanted) (a .key) (b .valid .long))
 
-    issues : (server : ℕ) (buffer : List ℕ) → server < a .catalogue .servers → schemeOf (a .catalogue) .sizes .query ≤ length buffer
-        → (issue schemeOf new server buffer .handed .verdict ≡ Accepted)
-        × (issue schemeOf new server buffer .buffer ≡ put 0 (askedQuery schemeOf a server) buffer)
-    issues server buffer below roomy =
+    issues : (day : Day) (server : ℕ) (buffer : List ℕ) → Served (a .catalogue) day → server < a .catalogue .servers
+        → schemeOf (a .catalogue) .sizes .query ≤ length buffer
+        → (issue schemeOf new day server buffer .handed .verdict ≡ Accepted)
+        × (issue schemeOf new day server buffer .buffer ≡ put 0 (askedQuery schemeOf a server) buffer)
+    issues day server buffer served below roomy =
         let accepted =
-        issue-accepted schemeOf new server (length buffer)
-        (record { sound = new-sound schemeOf (a .catalogue) (a .wanted) (a .key) b; below = below; roomy = roomy }) in
-        let did = issue-goes schemeOf new server buffer .done Accepted (put 0 (queryOf schemeOf new server) buffer) (sym accepted) refl refl in (
+        issue-accepted schemeOf new day server (length buffer)
+        (record { sound = new-sound schemeOf (a .catalogue) (a .wanted) (a .key) b; served = served; below = below; roomy = roomy }) in
+        let did = issue-goes schemeOf new day server buffer .done Accepted (put 0 (queryOf schemeOf new server) buffer) (sym accepted) refl refl in (
           sym (ap (λ (h : Handed). h .verdict) (did .handed)),
           sym (did .buffer) ∙ ap (λ (q : List ℕ). put 0 q buffer) (new-query server),
         )
@@ -67,5 +72,5 @@ module _ (schemeOf : Catalogue → Scheme) where
       record {
         output = ap (outputBy schemeOf) asks ∙ ap (λ (v : Verdict). printBy schemeOf v a) accepted;
         begun = begin-says schemeOf (a .catalogue) (a .wanted) (a .key) ∙ e;
-        issued = λ server buffer below roomy. rw (begun-new a e) (issues a e server buffer below roomy);
+        issued = λ day server buffer served below roomy. rw (begun-new a e) (issues a e day server buffer served below roomy);
       }

@@ -23,7 +23,8 @@ use Rattle.text_lines.proofs.Decimal.{length-most, some-digits, decimal-digits,
 use Rattle.text_lines.proofs.Numerals.{no-leading-zero}
 use Rattle.text_lines.proofs.RoundTrip.{line-written}
 use Rattle.catalogue.specs.declared.Catalogue.{Catalogue}
-use Rattle.catalogue_text.specs.Text.{textOf, Ends, FiveDigits}
+use Rattle.season_text.specs.SeasonLines.{dateBegins}
+use Rattle.catalogue_text.specs.Text.{textOf, Ends, Writable}
 use Rattle.catalogue_text.proofs.CatalogueLines.{other-ends, lines-written}
 use Rattle.number_lists.specs.NumberLists.{afterSpaces, spaced, numeralFrom, numeralAt, endsAt, numbersFrom, numbersAt}
 use Rattle.printing.specs.Input.{Asked, wantedName, keyName, mostInput, keyLine, linesAsk, inputAsks, inputOf}
@@ -113,10 +114,10 @@ list-written text (n ∷ numbers) at b e =
 
 -- the line of the wanted message goes on with no catalogue
 wanted-ends : (c : Catalogue) (wanted : ℕ) (rest : List ℕ) → Ends c (numberText wantedName wanted ++ rest)
-unfolding begins
-wanted-ends c wanted rest = other-ends (c .sum) (numberText wantedName wanted ++ rest) refl
+unfolding begins dateBegins
+wanted-ends c wanted rest = other-ends c (numberText wantedName wanted ++ rest) refl refl
 
-pub input-reads-back : (a : Asked) → FiveDigits (a .catalogue) → a .wanted < 100000 → Below 100000 (a .key) → length (inputOf a) ≤ mostInput
+pub input-reads-back : (a : Asked) → Writable (a .catalogue) → a .wanted < 100000 → Below 100000 (a .key) → length (inputOf a) ≤ mostInput
     → inputAsks (inputOf a) ≡ some a
 unfolding inputAsks linesAsk keyLine inputOf
 input-reads-back a small wanted-small key-small fits =

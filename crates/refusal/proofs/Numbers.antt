@@ -9,7 +9,8 @@ use lib.ListN.{getD}
 use borrow.Author.Tests.{le-leb}
 use Rattle.refusal.specs.declared.Refusal.{Refusal}
 use Rattle.refusal.specs.declared.Refusal.the-variants.{Text, Bounds, Server, Wanted, KeyLength, KeyEntry}
-use Rattle.refusal.specs.declared.Refusal.the-variants.{Query, StoreLength, Room, AnswerLength, History, Missing, OddSymbol, OneMessage}
+use Rattle.refusal.specs.declared.Refusal.the-variants.{Query, StoreLength, Room, AnswerLength, History, Missing}
+use Rattle.refusal.specs.declared.Refusal.the-variants.{UnrealDay, OutOfSeason, OddSymbol, OneMessage}
 use Rattle.refusal.specs.Numbers.{numberOf, refusals, refusalOf, order, rank}
 
 -- two functions that agree over the list of refusals agree at each refusal
@@ -30,8 +31,10 @@ module _ {A : Type 0} (f g : Refusal → A) (same : map f refusals ≡ map g ref
   at-each AnswerLength = at-place 9
   at-each History = at-place 10
   at-each Missing = at-place 11
-  at-each OddSymbol = at-place 12
-  at-each OneMessage = at-place 13
+  at-each UnrealDay = at-place 12
+  at-each OutOfSeason = at-place 13
+  at-each OddSymbol = at-place 14
+  at-each OneMessage = at-place 15
 
 pub refusal-kept : (refusal : Refusal) → refusalOf (numberOf refusal) ≡ refusal
 refusal-kept = at-each (λ (r : Refusal). refusalOf (numberOf r)) (λ (r : Refusal). r) refl

@@ -2,8 +2,8 @@
 ghost use mathlib.Core.Path.{_≡_};
 ghost use Rattle.refusal.specs.Numbers.{numberOf};
 
-// Why a call is refused, by ascending number (document 01, 'Numbers a call can give'; 15: document 02, item 2; 17: item 9). Which is given where
-// several apply is another order: `order` of specs/Numbers.antt.
+// Why a call is refused, by ascending number (document 01, 'Numbers a call can give'; document 02: 13 and 14 item 1, 15 item 2, 17 item 9). Which is
+// given where several apply is another order: `order` of specs/Numbers.antt.
 pub enum Refusal {
     // 1: the catalogue's or the printer's input is not in its text form.
     Text,
@@ -29,6 +29,10 @@ pub enum Refusal {
     History,
     // 12: an answer is missing at recovery.
     Missing,
+    // 13: the day of the call is no real day of the years 2000 to 2399.
+    UnrealDay,
+    // 14: the day of the call is outside the catalogue's season.
+    OutOfSeason,
     // 15: symbols of an odd length (01: pieces) are no rows of words, which the catalogue adds.
     OddSymbol,
     // 17: the catalogue has one message only (01: K is 1), which no query can hide.
@@ -64,6 +68,8 @@ pub fn number(refusal: Refusal) -> u8
         Refusal::AnswerLength => 10,
         Refusal::History => 11,
         Refusal::Missing => 12,
+        Refusal::UnrealDay => 13,
+        Refusal::OutOfSeason => 14,
         Refusal::OddSymbol => 15,
         Refusal::OneMessage => 17,
     }

@@ -1,5 +1,5 @@
 -- Answering, over the code of each catalogue: the whole result, and the final bytes of the answer's buffer, for every input
--- (document 01, 'Numbers a call can give').
+-- (document 01, 'Numbers a call can give'; the day: document 02, item 1).
 use mathlib.Core.Path.{_≡_}
 use mathlib.Core.Bool.{not}
 use mathlib.Core.List.{List, [], _∷_, _++_}
@@ -13,8 +13,10 @@ use Rattle.refusal.specs.declared.Outcome.{Outcome}
 use Rattle.refusal.specs.declared.Outcome.the-variants.{Value, Refused as NoValue}
 use Rattle.refusal.specs.Foremost.{Fault, fault, foremost}
 use Rattle.scheme.specs.Scheme.{Scheme}
+use Rattle.calendar.specs.declared.Day.{Day}
 use Rattle.catalogue.specs.declared.Catalogue.{Catalogue}
 use Rattle.catalogue.specs.Catalogue.{catalogueFaults}
+use Rattle.catalogue.specs.Days.{dayFaults}
 
 -- What answering returns, the answer's length unless it is refused, and the buffer as it leaves it
 pub record Answered : Type 0 where
@@ -32,18 +34,19 @@ pub record DidAnswer (answered : Answered) (result : Outcome) (after : List ℕ)
   pub buffer : after ≡ answered .buffer
 
 module _ (schemeOf : Catalogue → Scheme) where
-  -- answerFaults c server stored query room: from the lengths of the store and of the buffer. No room is too little for an empty answer
-  abbrev pub answerFaults : Catalogue → ℕ → ℕ → List ℕ → ℕ → List Fault
-  answerFaults c server stored query room =
+  -- answerFaults c day server stored query room: from the lengths of the store and of the buffer. No room is too little for an empty answer
+  abbrev pub answerFaults : Catalogue → Day → ℕ → ℕ → List ℕ → ℕ → List Fault
+  answerFaults c day server stored query room =
       catalogueFaults c
+      ++ (dayFaults c day
       ++ (fault 3 (leb (c .servers) server)
       ∷ fault 7 (not (schemeOf c .admits server query))
       ∷ fault 8 (not (eqb stored (schemeOf c .sizes .store)))
       ∷ fault 9 (ltb room (schemeOf c .answerLength query))
-      ∷ [])
+      ∷ []))
 
-  unfoldable pub answerVerdict : Catalogue → ℕ → ℕ → List ℕ → ℕ → Verdict
-  answerVerdict c server stored query room = foremost (answerFaults c server stored query room)
+  unfoldable pub answerVerdict : Catalogue → Day → ℕ → ℕ → List ℕ → ℕ → Verdict
+  answerVerdict c day server stored query room = foremost (answerFaults c day server stored query room)
 
   abbrev pub answerBy : Catalogue → List ℕ → List ℕ → List ℕ → Verdict → Answered
   answerBy c store query buffer Accepted = record {
@@ -52,6 +55,6 @@ module _ (schemeOf : Catalogue → Scheme) where
   }
   answerBy c store query buffer (Refused refusal) = record { outcome = NoValue refusal; buffer = buffer }
 
-  -- answering c server store query buffer
-  unfoldable pub answering : Catalogue → ℕ → List ℕ → List ℕ → List ℕ → Answered
-  answering c server store query buffer = answerBy c store query buffer (answerVerdict c server (length store) query (length buffer))
+  -- answering c day server store query buffer
+  unfoldable pub answering : Catalogue → Day → ℕ → List ℕ → List ℕ → List ℕ → Answered
+  answering c day server store query buffer = answerBy c store query buffer (answerVerdict c day server (length store) query (length buffer))

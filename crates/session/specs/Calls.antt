@@ -1,6 +1,6 @@
--- The calls of a session, over the code of each catalogue (document 01, 'Session' and 'Numbers a call can give'): the whole result, and the
--- final bytes of the buffer that the call may write, for every input. A call goes by its verdict, the foremost of its faults; refused, it changes
--- nothing.
+-- The calls of a session, over the code of each catalogue (document 01, 'Session' and 'Numbers a call can give'; the day of an issue: document 02, item
+-- 1): the whole result, and the final bytes of the buffer that the call may write, for every input. A call goes by its verdict, the foremost of its
+-- faults; refused, it changes nothing.
 use mathlib.Core.Path.{_≡_}
 use mathlib.Core.Bool.{not}
 use mathlib.Core.List.{List, [], _∷_, _++_}
@@ -14,11 +14,12 @@ use Rattle.refusal.specs.declared.Outcome.{Outcome}
 use Rattle.refusal.specs.declared.Outcome.the-variants.{Value, Refused as NoValue}
 use Rattle.refusal.specs.Foremost.{Fault, fault, foremost}
 use Rattle.scheme.specs.Scheme.{Scheme, recoverIn}
+use Rattle.calendar.specs.declared.Day.{Day}
 use Rattle.catalogue.specs.declared.Catalogue.{Catalogue}
 use Rattle.catalogue.specs.Catalogue.{catalogueFaults, catalogueVerdict}
 use Rattle.session.specs.declared.Session.{Session}
 use Rattle.session.specs.declared.Handed.{Handed}
-use Rattle.session_checks.specs.Checks.{usedPlaces, sessionFaults, serverFaults, marksFault, dueFaults, missingFault}
+use Rattle.session_checks.specs.Checks.{usedPlaces, sessionFaults, serverFaults, servedFaults, marksFault, dueFaults, missingFault}
 use Rattle.session.specs.Fields.{newSession, zeroSession, markIssued, markTaken}
 
 -- What issue, take and recover do: what they hand back, and how they leave the buffer that they may write (the query's, the answers', the message's)
@@ -62,6 +63,10 @@ module _ (schemeOf : Catalogue → Scheme) where
   abbrev pub askFaults : Session → ℕ → List Fault
   askFaults s = serverFaults schemeOf (s .catalogue) (s .wanted) (s .key)
 
+  -- on a day
+  abbrev pub askFaultsOn : Session → Day → ℕ → List Fault
+  askFaultsOn s day = servedFaults schemeOf (s .catalogue) day (s .wanted) (s .key)
+
   -- begin catalogue wanted key
   abbrev pub beginFaults : Catalogue → ℕ → List ℕ → List Fault
   beginFaults c wanted key =
@@ -81,21 +86,21 @@ module _ (schemeOf : Catalogue → Scheme) where
   unfoldable pub begin : Catalogue → ℕ → List ℕ → Handed
   begin c wanted key = beginBy c wanted key (beginVerdict c wanted key)
 
-  -- issue session server buffer: the query, at the start of the buffer
-  abbrev pub issueFaults : Session → ℕ → ℕ → List Fault
-  issueFaults s server room =
-      askFaults s server ++ (fault 9 (ltb room (codeOf s .sizes .query)) ∷ marksFault (s .catalogue .servers) (s .issued) (s .taken) ∷ [])
+  -- issue session day server buffer: the query, at the start of the buffer
+  abbrev pub issueFaults : Session → Day → ℕ → ℕ → List Fault
+  issueFaults s day server room =
+      askFaultsOn s day server ++ (fault 9 (ltb room (codeOf s .sizes .query)) ∷ marksFault (s .catalogue .servers) (s .issued) (s .taken) ∷ [])
 
-  unfoldable pub issueVerdict : Session → ℕ → ℕ → Verdict
-  issueVerdict s server room = foremost (issueFaults s server room)
+  unfoldable pub issueVerdict : Session → Day → ℕ → ℕ → Verdict
+  issueVerdict s day server room = foremost (issueFaults s day server room)
 
   abbrev pub issueBy : Session → ℕ → List ℕ → Verdict → Out
   issueBy s server buffer = callBy s buffer (markIssued s server) (put 0 (queryOf s server) buffer)
 
-  unfoldable pub issue : Session → ℕ → List ℕ → Out
-  issue s server buffer = issueBy s server buffer (issueVerdict s server (length buffer))
+  unfoldable pub issue : Session → Day → ℕ → List ℕ → Out
+  issue s day server buffer = issueBy s server buffer (issueVerdict s day server (length buffer))
 
-  -- take session server answer buffer: the answer, at the start of the server's slot; of an empty answer nothing is written. The length goes by the
+  -- take session server answer buffer, on any day: the answer, at the start of the server's slot; of an empty answer nothing is written. The length goes by the
   -- query that the session calls for there, issued or not
   abbrev pub takeFaults : Session → ℕ → ℕ → ℕ → List Fault
   takeFaults s server size room =
@@ -114,7 +119,7 @@ module _ (schemeOf : Catalogue → Scheme) where
   unfoldable pub takeAnswer : Session → ℕ → List ℕ → List ℕ → Out
   takeAnswer s server answer buffer = takeBy s server answer buffer (takeVerdict s server (length answer) (length buffer))
 
-  -- recover session answers buffer: the message, at the start of the buffer, from the answers in their slots; the session as it was
+  -- recover session answers buffer, on any day: the message, at the start of the buffer, from the answers in their slots; the session as it was
   abbrev pub recoverFaults : Session → ℕ → ℕ → List Fault
   recoverFaults s answersRoom room =
       ownFaults s

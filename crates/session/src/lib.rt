@@ -7,6 +7,7 @@ ghost use Rattle.codes.specs.Codes.{schemeOf};
 ghost use Rattle.session.specs.Fields.{zeroSession, newSession, markIssued, markTaken};
 ghost use Rattle.session.specs.Calls.{Did};
 ghost use Rattle.session.specs.Calls.{begin as begin·, issue as issue·, takeAnswer, recover as recover·, bound as bound·};
+use calendar::Day;
 use catalogue::Catalogue;
 use refusal::Outcome;
 use refusal::Verdict;
@@ -91,11 +92,11 @@ impl Session {
         }
     }
 
-    // Writes a server's query (01: a mirror's request) at the start of `query`; again, the same bytes.
-    pub fn issue(self, server: usize, query: &mut [u8]) -> Handed
-        ensures { λ r. ⌜ Did (issue· schemeOf self server (now (query .entry))) r (now (query .exit)) ⌝ }
+    // Writes a server's query (01: a mirror's request) at the start of `query`, on a day in the catalogue's season; again, the same bytes.
+    pub fn issue(self, today: Day, server: usize, query: &mut [u8]) -> Handed
+        ensures { λ r. ⌜ Did (issue· schemeOf self today server (now (query .entry))) r (now (query .exit)) ⌝ }
     {
-        let verdict = verdicts::issue_verdict(self, server, query.len());
+        let verdict = verdicts::issue_verdict(self, today, server, query.len());
         if let Verdict::Refused(_) = verdict {
             return Handed {
                 verdict: verdict,

@@ -3,6 +3,7 @@ ghost use mathlib.Core.Path.{_≡_};
 ghost use Rattle.codes.specs.Codes.{schemeOf};
 ghost use Rattle.session.specs.Calls.{beginVerdict, issueVerdict, takeVerdict, recoverVerdict};
 use crate::Session;
+use calendar::Day;
 use catalogue::Catalogue;
 use refusal::Refusal;
 use refusal::Verdict;
@@ -28,13 +29,14 @@ pub fn begin_verdict(catalogue: Catalogue, wanted: usize, key: &[u8]) -> Verdict
     Verdict::Accepted
 }
 
-// Whether a query can be issued.
-pub fn issue_verdict(s: Session, server: usize, room: usize) -> Verdict
-    ensures { λ r. ⌜ r ≡ issueVerdict schemeOf s server room ⌝ }
+// Whether a query can be issued today.
+pub fn issue_verdict(s: Session, today: Day, server: usize, room: usize) -> Verdict
+    ensures { λ r. ⌜ r ≡ issueVerdict schemeOf s today server room ⌝ }
 {
     let key = s.key;
-    if let Verdict::Refused(refusal) = session_checks::server_verdict(
+    if let Verdict::Refused(refusal) = session_checks::served_verdict(
         s.catalogue,
+        today,
         s.wanted,
         &key,
         server,

@@ -1,5 +1,5 @@
--- What the calls of a session check of its fields (document 01, 'Numbers a call can give'), as faults that several calls share, over the code of
--- each catalogue. `places`: those of the session's key.
+-- What the calls of a session check of its fields (document 01, 'Numbers a call can give'; the day: document 02, item 1), as faults that several calls
+-- share, over the code of each catalogue. `places`: those of the session's key.
 use mathlib.Core.Bool.{Bool, not}
 use mathlib.Core.List.{List, [], _∷_, _++_}
 use Prim.Native.Nat.{ℕ}
@@ -7,8 +7,10 @@ use lib.Dec.{leb}
 use lib.ListN.{take}
 use Rattle.refusal.specs.Foremost.{Fault, fault}
 use Rattle.scheme.specs.Scheme.{Scheme}
+use Rattle.calendar.specs.declared.Day.{Day}
 use Rattle.catalogue.specs.declared.Catalogue.{Catalogue}
 use Rattle.catalogue.specs.Catalogue.{catalogueFaults}
+use Rattle.catalogue.specs.Days.{dayFaults}
 use Rattle.session_parts.specs.Marks.{marked, marksGood, allTaken}
 
 -- marks that no history of calls gives
@@ -35,6 +37,13 @@ module _ (schemeOf : Catalogue → Scheme) where
   abbrev pub sessionFaults : Catalogue → ℕ → List ℕ → List Fault
   sessionFaults c wanted places = catalogueFaults c ++ fieldFaults c wanted places
 
-  -- of a call that names a server
+  -- and the server that a call names
+  abbrev pub namedFaults : Catalogue → ℕ → List ℕ → ℕ → List Fault
+  namedFaults c wanted places server = fault 3 (leb (c .servers) server) ∷ fieldFaults c wanted places
+
   abbrev pub serverFaults : Catalogue → ℕ → List ℕ → ℕ → List Fault
-  serverFaults c wanted places server = catalogueFaults c ++ (fault 3 (leb (c .servers) server) ∷ fieldFaults c wanted places)
+  serverFaults c wanted places server = catalogueFaults c ++ namedFaults c wanted places server
+
+  -- of a call that names a server on a day
+  abbrev pub servedFaults : Catalogue → Day → ℕ → List ℕ → ℕ → List Fault
+  servedFaults c day wanted places server = catalogueFaults c ++ (dayFaults c day ++ namedFaults c wanted places server)

@@ -8,7 +8,9 @@ ghost use Rattle.refusal.specs.Foremost.{foremost};
 ghost use Rattle.refusal.specs.Chain.{chain};
 ghost use Rattle.catalogue.specs.Catalogue.{Admitted};
 ghost use Rattle.codes.specs.Codes.{schemeOf};
-ghost use Rattle.session_checks.specs.Checks.{fieldFaults, sessionFaults, serverFaults, marksFault, dueFaults, missingFault};
+ghost use Rattle.session_checks.specs.Checks.{fieldFaults, sessionFaults, namedFaults, serverFaults, servedFaults};
+ghost use Rattle.session_checks.specs.Checks.{marksFault, dueFaults, missingFault};
+use calendar::Day;
 use catalogue::Catalogue;
 use refusal::Refusal;
 use refusal::Verdict;
@@ -30,7 +32,19 @@ fn fields_verdict(c: Catalogue, wanted: usize, places: &[u8]) -> Verdict
     Verdict::Accepted
 }
 
-// Whether a session with these fields can ask this server.
+// Whether the server is there, and wanted message and key are good.
+fn named_verdict(c: Catalogue, wanted: usize, places: &[u8], server: usize) -> Verdict
+    requires { ⌜ Admitted c ⌝ }
+    requires { ⌜ length (now places) ≡ 2048 ⌝ }
+    ensures { λ r. ⌜ r ≡ chain (namedFaults schemeOf c wanted (now (places .entry)) server) ⌝ }
+{
+    if c.servers <= server {
+        return Verdict::Refused(Refusal::Server);
+    }
+    fields_verdict(c, wanted, places)
+}
+
+// Whether a session with these fields can take from this server.
 pub fn server_verdict(c: Catalogue, wanted: usize, places: &[u8], server: usize) -> Verdict
     requires { ⌜ length (now places) ≡ 2048 ⌝ }
     ensures { λ r. ⌜ r ≡ foremost (serverFaults schemeOf c wanted (now (places .entry)) server) ⌝ }
@@ -38,10 +52,27 @@ pub fn server_verdict(c: Catalogue, wanted: usize, places: &[u8], server: usize)
     if let Verdict::Refused(refusal) = catalogue::verdict(c) {
         return Verdict::Refused(refusal);
     }
-    if c.servers <= server {
-        return Verdict::Refused(Refusal::Server);
+    named_verdict(c, wanted, places, server)
+}
+
+// Whether a session with these fields can ask this server today.
+pub fn served_verdict(
+    c: Catalogue,
+    today: Day,
+    wanted: usize,
+    places: &[u8],
+    server: usize,
+) -> Verdict
+    requires { ⌜ length (now places) ≡ 2048 ⌝ }
+    ensures { λ r. ⌜ r ≡ foremost (servedFaults schemeOf c today wanted (now (places .entry)) server) ⌝ }
+{
+    if let Verdict::Refused(refusal) = catalogue::verdict(c) {
+        return Verdict::Refused(refusal);
     }
-    fields_verdict(c, wanted, places)
+    if let Verdict::Refused(refusal) = catalogue::day_verdict(c, today) {
+        return Verdict::Refused(refusal);
+    }
+    named_verdict(c, wanted, places, server)
 }
 
 // Whether a session with these fields can be recovered from, its answers and buffers apart.

@@ -26,7 +26,7 @@ module _ (schemeOf : Catalogue → Scheme) where
   unfolding stands beginVerdict issueVerdict takeVerdict recoverVerdict
   call-numbers = record {
     begins = λ c wanted key. faults-within _ (beginFaults schemeOf c wanted key) _ refl (begin-says schemeOf c wanted key);
-    issues = λ s server buffer. faults-within _ (issueFaults schemeOf s server (length buffer)) _ refl (issue-goes schemeOf s server buffer .says);
+    issues = λ s day server buffer. faults-within _ (issueFaults schemeOf s day server (length buffer)) _ refl (issue-goes schemeOf s day server buffer .says);
     takes = λ s server answer buffer.
         faults-within _ (takeFaults schemeOf s server (length answer) (length buffer)) _ refl (take-goes schemeOf s server answer buffer .says);
     recovers = λ s answers buffer.

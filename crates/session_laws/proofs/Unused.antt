@@ -7,6 +7,7 @@ use Rattle.lists.specs.Parts.{put}
 use Rattle.refusal.specs.declared.Verdict.{Verdict}
 use Rattle.refusal.specs.declared.Verdict.the-variants.{Accepted, Refused}
 use Rattle.scheme.specs.Scheme.{Scheme, recoverIn}
+use Rattle.calendar.specs.declared.Day.{Day}
 use Rattle.catalogue.specs.declared.Catalogue.{Catalogue}
 use Rattle.session.specs.declared.Session.{Session}
 use Rattle.session.specs.Fields.{markIssued}
@@ -27,16 +28,16 @@ module _ (schemeOf : Catalogue → Scheme) (s : Session) (places : List ℕ) (sa
   message-same answers =
       ap (λ (key : List ℕ). recoverIn (codeOf schemeOf s) (s .catalogue .servers) (s .wanted) key answers) same
 
-  issue-same : (server : ℕ) (buffer : List ℕ) (v : Verdict) → v ≡ issueVerdict schemeOf s server (length buffer)
-      → issue schemeOf t server buffer ≡ handedWith places (issue schemeOf s server buffer)
+  issue-same : (day : Day) (server : ℕ) (buffer : List ℕ) (v : Verdict) → v ≡ issueVerdict schemeOf s day server (length buffer)
+      → issue schemeOf t day server buffer ≡ handedWith places (issue schemeOf s day server buffer)
   unfolding issueVerdict
-  issue-same server buffer Accepted e =
-      let f : Accepted ≡ issueVerdict schemeOf t server (length buffer) = rw same e in
-      rw (issue-by schemeOf t server buffer Accepted f, issue-by schemeOf s server buffer Accepted e)
+  issue-same day server buffer Accepted e =
+      let f : Accepted ≡ issueVerdict schemeOf t day server (length buffer) = rw same e in
+      rw (issue-by schemeOf t day server buffer Accepted f, issue-by schemeOf s day server buffer Accepted e)
       (ap (λ (query : List ℕ). out Accepted (markIssued t server) (put 0 query buffer)) (query-same server))
-  issue-same server buffer (Refused refusal) e =
-      let f : Refused refusal ≡ issueVerdict schemeOf t server (length buffer) = rw same e in
-      rw (issue-by schemeOf t server buffer (Refused refusal) f, issue-by schemeOf s server buffer (Refused refusal) e)
+  issue-same day server buffer (Refused refusal) e =
+      let f : Refused refusal ≡ issueVerdict schemeOf t day server (length buffer) = rw same e in
+      rw (issue-by schemeOf t day server buffer (Refused refusal) f, issue-by schemeOf s day server buffer (Refused refusal) e)
 
   take-same : (server : ℕ) (answer buffer : List ℕ) (v : Verdict) → v ≡ takeVerdict schemeOf s server (length answer) (length buffer)
       → takeAnswer schemeOf t server answer buffer ≡ handedWith places (takeAnswer schemeOf s server answer buffer)
@@ -61,7 +62,7 @@ module _ (schemeOf : Catalogue → Scheme) (s : Session) (places : List ℕ) (sa
 
 pub unused-unread : (schemeOf : Catalogue → Scheme) → UnusedUnread schemeOf
 unused-unread schemeOf s places same = record {
-  issues = λ server buffer. issue-same schemeOf s places same server buffer (issueVerdict schemeOf s server (length buffer)) refl;
+  issues = λ day server buffer. issue-same schemeOf s places same day server buffer (issueVerdict schemeOf s day server (length buffer)) refl;
   takes = λ server answer buffer. take-same schemeOf s places same server answer buffer (takeVerdict schemeOf s server (length answer) (length buffer)) refl;
   recovers = λ answers buffer. recover-as schemeOf s places same answers buffer (recoverVerdict schemeOf s (length answers) (length buffer)) refl;
 }

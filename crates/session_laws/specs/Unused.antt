@@ -5,6 +5,7 @@ use mathlib.Core.List.{List}
 use Prim.Native.Nat.{ℕ}
 use lib.ListN.{take}
 use Rattle.scheme.specs.Scheme.{Scheme}
+use Rattle.calendar.specs.declared.Day.{Day}
 use Rattle.catalogue.specs.declared.Catalogue.{Catalogue}
 use Rattle.session.specs.declared.Session.{Session}
 use Rattle.session.specs.Calls.{Out, codeOf, keyOf, issue, takeAnswer, recover}
@@ -18,7 +19,8 @@ abbrev pub handedWith : List ℕ → Out → Out
 handedWith places o = record { handed = record { verdict = o .handed .verdict; session = withPlaces places (o .handed .session) }; buffer = o .buffer }
 
 pub record Unread (schemeOf : Catalogue → Scheme) (s : Session) (places : List ℕ) : Type 0 where
-  pub issues : (server : ℕ) (buffer : List ℕ) → issue schemeOf (withPlaces places s) server buffer ≡ handedWith places (issue schemeOf s server buffer)
+  pub issues : (day : Day) (server : ℕ) (buffer : List ℕ)
+      → issue schemeOf (withPlaces places s) day server buffer ≡ handedWith places (issue schemeOf s day server buffer)
   pub takes : (server : ℕ) (answer buffer : List ℕ)
       → takeAnswer schemeOf (withPlaces places s) server answer buffer ≡ handedWith places (takeAnswer schemeOf s server answer buffer)
   pub recovers : (answers buffer : List ℕ) → recover schemeOf (withPlaces places s) answers buffer ≡ handedWith places (recover schemeOf s answers buffer)

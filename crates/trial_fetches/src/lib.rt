@@ -1,4 +1,5 @@
 // Whole fetches: begin, then for each server issue, answer and take, then recover, all in buffers of exactly the length that they need.
+use calendar::Day;
 use catalogue::Measured;
 use parameters::Sizes;
 use refusal::Outcome;
@@ -36,6 +37,7 @@ fn plus(a: usize, b: usize) -> usize {
 // One exchange: the server's query is issued, answered from the store, and the answer taken.
 fn exchange(
     so_far: Exchanged,
+    today: Day,
     n: usize,
     store: &[u8],
     query: &mut [u8],
@@ -43,8 +45,8 @@ fn exchange(
     answers: &mut [u8],
 ) -> Exchanged {
     let session = so_far.session;
-    let issued = session.issue(n, query);
-    let given = server::answer(session.catalogue, n, store, query, answer);
+    let issued = session.issue(today, n, query);
+    let given = server::answer(session.catalogue, today, n, store, query, answer);
     let got = draw::at_most(value(given), answer.len());
     let session = issued.session;
     let taken = session.take(n, &answer[..got], answers);
@@ -60,6 +62,7 @@ fn exchange(
 // The exchanges with all servers, in ascending order.
 fn exchanges(
     begun: Session,
+    today: Day,
     store: &[u8],
     query: &mut [u8],
     answer: &mut [u8],
@@ -74,7 +77,7 @@ fn exchanges(
     let c = begun.catalogue;
     let mut n: usize = 0;
     while n < c.servers {
-        so_far = exchange(so_far, n, store, query, answer, answers);
+        so_far = exchange(so_far, today, n, store, query, answer, answers);
         n += 1;
     }
     so_far
@@ -92,13 +95,14 @@ fn recovered(s: Session, answers: &[u8], message: &mut [u8]) {
 // The exchanges and the recovery, after begin: the sums of queries and answers, the bytes received, recover's verdict and the message.
 fn rest(
     begun: Session,
+    today: Day,
     store: &[u8],
     query: &mut [u8],
     answer: &mut [u8],
     answers: &mut [u8],
     message: &mut [u8],
 ) {
-    let done = exchanges(begun, store, query, answer, answers);
+    let done = exchanges(begun, today, store, query, answer, answers);
     show::total(done.queries);
     show::total(done.answers);
     show::number(done.received);
@@ -109,6 +113,7 @@ fn rest(
 // The same in buffers of exactly the lengths that the catalogue calls for.
 fn exact(
     begun: Session,
+    today: Day,
     sizes: Sizes,
     store: &[u8],
     query: &mut [u8],
@@ -122,6 +127,7 @@ fn exact(
     let room = draw::at_most(sizes.message, message.len());
     rest(
         begun,
+        today,
         store,
         &mut query[..asked],
         &mut answer[..slot],
@@ -130,7 +136,7 @@ fn exact(
     );
 }
 
-// x WANTED: a whole fetch with the lent key and store. Refused by begin, it ends there.
+// x WANTED: a whole fetch with the lent key and store, all of it today. Refused by begin, it ends there.
 pub fn whole(
     s: State,
     wanted: usize,
@@ -150,6 +156,15 @@ pub fn whole(
         show::end();
         return;
     };
-    exact(session, sizes, store, query, answer, answers, message);
+    exact(
+        session,
+        s.days.today,
+        sizes,
+        store,
+        query,
+        answer,
+        answers,
+        message,
+    );
     show::end();
 }

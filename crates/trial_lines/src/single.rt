@@ -1,13 +1,16 @@
 // Single calls, each printed on a line of its own: what it gave, then the whole of the buffer that it was lent to write, filled before with one byte,
 // and the session that it handed back.
+use calendar::Day;
 use catalogue::Catalogue;
 use catalogue::Code;
 use catalogue::Measured;
 use refusal::Outcome;
+use session::Handed;
 use symbol::Operation;
 use trials::draw;
 use trials::input::Line;
 use trials::show;
+use trials::state::Days;
 use trials::state::State;
 
 // t: reads a catalogue's text, as a whole and as the start of a longer one; the catalogue handed back is the next calls'.
@@ -28,26 +31,56 @@ pub fn text(s: State, text: &[u8]) -> State {
     s.with_catalogue(c)
 }
 
-// The catalogue of five numbers: code (0 short, else even), N, K, S, and the sum (0 exclusive or, else addition).
-pub fn catalogue_of(line: Line) -> Catalogue {
+// The catalogue of five numbers: code (0 short, else even), N, K, S, and the sum (0 exclusive or, else addition); and of the dates set before.
+pub fn catalogue_of(days: Days, line: Line) -> Catalogue {
     let code = if line.a == 0 { Code::Short } else { Code::Even };
     let sum = if line.e == 0 {
         Operation::ExclusiveOr
     } else {
         Operation::Addition
     };
+    let opening = days.opening;
+    let closing = days.closing;
     Catalogue {
         code: code,
+        sum: sum,
+        opening: opening,
+        closing: closing,
         servers: line.b,
         messages: line.c,
         symbol: line.d,
-        sum: sum,
     }
+}
+
+// The last 32 bits.
+fn narrow(n: usize) -> u32 {
+    (n % 4294967296) as u32
+}
+
+// The day of three numbers.
+fn day_of(line: Line) -> Day {
+    Day {
+        year: narrow(line.a),
+        month: narrow(line.b),
+        day: narrow(line.c),
+    }
+}
+
+// f, l, n: the opening day and the closing day that later catalogues are given, and the day of later calls.
+pub fn set_day(s: State, line: Line) -> State {
+    let mut days = s.days;
+    let letter = line.letter;
+    match letter {
+        b'f' => days.opening = day_of(line),
+        b'l' => days.closing = day_of(line),
+        _ => days.today = day_of(line),
+    }
+    s.with_days(days)
 }
 
 // c: a catalogue, its verdict, its sizes, or why it has none, and the bound on received bytes.
 pub fn catalogue(s: State, line: Line) -> State {
-    let c = catalogue_of(line);
+    let c = catalogue_of(s.days, line);
     show::letter(b'c');
     show::verdict(catalogue::verdict(c));
     match catalogue::sizes(c) {
@@ -87,25 +120,30 @@ pub fn begin(s: State, wanted: usize, key: &[u8]) -> State {
     s.with_session(session)
 }
 
-// i SERVER ROOM: issues a query.
-pub fn issue(s: State, n: usize, query: &mut [u8]) -> State {
-    draw::fill(238, query);
-    let handed = s.session.issue(n, query);
-    show::letter(b'i');
+// What a call on the session handed back, and the buffer that it may have written.
+fn shown(s: State, letter: u8, handed: Handed, buffer: &[u8]) -> State {
+    show::letter(letter);
     let verdict = handed.verdict;
     show::verdict(verdict);
-    show::bytes(query);
+    show::bytes(buffer);
     let session = handed.session;
     show::session(session);
     show::end();
     s.with_session(session)
 }
 
-// a SERVER LENGTH ROOM: answers the query of that length.
+// i SERVER ROOM: issues a query today.
+pub fn issue(s: State, n: usize, query: &mut [u8]) -> State {
+    draw::fill(238, query);
+    let handed = s.session.issue(s.days.today, n, query);
+    shown(s, b'i', handed, query)
+}
+
+// a SERVER LENGTH ROOM: answers the query of that length today.
 pub fn answer(s: State, n: usize, store: &[u8], query: &[u8], out: &mut [u8]) {
     draw::fill(221, out);
     show::letter(b'a');
-    show::outcome(server::answer(s.catalogue, n, store, query, out));
+    show::outcome(server::answer(s.catalogue, s.days.today, n, store, query, out));
     show::bytes(out);
     show::end();
 }
@@ -113,26 +151,12 @@ pub fn answer(s: State, n: usize, store: &[u8], query: &[u8], out: &mut [u8]) {
 // h SERVER LENGTH ROOM: takes the answer of that length into an answer buffer of that many bytes.
 pub fn take(s: State, n: usize, answer: &[u8], answers: &mut [u8]) -> State {
     let handed = s.session.take(n, answer, answers);
-    show::letter(b'h');
-    let verdict = handed.verdict;
-    show::verdict(verdict);
-    show::bytes(answers);
-    let session = handed.session;
-    show::session(session);
-    show::end();
-    s.with_session(session)
+    shown(s, b'h', handed, answers)
 }
 
 // r ANSWERS ROOM: recovers the message from an answer buffer of that many bytes.
 pub fn recover(s: State, answers: &[u8], message: &mut [u8]) -> State {
     draw::fill(204, message);
     let handed = s.session.recover(answers, message);
-    show::letter(b'r');
-    let verdict = handed.verdict;
-    show::verdict(verdict);
-    show::bytes(message);
-    let session = handed.session;
-    show::session(session);
-    show::end();
-    s.with_session(session)
+    shown(s, b'r', handed, message)
 }

@@ -1,5 +1,6 @@
 // What is printed of a call, on one line: its letter, then numbers with a space before each. Bytes stand in brackets: up to 32 one by one, more
 // by their count and a sum that goes by their order.
+use calendar::Day;
 use catalogue::Catalogue;
 use catalogue::Code;
 use libc::STDOUT_FILENO;
@@ -108,7 +109,14 @@ fn sum_number(sum: Operation) -> usize {
     }
 }
 
-// Prints a catalogue: its code, N, K, S and its sum.
+// Prints a day: year, month, day.
+fn day(d: Day) {
+    number(d.year as usize);
+    number(d.month as usize);
+    number(d.day as usize);
+}
+
+// Prints a catalogue: its code, N, K, S, its sum and its dates.
 pub fn catalogue(c: Catalogue) {
     let code = c.code;
     number(code_number(code));
@@ -117,6 +125,8 @@ pub fn catalogue(c: Catalogue) {
     number(c.symbol);
     let sum = c.sum;
     number(sum_number(sum));
+    day(c.opening);
+    day(c.closing);
 }
 
 // Marks as a number, the first one the most.

@@ -11,10 +11,12 @@ use Rattle.parameters.specs.Measures.{shortSizes, evenRows, evenSizes}
 use Rattle.symbol.specs.Sum.{totalFrom, total}
 use Rattle.symbol.specs.Xor.{xorBytes}
 use Rattle.scheme.specs.Scheme.{honestAnswers}
-use Rattle.catalogue.specs.Catalogue.{catalogueVerdict}
+use Rattle.calendar.specs.Calendar.{isNone, undated}
+use Rattle.catalogue.specs.Catalogue.{datesFit, catalogueVerdict}
 use Rattle.text_lines.specs.Decimal.{decimalIn, decimal, digitCount, valueFrom}
 use Rattle.text_lines.specs.Lines.{begins, isNumeral, numberAt, numberLine}
-use Rattle.catalogue_text.specs.Parsing.{codeLine, sumLine, catalogueLines}
+use Rattle.season_text.specs.SeasonLines.{dateBegins, seasonLines}
+use Rattle.catalogue_text.specs.Parsing.{codeLine, sumLine, firstLines, catalogueLines}
 use Rattle.short_scheme.specs.Short.{digitSum, shortQuery, shortAdmits, shortAnswerLength, named, shortAnswer, orZeros, recovered, shortRecover}
 use Rattle.even_places.specs.Rule.{sets, queryCells, layout}
 use Rattle.even_scheme.specs.Even.{permutation, entryAt, evenKeyGood, evenQuery}
@@ -28,8 +30,8 @@ use Rattle.worked_examples.specs.Cards.{Holds, cards}
 
 pub cards-hold : All Holds cards
 unfolding Holds cards flatMap allBelow distinct isPermutation stands range every
-    foremost shortFits evenFits shortSizes evenRows evenSizes totalFrom total xorBytes honestAnswers catalogueVerdict
-    decimalIn decimal digitCount valueFrom begins isNumeral numberAt numberLine codeLine sumLine catalogueLines
+    foremost shortFits evenFits shortSizes evenRows evenSizes totalFrom total xorBytes honestAnswers isNone undated datesFit catalogueVerdict
+    decimalIn decimal digitCount valueFrom begins isNumeral numberAt numberLine codeLine sumLine dateBegins seasonLines firstLines catalogueLines
     digitSum shortQuery shortAdmits shortAnswerLength named shortAnswer orZeros recovered shortRecover
     queryCells sets layout permutation entryAt evenKeyGood evenQuery schemeOf answerVerdict answering beginVerdict
     afterSpaces spaced numeralFrom numbersFrom numbersAt keyLine linesAsk inputAsks

@@ -14,6 +14,7 @@ use Rattle.refusal.specs.Numbers.{refusalOf}
 use Rattle.refusal.specs.Chain.{refused}
 use Rattle.parameters.specs.Measures.{evenRows}
 use Rattle.scheme.specs.Scheme.{honestAnswers}
+use Rattle.calendar.specs.Calendar.{noDay}
 use Rattle.symbol.specs.declared.Operation.the-variants.{ExclusiveOr}
 use Rattle.catalogue.specs.declared.Catalogue.{Catalogue}
 use Rattle.catalogue.specs.declared.Code.{Code}
@@ -51,14 +52,14 @@ Holds (asks c wanted key queries) = map (λ server. schemeOf c .query wanted ser
 Holds (recovers c store wanted key got message) =
     let honest = honestAnswers (schemeOf c) (c .servers) store wanted key in
     honest ++ (schemeOf c .recover wanted key honest ∷ []) ≡ got ++ (message ∷ [])
-Holds (answers c server store query outcome) = answering schemeOf c server store query lentBytes ≡ record { outcome = outcome; buffer = lentBytes }
+Holds (answers c server store query outcome) = answering schemeOf c noDay server store query lentBytes ≡ record { outcome = outcome; buffer = lentBytes }
 Holds (rows N K many) = evenRows N K ∷ length (layout N K) ∷ [] ≡ many ∷ many ∷ []
 Holds (judges c verdict) = catalogueVerdict c ≡ verdict
 Holds (begins c wanted key verdict) = beginVerdict schemeOf c wanted key ≡ verdict
 
--- a catalogue of exclusive or: code, servers, messages, symbol
+-- a catalogue of exclusive or without dates: code, servers, messages, symbol. No day is looked at under it, so the cards answer on none
 abbrev pub cat : Code → ℕ → ℕ → ℕ → Catalogue
-cat code N K S = record { code = code; servers = N; messages = K; symbol = S; sum = ExclusiveOr }
+cat code N K S = record { code = code; sum = ExclusiveOr; opening = noDay; closing = noDay; servers = N; messages = K; symbol = S }
 
 -- the messages 5A and C3 (hex) of B2 and B3
 abbrev pair : List ℕ

@@ -1,27 +1,21 @@
--- `catalogue::in_bounds` meets its contract: the bounds are those of the catalogue's code.
-use mathlib.Core.Path.{_∙_}
+-- `catalogue::in_bounds` meets its contract: the bounds of the numbers, then those of the dates.
+use mathlib.Core.Path.{sym, _∙_}
 use borrow.Author.Needs.{needs}
+use borrow.Author.Tests.{not-true, not-false}
 use Rattle.catalogue.proofs.in_bounds.Statement.{statement}
 use Rattle.catalogue.proofs.in_bounds.Tie as tie
 
-enum-told : tie.Need-enum-told
-enum-told c = search needs
-
-fits-requires : tie.Need-fits-requires
-fits-requires c κs = search needs
-
-enum-told-2 : tie.Need-enum-told-2
-enum-told-2 c = search needs
-
-fits-requires-2 : tie.Need-fits-requires-2
-fits-requires-2 c κs = search needs
+numbers-fit-requires : tie.Need-numbers-fit-requires
+numbers-fit-requires c κs = search needs
 
 returns : tie.Need-returns
-returns c = c .fits2 .ensures ∙ simp (c .before .enum-told .given .1)
+returns c = rw (sym (c .before .numbers-fit .ensures) ∙ not-true _ (c .if1 .taken))
+
+dates-fit-requires : tie.Need-dates-fit-requires
+dates-fit-requires c κs = search needs
 
 returns-2 : tie.Need-returns-2
-returns-2 c = c .fits3 .ensures ∙ simp (c .before .enum-told2 .given .1)
+returns-2 c = rw (sym (c .before .before .numbers-fit .ensures) ∙ not-false _ (c .before .if1 .left)) (c .dates-fit .ensures)
 
 pub in-bounds-spec : {M : Type 1} → statement M
-in-bounds-spec =
-    tie.close (tie.spec enum-told fits-requires enum-told-2 fits-requires-2 returns returns-2)
+in-bounds-spec = tie.close (tie.spec numbers-fit-requires returns dates-fit-requires returns-2)

@@ -1,12 +1,12 @@
--- `catalogue_text::catalogue_lines` meets its contract: each line that is taken apart is the definition's line at that place.
+-- `catalogue_text::catalogue_lines` meets its contract: what is taken apart at each place is what the definition reads there.
 use mathlib.Core.Path.{sym, _∙_}
 use Rattle.catalogue_text.specs.Parsing.{catalogueLines}
 use borrow.Author.Needs.{needs}
 use Rattle.catalogue_text.proofs.catalogue_lines.Statement.{statement}
 use Rattle.catalogue_text.proofs.catalogue_lines.Tie as tie
 
-code-line-requires : tie.Need-code-line-requires
-code-line-requires c κs = search needs
+first-lines-requires : tie.Need-first-lines-requires
+first-lines-requires c κs = search needs
 
 enum-known-code : tie.Need-enum-known-code
 enum-known-code c = search needs
@@ -19,16 +19,13 @@ refused-requires c κs = search needs
 
 returns : tie.Need-returns
 unfolding catalogueLines
-returns c = c .refused .ensures ∙ simp (sym (c .before .before .before .code-line .ensures) ∙ c .before .enum-told .given .1)
+returns c = c .refused .ensures ∙ simp (sym (c .before .before .before .first-lines .ensures) ∙ c .before .enum-told .given .1)
 
-slice-aggregate-number-line : tie.Need-slice-aggregate-number-line
-slice-aggregate-number-line c = search needs
+season-lines-requires : tie.Need-season-lines-requires
+season-lines-requires c κs = search needs
 
-number-line-requires : tie.Need-number-line-requires
-number-line-requires c κs = search needs
-
-enum-known-n : tie.Need-enum-known-n
-enum-known-n c = search needs
+enum-known-opening : tie.Need-enum-known-opening
+enum-known-opening c = search needs
 
 enum-told-2 : tie.Need-enum-told-2
 enum-told-2 c = search needs
@@ -39,21 +36,18 @@ refused-requires-2 c κs = search needs
 returns-2 : tie.Need-returns-2
 unfolding catalogueLines
 returns-2 c =
-    let code = c .before .before .before .before .before .before in
+    let first = c .before .before .before .before .before in
     c .refused2 .ensures
     ∙ simp (
-      sym (code .before .before .code-line .ensures) ∙ code .code .given .1,
-      sym (c .before .before .before .number-line .ensures) ∙ c .before .enum-told2 .given .1,
+      sym (first .before .before .first-lines .ensures) ∙ first .code .given .1,
+      sym (c .before .before .before .season-lines .ensures) ∙ c .before .enum-told2 .given .1,
     )
 
-slice-aggregate-number-line-2 : tie.Need-slice-aggregate-number-line-2
-slice-aggregate-number-line-2 c = search needs
+sum-line-requires : tie.Need-sum-line-requires
+sum-line-requires c κs = search needs
 
-number-line-requires-2 : tie.Need-number-line-requires-2
-number-line-requires-2 c κs = search needs
-
-enum-known-k : tie.Need-enum-known-k
-enum-known-k c = search needs
+enum-known-sum : tie.Need-enum-known-sum
+enum-known-sum c = search needs
 
 enum-told-3 : tie.Need-enum-told-3
 enum-told-3 c = search needs
@@ -64,128 +58,49 @@ refused-requires-3 c κs = search needs
 returns-3 : tie.Need-returns-3
 unfolding catalogueLines
 returns-3 c =
-    let n = c .before .before .before .before .before .before in
-    let code = n .before .before .before .before .before in
+    let dates = c .before .before .before .before .before in
+    let first = dates .before .before .before .before in
     c .refused3 .ensures
     ∙ simp (
-      sym (code .before .before .code-line .ensures) ∙ code .code .given .1,
-      sym (n .before .before .number-line .ensures) ∙ n .n .given .1,
-      sym (c .before .before .before .number-line2 .ensures) ∙ c .before .enum-told3 .given .1,
+      sym (first .before .before .first-lines .ensures) ∙ first .code .given .1,
+      sym (dates .before .before .season-lines .ensures) ∙ dates .opening .given .1,
+      sym (c .before .before .before .sum-line .ensures) ∙ c .before .enum-told3 .given .1,
     )
 
-slice-aggregate-number-line-3 : tie.Need-slice-aggregate-number-line-3
-slice-aggregate-number-line-3 c = search needs
-
-number-line-requires-3 : tie.Need-number-line-requires-3
-number-line-requires-3 c κs = search needs
-
-enum-known-s : tie.Need-enum-known-s
-enum-known-s c = search needs
-
-enum-told-4 : tie.Need-enum-told-4
-enum-told-4 c = search needs
-
-refused-requires-4 : tie.Need-refused-requires-4
-refused-requires-4 c κs = search needs
+catalogue-of-requires : tie.Need-catalogue-of-requires
+catalogue-of-requires c κs = search needs
 
 returns-4 : tie.Need-returns-4
 unfolding catalogueLines
 returns-4 c =
-    let k = c .before .before .before .before .before .before in
-    let n = k .before .before .before .before .before in
-    let code = n .before .before .before .before .before in
-    c .refused4 .ensures
-    ∙ simp (
-      sym (code .before .before .code-line .ensures) ∙ code .code .given .1,
-      sym (n .before .before .number-line .ensures) ∙ n .n .given .1,
-      sym (k .before .before .number-line2 .ensures) ∙ k .k .given .1,
-      sym (c .before .before .before .number-line3 .ensures) ∙ c .before .enum-told4 .given .1,
-    )
-
-sum-line-requires : tie.Need-sum-line-requires
-sum-line-requires c κs = search needs
-
-enum-known-sum : tie.Need-enum-known-sum
-enum-known-sum c = search needs
-
-enum-told-5 : tie.Need-enum-told-5
-enum-told-5 c = search needs
-
-refused-requires-5 : tie.Need-refused-requires-5
-refused-requires-5 c κs = search needs
-
-returns-5 : tie.Need-returns-5
-unfolding catalogueLines
-returns-5 c =
-    let s = c .before .before .before .before .before in
-    let k = s .before .before .before .before .before in
-    let n = k .before .before .before .before .before in
-    let code = n .before .before .before .before .before in
-    c .refused5 .ensures
-    ∙ simp (
-      sym (code .before .before .code-line .ensures) ∙ code .code .given .1,
-      sym (n .before .before .number-line .ensures) ∙ n .n .given .1,
-      sym (k .before .before .number-line2 .ensures) ∙ k .k .given .1,
-      sym (s .before .before .number-line3 .ensures) ∙ s .s .given .1,
-      sym (c .before .before .before .sum-line .ensures) ∙ c .before .enum-told5 .given .1,
-    )
-
-code-named-requires : tie.Need-code-named-requires
-code-named-requires c κs = search needs
-
-sum-named-requires : tie.Need-sum-named-requires
-sum-named-requires c κs = search needs
-
-returns-6 : tie.Need-returns-6
-unfolding catalogueLines
-returns-6 c =
-    let sum = c .before .before .before in
-    let s = sum .before .before .before .before in
-    let k = s .before .before .before .before .before in
-    let n = k .before .before .before .before .before in
-    let code = n .before .before .before .before .before in
+    let sum = c .before .before in
+    let dates = sum .before .before .before .before in
+    let first = dates .before .before .before .before in
     simp (
-      sym (code .before .before .code-line .ensures) ∙ code .code .given .1,
-      sym (n .before .before .number-line .ensures) ∙ n .n .given .1,
-      sym (k .before .before .number-line2 .ensures) ∙ k .k .given .1,
-      sym (s .before .before .number-line3 .ensures) ∙ s .s .given .1,
+      sym (first .before .before .first-lines .ensures) ∙ first .code .given .1,
+      sym (dates .before .before .season-lines .ensures) ∙ dates .opening .given .1,
       sym (sum .before .before .sum-line .ensures) ∙ sum .sum .given .1,
-      c .before .code-named .ensures,
-      c .sum-named .ensures,
+      c .catalogue-of .ensures,
     )
 
 pub catalogue-lines-spec : {M : Type 1} → statement M
 catalogue-lines-spec =
     tie.close
     (tie.spec
-    code-line-requires
+    first-lines-requires
     enum-known-code
     enum-told
     refused-requires
     returns
-    slice-aggregate-number-line
-    number-line-requires
-    enum-known-n
+    season-lines-requires
+    enum-known-opening
     enum-told-2
     refused-requires-2
     returns-2
-    slice-aggregate-number-line-2
-    number-line-requires-2
-    enum-known-k
+    sum-line-requires
+    enum-known-sum
     enum-told-3
     refused-requires-3
     returns-3
-    slice-aggregate-number-line-3
-    number-line-requires-3
-    enum-known-s
-    enum-told-4
-    refused-requires-4
-    returns-4
-    sum-line-requires
-    enum-known-sum
-    enum-told-5
-    refused-requires-5
-    returns-5
-    code-named-requires
-    sum-named-requires
-    returns-6)
+    catalogue-of-requires
+    returns-4)

@@ -1,9 +1,10 @@
 -- `catalogue_text::text_length` meets its contract: the lengths of the lines add up, and each is small.
 use native.Mathlib.Omega.{arith}
-use borrow.Author.Needs.{needs}
 use Rattle.text_lines.proofs.NumberLines.{number-text-most}
+use Rattle.season_text.proofs.SeasonLines.{season-length}
 use Rattle.catalogue_text.specs.Text.{serversName, messagesName, symbolName}
 use Rattle.catalogue_text.proofs.TextParts.{code-most, sum-most, text-length}
+use borrow.Author.Needs.{needs}
 use Rattle.catalogue_text.proofs.text_length.Statement.{statement}
 use Rattle.catalogue_text.proofs.text_length.Tie as tie
 
@@ -20,9 +21,9 @@ add-b : tie.Need-add-b
 add-b c =
     let value = c .before .before .before .args .c in
     let a = code-most (value .code) in
-    let e = c .before .before .code-length .ensures in
-    let n = number-text-most serversName 19 (value .servers) (search needs) in
-    let f = c .line-length .ensures in
+    let i = c .before .before .code-length .ensures in
+    let b = number-text-most serversName 19 (value .servers) (search needs) in
+    let j = c .line-length .ensures in
     omega arith
 
 slice-aggregate-line-length-2 : tie.Need-slice-aggregate-line-length-2
@@ -35,11 +36,11 @@ add-d : tie.Need-add-d
 add-d c =
     let value = c .before .before .before .before .before .args .c in
     let a = code-most (value .code) in
-    let e = c .before .before .before .before .code-length .ensures in
-    let n = number-text-most serversName 19 (value .servers) (search needs) in
-    let f = c .before .before .line-length .ensures in
-    let k = number-text-most messagesName 19 (value .messages) (search needs) in
-    let g = c .line-length2 .ensures in
+    let i = c .before .before .before .before .code-length .ensures in
+    let b = number-text-most serversName 19 (value .servers) (search needs) in
+    let j = c .before .before .line-length .ensures in
+    let d = number-text-most messagesName 19 (value .messages) (search needs) in
+    let k = c .line-length2 .ensures in
     omega arith
 
 slice-aggregate-line-length-3 : tie.Need-slice-aggregate-line-length-3
@@ -52,13 +53,31 @@ add-e : tie.Need-add-e
 add-e c =
     let value = c .before .before .before .before .before .before .before .args .c in
     let a = code-most (value .code) in
-    let e = c .before .before .before .before .before .before .code-length .ensures in
-    let n = number-text-most serversName 19 (value .servers) (search needs) in
-    let f = c .before .before .before .before .line-length .ensures in
-    let k = number-text-most messagesName 19 (value .messages) (search needs) in
-    let g = c .before .before .line-length2 .ensures in
-    let s = number-text-most symbolName 19 (value .symbol) (search needs) in
-    let h = c .line-length3 .ensures in
+    let i = c .before .before .before .before .before .before .code-length .ensures in
+    let b = number-text-most serversName 19 (value .servers) (search needs) in
+    let j = c .before .before .before .before .line-length .ensures in
+    let d = number-text-most messagesName 19 (value .messages) (search needs) in
+    let k = c .before .before .line-length2 .ensures in
+    let e = number-text-most symbolName 19 (value .symbol) (search needs) in
+    let l = c .line-length3 .ensures in
+    omega arith
+
+season-length-requires : tie.Need-season-length-requires
+season-length-requires c κs = search needs
+
+add-f : tie.Need-add-f
+add-f c =
+    let value = c .before .before .before .before .before .before .before .before .args .c in
+    let a = code-most (value .code) in
+    let i = c .before .before .before .before .before .before .before .code-length .ensures in
+    let b = number-text-most serversName 19 (value .servers) (search needs) in
+    let j = c .before .before .before .before .before .line-length .ensures in
+    let d = number-text-most messagesName 19 (value .messages) (search needs) in
+    let k = c .before .before .before .line-length2 .ensures in
+    let e = number-text-most symbolName 19 (value .symbol) (search needs) in
+    let l = c .before .line-length3 .ensures in
+    let f = season-length (value .opening) (value .closing) in
+    let m = c .season-length .ensures in
     omega arith
 
 sum-length-requires : tie.Need-sum-length-requires
@@ -66,27 +85,30 @@ sum-length-requires c κs = search needs
 
 add-result : tie.Need-add-result
 add-result c =
-    let value = c .before .before .before .before .before .before .before .before .args .c in
+    let value = c .before .before .before .before .before .before .before .before .before .args .c in
     let a = code-most (value .code) in
-    let e = c .before .before .before .before .before .before .before .code-length .ensures in
-    let n = number-text-most serversName 19 (value .servers) (search needs) in
-    let f = c .before .before .before .before .before .line-length .ensures in
-    let k = number-text-most messagesName 19 (value .messages) (search needs) in
-    let g = c .before .before .before .line-length2 .ensures in
-    let s = number-text-most symbolName 19 (value .symbol) (search needs) in
-    let h = c .before .line-length3 .ensures in
-    let m = sum-most (value .sum) in
-    let i = c .sum-length .ensures in
+    let i = c .before .before .before .before .before .before .before .before .code-length .ensures in
+    let b = number-text-most serversName 19 (value .servers) (search needs) in
+    let j = c .before .before .before .before .before .before .line-length .ensures in
+    let d = number-text-most messagesName 19 (value .messages) (search needs) in
+    let k = c .before .before .before .before .line-length2 .ensures in
+    let e = number-text-most symbolName 19 (value .symbol) (search needs) in
+    let l = c .before .before .line-length3 .ensures in
+    let f = season-length (value .opening) (value .closing) in
+    let m = c .before .season-length .ensures in
+    let g = sum-most (value .sum) in
+    let n = c .sum-length .ensures in
     omega arith
 
 returns : tie.Need-returns
 returns c =
-    let t = text-length (c .before .before .before .before .before .before .before .before .args .c) in
-    let e = c .before .before .before .before .before .before .before .code-length .ensures in
-    let f = c .before .before .before .before .before .line-length .ensures in
-    let g = c .before .before .before .line-length2 .ensures in
-    let h = c .before .line-length3 .ensures in
-    let i = c .sum-length .ensures in
+    let t = text-length (c .before .before .before .before .before .before .before .before .before .args .c) in
+    let i = c .before .before .before .before .before .before .before .before .code-length .ensures in
+    let j = c .before .before .before .before .before .before .line-length .ensures in
+    let k = c .before .before .before .before .line-length2 .ensures in
+    let l = c .before .before .line-length3 .ensures in
+    let m = c .before .season-length .ensures in
+    let n = c .sum-length .ensures in
     omega arith
 
 pub text-length-spec : {M : Type 1} → statement M
@@ -103,6 +125,8 @@ text-length-spec =
     slice-aggregate-line-length-3
     line-length-requires-3
     add-e
+    season-length-requires
+    add-f
     sum-length-requires
     add-result
     returns)

@@ -7,10 +7,10 @@ use Rattle.conformance.proofs.main.Statement.{statement}
 use Rattle.conformance.proofs.main.Tie as tie
 
 abbrev Inv-loop : tie.InvT-loop
-Inv-loop n text key₀ store₀ query₀ answer₀ answers₀ message₀ s₀ at₀ turn₀ key store query answer answers message s at turn = turn ≤ 131072
+Inv-loop n text key₀ store₀ query₀ answer₀ answers₀ message₀ s₀ at₀ turn₀ key store query answer answers message s at turn = turn ≤ 262144
 
 abbrev μ-loop : tie.MeasureT-loop
-μ-loop n text key₀ store₀ query₀ answer₀ answers₀ message₀ s₀ at₀ turn₀ key store query answer answers message s at turn = 131072 - turn
+μ-loop n text key₀ store₀ query₀ answer₀ answers₀ message₀ s₀ at₀ turn₀ key store query answer answers message s at turn = 262144 - turn
 
 slice-aggregate-read-full : tie.Need-slice-aggregate-read-full Inv-loop μ-loop
 slice-aggregate-read-full c = search needs
@@ -55,13 +55,19 @@ on-line-requires : tie.Need-on-line-requires Inv-loop μ-loop
 on-line-requires c κs = search needs
 
 add-turn : tie.Need-add-turn Inv-loop μ-loop
-add-turn c = omega arith
+add-turn c =
+    let line = c .before .before .before .before .before .before .before .before .before .before .before .before in
+    omega (arith, line .before .before .before .before .before .before .before .before .before .before .loop-test .taken)
 
 loop-less : tie.Need-loop-less Inv-loop μ-loop
-loop-less c = omega arith
+loop-less c =
+    let line = c .before .before .before .before .before .before .before .before .before .before .before .before in
+    omega (arith, line .before .before .before .before .before .before .before .before .before .before .loop-test .taken)
 
 loop-again : tie.Need-loop-again Inv-loop μ-loop
-loop-again c = omega arith
+loop-again c =
+    let line = c .before .before .before .before .before .before .before .before .before .before .before .before in
+    omega (arith, line .before .before .before .before .before .before .before .before .before .before .loop-test .taken)
 
 returns : tie.Need-returns Inv-loop μ-loop
 returns c = search needs

@@ -1,7 +1,7 @@
 -- `gozimpe::gozimpe_answer` meets its contract: a text that is refused ends the call, and else the answering end's outcome gets its sign.
 use mathlib.Core.Path.{sym, ap, _∙_}
 use mir.Facts.{toZ-ofZ}
-use Rattle.gozimpe.specs.Host.{signed}
+use Rattle.gozimpe.specs.Host.{signed, dayOf}
 use Rattle.gozimpe.proofs.Outcomes.{answer-small, text-refused, text-answered}
 use borrow.Author.Needs.{needs}
 use Rattle.gozimpe.proofs.gozimpe_answer.Statement.{statement}
@@ -21,8 +21,8 @@ returns c =
     let a = c .before .before .before .before .before .before .before .before .before .before .args in
     let from = c .before .before .before .before .before .read in
     let told = c .before .before .verdict .given in
-    let did = text-refused (a .catalogue .now) (from .result) (from .ensures) (a .mirror) (a .store .now) (a .request .now) (a .answer .now)
-    (told .0 .0) (told .1) in
+    let did = text-refused (a .catalogue .now) (from .result) (from .ensures) (dayOf (a .year) (a .month) (a .day))
+    (a .mirror) (a .store .now) (a .request .now) (a .answer .now) (told .0 .0) (told .1) in
     (toZ-ofZ (record { sfits = c .minus .ok }) ∙ c .minus .ensures ∙ ap signed (did .outcome), did .buffer)
 
 enum-told : tie.Need-enum-told
@@ -40,7 +40,8 @@ plus-requires c κs =
     let asked = c .before .before .before .before .before .answer in
     let told = c .before .outcome .given in
     let value = c .before .before .before .before .before .before .before .before .before .before .read .result .catalogue in
-    answer-small value (a .mirror) (a .store .now) (a .request .now) (a .answer .now) (asked .result) (told .0 .0) (asked .ensures .outcome) (told .1)
+    answer-small value (dayOf (a .year) (a .month) (a .day)) (a .mirror) (a .store .now) (a .request .now) (a .answer .now)
+    (asked .result) (told .0 .0) (asked .ensures .outcome) (told .1)
 
 enum-known-outcome-2 : tie.Need-enum-known-outcome-2
 enum-known-outcome-2 c = search needs
@@ -56,7 +57,8 @@ returns-2 c =
     let a = c .before .before .before .before .before .before .before .before .before .before .before .before .before .before .before .before .args in
     let from = c .before .before .before .before .before .before .before .before .before .before .before .read in
     let asked = c .before .before .before .before .before .before .answer in
-    let did = text-answered (a .catalogue .now) (from .result) (from .ensures) (a .mirror) (a .store .now) (a .request .now) (a .answer .now)
+    let did = text-answered (a .catalogue .now) (from .result) (from .ensures) (dayOf (a .year) (a .month) (a .day))
+    (a .mirror) (a .store .now) (a .request .now) (a .answer .now)
     (c .before .before .before .before .before .before .before .before .enum-told .given .1) (asked .result) _ (asked .ensures) in
     (toZ-ofZ (record { sfits = c .plus .ok }) ∙ c .plus .ensures ∙ ap signed (sym (c .before .before .outcome .given .1) ∙ did .outcome), did .buffer)
 
@@ -68,7 +70,8 @@ returns-3 c =
     let a = c .before .before .before .before .before .before .before .before .before .before .before .before .before .before .before .before .args in
     let from = c .before .before .before .before .before .before .before .before .before .before .before .read in
     let asked = c .before .before .before .before .before .before .answer in
-    let did = text-answered (a .catalogue .now) (from .result) (from .ensures) (a .mirror) (a .store .now) (a .request .now) (a .answer .now)
+    let did = text-answered (a .catalogue .now) (from .result) (from .ensures) (dayOf (a .year) (a .month) (a .day))
+    (a .mirror) (a .store .now) (a .request .now) (a .answer .now)
     (c .before .before .before .before .before .before .before .before .enum-told .given .1) (asked .result) _ (asked .ensures) in
     (toZ-ofZ (record { sfits = c .minus2 .ok }) ∙ c .minus2 .ensures ∙ ap signed (sym (c .before .before .outcome2 .given .1) ∙ did .outcome), did .buffer)
 

@@ -18,7 +18,7 @@ returns c =
     let a = c .before .before .before .before .before .before .before .args in
     let asked = c .before .before .before .verdict in
     let told = c .before .refusal .given in
-    answer-refused schemeOf (a .c) (a .server) (a .store .now) (a .query .now) (a .out .now) (asked .result) (told .0 .0) (asked .ensures) (told .1)
+    answer-refused schemeOf (a .c) (a .today) (a .server) (a .store .now) (a .query .now) (a .out .now) (asked .result) (told .0 .0) (asked .ensures) (told .1)
 
 enum-told : tie.Need-enum-told
 enum-told c = search needs
@@ -26,10 +26,10 @@ enum-told c = search needs
 -- once the verdict is accepted
 passed : (c : tie.After-enum-told) →
     let a = c .before .before .before .before .before .before .args in
-    Answers schemeOf (a .c) (a .server) (length (a .store .now)) (a .query .now) (length (a .out .now))
+    Answers schemeOf (a .c) (a .today) (a .server) (length (a .store .now)) (a .query .now) (length (a .out .now))
 passed c =
     let a = c .before .before .before .before .before .before .args in
-    answer-passed schemeOf (a .c) (a .server) (length (a .store .now)) (a .query .now) (length (a .out .now))
+    answer-passed schemeOf (a .c) (a .today) (a .server) (length (a .store .now)) (a .query .now) (length (a .out .now))
     (sym (c .before .before .verdict .ensures) ∙ c .enum-told .given .1)
 
 answer-requires : tie.Need-answer-requires
@@ -47,7 +47,7 @@ returns-2 c =
     let a = c .before .before .before .before .before .before .before .before .before .before .before .args in
     let told = c .before .before .before .before .before in
     let asked = told .before .before .verdict in
-    answer-done schemeOf (a .c) (a .server) (a .store .now) (a .query .now) (a .out .now) (asked .result) (c .answer-length .result) _
+    answer-done schemeOf (a .c) (a .today) (a .server) (a .store .now) (a .query .now) (a .out .now) (asked .result) (c .answer-length .result) _
     (asked .ensures) (told .enum-told .given .1) (c .answer-length .ensures) (c .before .before .before .answer .ensures)
 
 pub answer-spec : {M : Type 1} → statement M

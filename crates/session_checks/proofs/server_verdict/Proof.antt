@@ -1,7 +1,6 @@
--- `session_checks::server_verdict` meets its contract: its tests are the faults of the definition, in their order.
+-- `session_checks::server_verdict` meets its contract: the catalogue's verdict decides, and else that on the server and the fields.
 use mathlib.Core.Path.{refl, sym, _∙_}
 use borrow.Author.Needs.{needs}
-use borrow.Author.Tests.{le-leb, lt-leb}
 use Rattle.refusal.specs.declared.Verdict.the-variants.{Accepted}
 use Rattle.catalogue.specs.Catalogue.{Admitted}
 use Rattle.catalogue.proofs.Faults.{after-catalogue}
@@ -26,15 +25,11 @@ enum-told c = search needs
 admitted : (c : tie.After-enum-told) → Admitted (c .before .before .before .before .args .c)
 admitted c = sym (c .before .before .verdict .ensures) ∙ c .enum-told .given .1
 
+named-verdict-requires : tie.Need-named-verdict-requires
+named-verdict-requires c κs = (admitted c, c .before .before .before .before .pre)
+
 returns-2 : tie.Need-returns-2
-returns-2 c = after-catalogue _ _ refl Accepted _ (sym (admitted (c .before .before))) (rw (le-leb _ _ (c .if1 .taken)))
-
-fields-verdict-requires : tie.Need-fields-verdict-requires
-fields-verdict-requires c κs = let told = c .before .before in (admitted told, told .before .before .before .before .pre)
-
-returns-3 : tie.Need-returns-3
-returns-3 c =
-    after-catalogue _ _ refl Accepted _ (sym (admitted (c .before .before .before))) (rw (lt-leb _ _ (c .before .if1 .left)) (c .fields-verdict .ensures))
+returns-2 c = after-catalogue _ _ refl Accepted _ (sym (admitted (c .before))) (c .named-verdict .ensures)
 
 pub server-verdict-spec : {M : Type 1} → statement M
 server-verdict-spec =
@@ -44,6 +39,5 @@ server-verdict-spec =
     enum-known-refusal
     returns
     enum-told
-    returns-2
-    fields-verdict-requires
-    returns-3)
+    named-verdict-requires
+    returns-2)

@@ -7,11 +7,11 @@ use Rattle.trial_fetches.proofs.exchanges.Statement.{statement}
 use Rattle.trial_fetches.proofs.exchanges.Tie as tie
 
 abbrev Inv-loop : tie.InvT-loop
-Inv-loop store query₀ answer₀ answers₀ so-far₀ c n₀ query answer answers so-far n =
+Inv-loop today store query₀ answer₀ answers₀ so-far₀ c n₀ query answer answers so-far n =
     (length query ≡ length query₀) × (length answer ≡ length answer₀) × (length answers ≡ length answers₀)
 
 abbrev μ-loop : tie.MeasureT-loop
-μ-loop store query₀ answer₀ answers₀ so-far₀ c n₀ query answer answers so-far n = c .servers - n
+μ-loop today store query₀ answer₀ answers₀ so-far₀ c n₀ query answer answers so-far n = c .servers - n
 
 loop-holds : tie.Need-loop-holds Inv-loop μ-loop
 loop-holds c = search needs

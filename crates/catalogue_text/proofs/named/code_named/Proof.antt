@@ -1,5 +1,5 @@
 -- `catalogue_text::named::code_named` meets its contract: every number but 0 is the even code's.
-use Rattle.catalogue_text.proofs.CatalogueLines.{code-even}
+use Rattle.catalogue_text.proofs.FirstLines.{code-even}
 use borrow.Author.Needs.{needs}
 use Rattle.catalogue_text.proofs.named.code_named.Statement.{statement}
 use Rattle.catalogue_text.proofs.named.code_named.Tie as tie

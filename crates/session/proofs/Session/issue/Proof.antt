@@ -22,7 +22,7 @@ returns c =
     let start = asked .before .before in
     let args = start .args in
     let v = asked .issue-verdict in
-    issue-goes schemeOf (args .self) (args .server) (args .query .now) .refused (v .result) _ (v .ensures) (c .enum-told .given .1)
+    issue-goes schemeOf (args .self) (args .today) (args .server) (args .query .now) .refused (v .result) _ (v .ensures) (c .enum-told .given .1)
 
 enum-told-2 : tie.Need-enum-told-2
 enum-told-2 c = search needs
@@ -37,7 +37,7 @@ write-query-requires c κs =
     let start = asked .before .before in
     let args = start .args in
     let v = asked .issue-verdict in
-    let i = issue-passed schemeOf (args .self) (args .server) (length (args .query .now)) (sym (v .ensures) ∙ told .enum-told2 .given .1) in
+    let i = issue-passed schemeOf (args .self) (args .today) (args .server) (length (args .query .now)) (sym (v .ensures) ∙ told .enum-told2 .given .1) in
     (i .sound .admitted, (key-places (args .self) _ (start .good .0), ((i .sound .inside, i .below), (i .sound .good, i .roomy))))
 
 mark-issued-requires : tie.Need-mark-issued-requires
@@ -47,7 +47,7 @@ mark-issued-requires c κs =
     let start = asked .before .before in
     let args = start .args in
     let v = asked .issue-verdict in
-    let i = issue-passed schemeOf (args .self) (args .server) (length (args .query .now)) (sym (v .ensures) ∙ told .enum-told2 .given .1) in
+    let i = issue-passed schemeOf (args .self) (args .today) (args .server) (length (args .query .now)) (sym (v .ensures) ∙ told .enum-told2 .given .1) in
     omega (arith, i .below, sizes-small (args .self .catalogue) (schemeOf (args .self .catalogue) .sizes) (i .sound .admitted) refl .servers)
 
 same-length : tie.Need-same-length
@@ -62,7 +62,7 @@ returns-2 c =
     let args = start .args in
     let v = asked .issue-verdict in
     rw (c .mark-issued .ensures)
-    (issue-goes schemeOf (args .self) (args .server) (args .query .now) .done (v .result) _ (v .ensures) (told .enum-told2 .given .1)
+    (issue-goes schemeOf (args .self) (args .today) (args .server) (args .query .now) .done (v .result) _ (v .ensures) (told .enum-told2 .given .1)
     (written .write-query .ensures))
 
 pub issue-spec : {M : Type 1} → statement M

@@ -1,4 +1,4 @@
--- `session::verdicts::issue_verdict` meets its contract: the first faults are `server_verdict`'s, the last `marks_verdict`'s.
+-- `session::verdicts::issue_verdict` meets its contract: the first faults are `served_verdict`'s, the last `marks_verdict`'s.
 use mathlib.Core.Path.{_≡_, refl, sym, _∙_}
 use borrow.Author.Needs.{needs}
 use borrow.Author.Tests.{lt-ltb, le-ltb}
@@ -6,17 +6,17 @@ use Rattle.refusal.specs.declared.Verdict.the-variants.{Accepted}
 use Rattle.refusal.specs.Foremost.{foremost}
 use Rattle.refusal.proofs.Foremost.{after-first}
 use Rattle.codes.specs.Codes.{schemeOf}
-use Rattle.session.specs.Calls.{askFaults, issueVerdict}
-use Rattle.session_checks.proofs.Links.{Asks, server-passed}
+use Rattle.session.specs.Calls.{askFaultsOn, issueVerdict}
+use Rattle.session_checks.proofs.Links.{Asks, served-passed}
 use Rattle.session.proofs.Places.{key-places}
 use Rattle.session.proofs.verdicts.issue_verdict.Statement.{statement}
 use Rattle.session.proofs.verdicts.issue_verdict.Tie as tie
 
-slice-aggregate-server-verdict : tie.Need-slice-aggregate-server-verdict
-slice-aggregate-server-verdict c = search needs
+slice-aggregate-served-verdict : tie.Need-slice-aggregate-served-verdict
+slice-aggregate-served-verdict c = search needs
 
-server-verdict-requires : tie.Need-server-verdict-requires
-server-verdict-requires c κs = let start = c .before .before .before in key-places (start .args .t1) _ (start .good .0)
+served-verdict-requires : tie.Need-served-verdict-requires
+served-verdict-requires c κs = let start = c .before .before .before in key-places (start .args .t1) _ (start .good .0)
 
 enum-known-refusal : tie.Need-enum-known-refusal
 enum-known-refusal c = search needs
@@ -26,22 +26,23 @@ unfolding issueVerdict
 returns c =
     let asked = c .before .before .before in
     let args = asked .before .before .before .before .args in
-    after-first (askFaults schemeOf (args .t1) (args .server)) _ refl refl _ _ (asked .server-verdict .ensures) (rw (c .before .refusal .given .1))
+    after-first (askFaultsOn schemeOf (args .t1) (args .today) (args .server)) _ refl refl _ _ (asked .served-verdict .ensures)
+    (rw (c .before .refusal .given .1))
 
 enum-told : tie.Need-enum-told
 enum-told c = search needs
 
 -- once the first links are passed
 accepted : (c : tie.After-enum-told)
-    → let args = c .before .before .before .before .before .before .args in foremost (askFaults schemeOf (args .t1) (args .server)) ≡ Accepted
-accepted c = sym (c .before .before .server-verdict .ensures) ∙ c .enum-told .given .1
+    → let args = c .before .before .before .before .before .before .args in foremost (askFaultsOn schemeOf (args .t1) (args .today) (args .server)) ≡ Accepted
+accepted c = sym (c .before .before .served-verdict .ensures) ∙ c .enum-told .given .1
 
 asks : (c : tie.After-enum-told) → let args = c .before .before .before .before .before .before .args in
     let s = args .t1 in Asks schemeOf (s .catalogue) (s .wanted) (s .key) (args .server)
 asks c =
     let args = c .before .before .before .before .before .before .args in
     let s = args .t1 in
-    server-passed schemeOf (s .catalogue) (s .wanted) (s .key) (args .server) (accepted c)
+    served-passed schemeOf (s .catalogue) (s .wanted) (s .key) (args .today) (args .server) (accepted c) .0
 
 sizes-of-requires : tie.Need-sizes-of-requires
 sizes-of-requires c κs = asks (c .before) .holds .admitted
@@ -67,8 +68,8 @@ pub issue-verdict-spec : {M : Type 1} → statement M
 issue-verdict-spec =
     tie.close
     (tie.spec
-    slice-aggregate-server-verdict
-    server-verdict-requires
+    slice-aggregate-served-verdict
+    served-verdict-requires
     enum-known-refusal
     returns
     enum-told

@@ -1,0 +1,27 @@
+-- `catalogue::numbers_fit` meets its contract: the bounds are those of the catalogue's code.
+use mathlib.Core.Path.{_∙_}
+use borrow.Author.Needs.{needs}
+use Rattle.catalogue.proofs.numbers_fit.Statement.{statement}
+use Rattle.catalogue.proofs.numbers_fit.Tie as tie
+
+enum-told : tie.Need-enum-told
+enum-told c = search needs
+
+fits-requires : tie.Need-fits-requires
+fits-requires c κs = search needs
+
+enum-told-2 : tie.Need-enum-told-2
+enum-told-2 c = search needs
+
+fits-requires-2 : tie.Need-fits-requires-2
+fits-requires-2 c κs = search needs
+
+returns : tie.Need-returns
+returns c = c .fits2 .ensures ∙ simp (c .before .enum-told .given .1)
+
+returns-2 : tie.Need-returns-2
+returns-2 c = c .fits3 .ensures ∙ simp (c .before .enum-told2 .given .1)
+
+pub numbers-fit-spec : {M : Type 1} → statement M
+numbers-fit-spec =
+    tie.close (tie.spec enum-told fits-requires enum-told-2 fits-requires-2 returns returns-2)

@@ -1,0 +1,145 @@
+-- The four lines that every catalogue's text begins with: what is written reads back, whatever follows it (`first-written`), and what is read is what
+-- is written for its values (`first-read`).
+use mathlib.Core.Path.{_≡_, refl, ap, _∙_}
+use mathlib.Core.Bool.{Bool, true, false, cond}
+use mathlib.Core.List.{List, _++_, append-assoc}
+use Prim.Native.Nat.{ℕ, zero, suc, _+_, _<_}
+use native.Mathlib.Omega.{arith}
+use lib.ListN.{length, drop}
+use lib.Seq.{drop-append-seam}
+use Rattle.lists.proofs.Cuts.{drop-after}
+use Rattle.text_lines.specs.declared.Line.{Line}
+use Rattle.text_lines.specs.declared.Line.the-variants.{Value, Refused}
+use Rattle.text_lines.specs.Lines.{numberText, begins, numberLine}
+use Rattle.text_lines.proofs.Begins.{begins-split}
+use Rattle.text_lines.proofs.RoundTrip.{LineRead, line-written, line-read}
+use Rattle.catalogue.specs.declared.Code.{Code}
+use Rattle.catalogue.specs.declared.Code.the-variants.{Short, Even}
+use Rattle.catalogue_text.specs.declared.First.{First}
+use Rattle.catalogue_text.specs.declared.First.the-variants.{Of}
+use Rattle.catalogue_text.specs.Text.{codeText, serversName, messagesName, symbolName}
+use Rattle.catalogue_text.specs.Parsing.{codeNamed, codeLine, onFirst, firstLines}
+use Rattle.catalogue_text.proofs.TextParts.{firstText, first-length}
+
+-- ---- the first line
+
+pub code-even : (n : ℕ) → (n ≡ 0 → ⊥) → Even ≡ codeNamed n
+code-even zero h = absurd (h refl)
+code-even (suc n) h = refl
+
+abbrev codeNumber : Code → ℕ
+codeNumber Short = 0
+codeNumber Even = 1
+
+code-number : (code : Code) → codeNamed (codeNumber code) ≡ code
+code-number Short = refl
+code-number Even = refl
+
+code-written : (code : Code) (rest : List ℕ) → codeLine (codeText code ++ rest) ≡ Value (codeNumber code) (length (codeText code))
+unfolding codeLine begins
+code-written Short rest = refl
+code-written Even rest = refl
+
+-- a first line that was read
+record CodeRead (text : List ℕ) (code next : ℕ) : Type 0 where
+  next-is : next ≡ length (codeText (codeNamed code))
+  here : text ≡ codeText (codeNamed code) ++ drop next text
+
+code-read : (text : List ℕ) (code next : ℕ) → codeLine text ≡ Value code next → CodeRead text code next
+unfolding codeLine
+code-read text code next e = go (begins (codeText Short) text) (begins (codeText Even) text) refl refl e
+  where
+    go : (s t : Bool) → begins (codeText Short) text ≡ s → begins (codeText Even) text ≡ t
+        → cond s (Value 0 11) (cond t (Value 1 10) Refused) ≡ Value code next → CodeRead text code next
+    go true t short even e =
+        let c : code ≡ 0 = cc in
+        let n : next ≡ 11 = cc in
+        rw (c, n) (record { next-is = refl; here = begins-split (codeText Short) text short })
+    go false true short even e =
+        let c : code ≡ 1 = cc in
+        let n : next ≡ 10 = cc in
+        rw (c, n) (record { next-is = refl; here = begins-split (codeText Even) text even })
+    go false false short even e = let z : _≡_ {A = ℕ} 0 1 = cc in absurd (let w : ⊥ = omega arith in w)
+
+-- ---- the four lines
+
+pub first-written : (code : Code) (N K S : ℕ) (rest : List ℕ) → N < 100000 → K < 100000 → S < 100000
+    → firstLines (firstText code N K S ++ rest) ≡ Of code N K S (length (firstText code N K S))
+unfolding firstLines
+first-written code N K S rest servers messages symbol =
+    let a = codeText code in
+    let b = numberText serversName N in
+    let d = numberText messagesName K in
+    let e = numberText symbolName S in
+    let text = firstText code N K S ++ rest in
+    let after-a = b ++ (d ++ (e ++ rest)) in
+    let whole : text ≡ a ++ after-a = simp append-assoc in
+    let first : codeLine text ≡ Value (codeNumber code) (length a) = ap codeLine whole ∙ code-written code after-a in
+    let at-b : drop (length a) text ≡ after-a = ap (drop (length a)) whole ∙ drop-append-seam a after-a in
+    let at-d : drop (length a + length b) text ≡ d ++ (e ++ rest) = drop-after text b (d ++ (e ++ rest)) (length a) at-b in
+    let at-e : drop (length a + length b + length d) text ≡ e ++ rest = drop-after text d (e ++ rest) (length a + length b) at-d in
+    simp (
+      first,
+      line-written serversName text (d ++ (e ++ rest)) (length a) N servers at-b,
+      line-written messagesName text (e ++ rest) (length a + length b) K messages at-d,
+      line-written symbolName text rest (length a + length b + length d) S symbol at-e,
+      code-number code,
+      first-length code N K S,
+    )
+
+-- the four lines that were read: the text begins with theirs, which ends at `next`
+pub record FirstRead (text : List ℕ) (code : Code) (N K S next : ℕ) : Type 0 where
+  pub servers : N < 100000
+  pub messages : K < 100000
+  pub symbol : S < 100000
+  pub next-is : next ≡ length (firstText code N K S)
+  pub here : text ≡ firstText code N K S ++ drop next text
+
+all-read : (text : List ℕ) (code a N b K d S e : ℕ) → CodeRead text code a
+    → LineRead serversName text a N b → LineRead messagesName text b K d → LineRead symbolName text d S e
+    → FirstRead text (codeNamed code) N K S e
+all-read text code a N b K d S e first servers messages symbol =
+    let p = codeText (codeNamed code) in
+    let q = numberText serversName N in
+    let r = numberText messagesName K in
+    let s = numberText symbolName S in
+    let l = first-length (codeNamed code) N K S in
+    let i = first .next-is in
+    let j = servers .next-is in
+    let k = messages .next-is in
+    let o = symbol .next-is in
+    let rest : drop a text ≡ q ++ (r ++ (s ++ drop e text)) =
+    servers .here ∙ ap (λ (x : List ℕ). q ++ x) (messages .here ∙ ap (λ (x : List ℕ). r ++ x) (symbol .here)) in
+    let grouped : p ++ (q ++ (r ++ (s ++ drop e text))) ≡ (p ++ (q ++ (r ++ s))) ++ drop e text = simp append-assoc in
+    record {
+      servers = servers .below;
+      messages = messages .below;
+      symbol = symbol .below;
+      next-is = omega arith;
+      here = first .here ∙ ap (λ (x : List ℕ). p ++ x) rest ∙ grouped;
+    }
+
+-- a line that goes on to the four was read
+went-on : (line : Line) (continue : ℕ → ℕ → First) (code : Code) (N K S next : ℕ) (A : Type 0) → onFirst line continue ≡ Of code N K S next
+    → ((value place : ℕ) → line ≡ Value value place → continue value place ≡ Of code N K S next → A) → A
+went-on (Value value place) continue code N K S next A e then = then value place refl e
+went-on Refused continue code N K S next A e then = let z : _≡_ {A = ℕ} 0 1 = cc in absurd (let w : ⊥ = omega arith in w)
+
+pub first-read : (text : List ℕ) (code : Code) (N K S next : ℕ) → firstLines text ≡ Of code N K S next → FirstRead text code N K S next
+unfolding firstLines
+first-read text code N K S next e =
+    went-on (codeLine text) _ code N K S next _ e λ value a first after-a.
+    went-on (numberLine serversName text a) _ code N K S next _ after-a λ n b servers after-b.
+    went-on (numberLine messagesName text b) _ code N K S next _ after-b λ k d messages after-d.
+    went-on (numberLine symbolName text d) _ code N K S next _ after-d λ s f symbol done.
+    let h : codeNamed value ≡ code = cc in
+    let i : n ≡ N = cc in
+    let j : k ≡ K = cc in
+    let l : s ≡ S = cc in
+    let m : f ≡ next = cc in
+    rw (h, i, j, l, m) at
+    (all-read text value a n b k d s f
+    (code-read text value a first)
+    (line-read serversName text a n b servers)
+    (line-read messagesName text b k d messages)
+    (line-read symbolName text d s f symbol))

@@ -1,0 +1,4 @@
+pub mod DayTexts
+pub mod DayLines
+pub mod SeasonLines
+pub mod Table

@@ -1,0 +1,2 @@
+pub mod DayLines
+pub mod SeasonLines
