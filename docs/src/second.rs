@@ -786,9 +786,14 @@ fn printer_sums(draw: &mut Draw, all: &mut Vec<Bytes>) {
     for (from, to) in [("piece=4\nsum=add\n", "sum=add\npiece=4\n"), ("sum=add\nwanted=1\n", "wanted=1\nsum=add\n"), ("code=", "sum=add\ncode=")] {
         all.push(good.replacen(from, to, 1).into_bytes());
     }
-    let line = good.find("sum=add").unwrap();
-    for at in line..line + 8 {
-        let mut text = good.clone().into_bytes();
+    damaged(&good, "sum=add\n", all);
+}
+
+/// A text with each byte of these lines of it changed, left out, and cut off with all that follows.
+fn damaged(good: &str, lines: &str, all: &mut Vec<Bytes>) {
+    let line = good.find(lines).unwrap();
+    for at in line..line + lines.len() {
+        let mut text = good.as_bytes().to_vec();
         text[at] ^= 1;
         all.push(text.clone());
         text.remove(at);
@@ -835,16 +840,7 @@ fn printer_seasons(draw: &mut Draw, all: &mut Vec<Bytes>) {
         all.push(good.replacen(&spelled(A), &spelled(*day), 1).into_bytes());
         all.push(good.replacen(&spelled(B), &spelled(*day), 1).into_bytes());
     }
-    let line = good.find("open=").unwrap();
-    for at in line..line + lines.len() {
-        let mut text = good.clone().into_bytes();
-        text[at] ^= 1;
-        all.push(text.clone());
-        text.remove(at);
-        all.push(text.clone());
-        text.truncate(at);
-        all.push(text);
-    }
+    damaged(&good, &lines, all);
 }
 
 /// The first and the last day of the calendar, and two days between them.
@@ -1240,6 +1236,17 @@ impl Cases {
         (self.open, self.close) = (c.open, c.close);
     }
 
+    /// A text with each byte of these lines of it changed in a bit, and cut off with all that follows.
+    fn damaged(&mut self, good: &str, lines: &str) {
+        let line = good.find(lines).unwrap();
+        for at in line..line + lines.len() {
+            let mut text = good.as_bytes().to_vec();
+            text[at] ^= 1 << self.draw.below(4);
+            self.text(&text);
+            self.text(&good.as_bytes()[..at]);
+        }
+    }
+
     fn catalogue(&mut self, c: Catalogue) {
         self.dates(c);
         self.put(format!("c {}", given(c)));
@@ -1279,12 +1286,7 @@ impl Cases {
             ("mirrors=3\npacks=12", "packs=12\nmirrors=3"), ("code=short\n", ""), ("code=short\n", "code=short\ncode=short\n")] {
             self.text(good.replacen(from, to, 1).as_bytes());
         }
-        for at in 0..good.len() {
-            let mut text = good.clone().into_bytes();
-            text[at] ^= 1 << self.draw.below(4);
-            self.text(&text);
-            self.text(&good.as_bytes()[..at]);
-        }
+        self.damaged(&good, &good);
         self.text(b"code=short\nmirrors=3\npacks=3\npiece=\xB4\n");
     }
 
@@ -1309,12 +1311,7 @@ impl Cases {
             ("piece=40\n", "piece=041\n"), ("packs=12", "packs=1"), ("packs=12", "packs=33"), ("mirrors=3", "mirrors=1")] {
             self.text(good.replacen(from, to, 1).as_bytes());
         }
-        for at in good.len() - 8..good.len() {
-            let mut text = good.clone().into_bytes();
-            text[at] ^= 1 << self.draw.below(4);
-            self.text(&text);
-            self.text(&good.as_bytes()[..at]);
-        }
+        self.damaged(&good, "sum=add\n");
     }
 
     /// Each bound of the catalogue from both sides.
@@ -1641,13 +1638,7 @@ impl Cases {
         for (from, to) in moved_lines() {
             self.text(good.replacen(&from, &to, 1).as_bytes());
         }
-        let line = good.find("open=").unwrap();
-        for at in line..line + lines.len() {
-            let mut text = good.clone().into_bytes();
-            text[at] ^= 1 << self.draw.below(4);
-            self.text(&text);
-            self.text(&good.as_bytes()[..at]);
-        }
+        self.damaged(&good, &lines);
     }
 
     /// Days in texts: real and unreal ones in each line, the ends of the months, opening before closing and not; with a fault of the value or a byte
