@@ -20,8 +20,9 @@
 
 enum { BAD_USAGE = 64, NO_INPUT = 66, NO_OUTPUT = 74 };
 
-/* No request is longer than 1,024 bytes and no catalogue than 90: what is cut off here is refused anyway. */
-enum { MOST_REQUEST = 4096, MOST_CATALOGUE = 4096 };
+/* No request is longer than 1,024 bytes. No catalogue is longer than 499, but a text in form, with a length for each of 99,999 packs,
+ * can have 1,500,075, and is then out of bounds: what is cut off here is refused anyway, and by the same number. */
+enum { MOST_REQUEST = 4096, MOST_CATALOGUE = 1 << 21 };
 
 static const char *meaning(int64_t number) {
     switch (number) {

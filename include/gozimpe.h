@@ -22,8 +22,8 @@ extern "C" {
  * first of this list is given. */
 enum gozimpe_refusal {
     GOZIMPE_TEXT = 1,         /* the catalogue is not in its text form, or a byte follows its last line */
-    GOZIMPE_BOUNDS = 2,       /* the catalogue's mirrors, packs or piece length are out of bounds, or it does not open before
-                               * it closes */
+    GOZIMPE_BOUNDS = 2,       /* the catalogue's mirrors, packs, piece length or a pack's length are out of bounds, or it does
+                               * not open before it closes */
     GOZIMPE_ONE_PACK = 17,    /* the catalogue has a single pack: no request could hide which pack is wanted */
     GOZIMPE_ODD_PIECE = 15,   /* the catalogue adds words (sum=add), and its piece length is odd */
     GOZIMPE_UNREAL_DAY = 13,  /* the catalogue has a season, and the given day is no real day of the years 2000 to 2399 */
@@ -36,7 +36,8 @@ enum gozimpe_refusal {
 
 /* Answers one request.
  *
- * catalogue: the catalogue's text, four lines to seven, each ended by a newline (byte 10), nothing after them:
+ * catalogue: the catalogue's text, four lines to seven and then one for each pack or none, each ended by a newline
+ *            (byte 10), nothing after them:
  *                code=short          (or code=even)
  *                mirrors=3           N, 2 to 16
  *                packs=3             K: short, 2 to 32; even, 2 or more with N to the power of K at most 256;
@@ -54,12 +55,18 @@ enum gozimpe_refusal {
  *                                    wraps at 65536, and nothing is carried from one word into another. S
  *                                    must then be even (GOZIMPE_ODD_PIECE). Which requests are admitted, and
  *                                    how long the answers are, is the same with the line and without
+ *                length=7            where a pack ends: K such lines, in the order of the packs, or none. As many
+ *                                    as packs= says, be that in bounds or not, or the text is out of form
+ *                                    (GOZIMPE_TEXT). A length has up to seven digits and is 1 to pieces x S (or
+ *                                    GOZIMPE_BOUNDS): so many bytes are the pack, and the rest is padding. That
+ *                                    is for the labs: store, requests and answers of a mirror are what they are
+ *                                    without the lines
  * year, month, day: today's date, in the calendar and the time zone that the mirrors have agreed on. If the catalogue
  *            has a season, a request is answered on the days of it alone: 13 is given for a day that does not exist,
  *            14 for one outside. Without the two lines the three numbers are not looked at, whatever they are.
  * mirror:    which mirror this is, 0 to N-1.
  * store:     the packs. A pack has N-1 pieces in the short code and N to the power of K in the even code,
- *            each of S bytes: the store has K x pieces x S bytes.
+ *            each of S bytes: the store has K x pieces x S bytes, whatever the lengths are.
  * request:   the request's bytes as they came. Any bytes of any length are safe to pass.
  * answer:    where the answer is written, from its first byte on. As long as gozimpe_longest_answer says is
  *            always enough: S bytes in the short code; in the even code, rows x S, where rows is
@@ -78,7 +85,7 @@ enum gozimpe_refusal {
  * store that is a mapped file must not be written or made shorter meanwhile. The pointer of a buffer of
  * length 0 may be anything, NULL too.
  *
- * Have 16 KiB of stack left at each call. Measured: 4,440 bytes; 7,608 in a process's first call, in which
+ * Have 16 KiB of stack left at each call. Measured: 5,425 bytes; 8,424 in a process's first call, in which
  * the loader may look up memcpy.
  */
 int64_t gozimpe_answer(const uint8_t *catalogue, size_t catalogue_len,
@@ -90,8 +97,9 @@ int64_t gozimpe_answer(const uint8_t *catalogue, size_t catalogue_len,
 
 /* The length of the longest answer under a catalogue: an answer buffer of this many bytes is always enough.
  *
- * catalogue: the catalogue's text, as above. No season is tested. Returns the length, 1 or more, or -GOZIMPE_TEXT,
- * -GOZIMPE_BOUNDS, -GOZIMPE_ONE_PACK or -GOZIMPE_ODD_PIECE. Everything else is as for gozimpe_answer.
+ * catalogue: the catalogue's text, as above. No season is tested, and lengths do not change the result, unless they
+ * are refused. Returns the length, 1 or more, or -GOZIMPE_TEXT, -GOZIMPE_BOUNDS, -GOZIMPE_ONE_PACK or
+ * -GOZIMPE_ODD_PIECE. Everything else is as for gozimpe_answer.
  */
 int64_t gozimpe_longest_answer(const uint8_t *catalogue, size_t catalogue_len);
 

@@ -2,7 +2,7 @@
  * of its condition, and buffers of exact, longer and shorter length. Every buffer lies between guard bytes; with the argument
  * `exact` each is an allocation of just its length instead, so that valgrind sees every byte outside. A call with buffers of
  * length 0 is made once for each choice of those whose pointer is NULL, none and all of them included. Catalogues without a season are
- * asked on days of every kind, real or not.
+ * asked on days of every kind, real or not. Whatever a catalogue without lengths gives, it has to give with lengths of every kind, too.
  */
 #define _DEFAULT_SOURCE
 #include <inttypes.h>
@@ -26,11 +26,14 @@ static struct day today;
 static int any_day = 1;
 static const struct day days[] = {{0, 0, 0}, {2024, 2, 29}, {2023, 2, 29}, {1999, 12, 31}, {2400, 1, 1}, {UINT32_MAX, UINT32_MAX, UINT32_MAX}, {2024, 13, 1}, {20240, 1, 1}};
 
+/* what a call is made with, where the words for it do not say so */
+static const char *beside = "";
+
 static void expect(int ok, const char *what, long detail) {
     checks++;
     if (ok) return;
     failures++;
-    printf("FAILED: %s (%ld)\n", what, detail);
+    printf("FAILED: %s%s (%ld)\n", what, beside, detail);
 }
 
 /* ---- guarded buffers */
@@ -88,7 +91,7 @@ static void once(const char *what, const char *catalogue, size_t catalogue_len, 
     free(c.base), free(s.base), free(q.base), free(a.base);
 }
 
-static void call(const char *what, const char *catalogue, size_t catalogue_len, uint64_t mirror, const uint8_t *store, size_t store_len,
+static void each(const char *what, const char *catalogue, size_t catalogue_len, uint64_t mirror, const uint8_t *store, size_t store_len,
                  const uint8_t *request, size_t request_len, size_t room, int64_t want, const uint8_t *bytes) {
     unsigned empty = (catalogue_len == 0 ? CATALOGUE : 0u) | (store_len == 0 ? STORE : 0u) | (request_len == 0 ? REQUEST : 0u)
                      | (room == 0 ? ANSWER : 0u);
@@ -97,12 +100,79 @@ static void call(const char *what, const char *catalogue, size_t catalogue_len, 
             once(what, catalogue, catalogue_len, mirror, store, store_len, request, request_len, room, want, bytes, nulls);
 }
 
-static void longest(const char *what, const char *catalogue, size_t length, int64_t want) {
+/* ---- lines `length=`, one for each pack */
+
+enum { MOST_LINES = 64, MOST_TEXT = 128 + 16 * MOST_LINES, MOST_LENGTH = 9999999 };
+
+/* lengths of K packs: all 1, all whole, all about the half, from 1 up to the whole; and the faults 0 and one above the whole */
+enum kind { ONES, WHOLES, HALVES, RISING, KINDS, NOUGHTS = KINDS, ABOVE };
+
+static long length_of(enum kind kind, int p, int k, long whole) {
+    switch (kind) {
+    case ONES: return 1;
+    case WHOLES: return whole;
+    case HALVES: return (whole + 1) / 2;
+    case RISING: return k < 2 ? whole : 1 + (whole - 1) * p / (k - 1);
+    case ABOVE: return whole + 1;
+    default: return 0;
+    }
+}
+
+/* the bytes of a pack, padding included: pieces x S; of numbers out of bounds, something that a line can hold, and one more, too */
+static long whole_pack(const char *code, int n, int k, int s) {
+    long whole = code[0] == 'e' ? 1 : n - 1;
+    for (int i = 0; code[0] == 'e' && i < k && whole < MOST_LENGTH; i++) whole *= n;
+    whole *= s;
+    return whole < 1 ? 1 : whole < MOST_LENGTH ? whole : MOST_LENGTH - 1;
+}
+
+/* writes the lines of the packs `from` to `to` - 1, and hands back the place behind them */
+static char *put_lengths(char *at, enum kind kind, int from, int to, int k, long whole) {
+    for (int p = from; p < to; p++) at += sprintf(at, "length=%ld\n", length_of(kind, p, k, whole));
+    return at;
+}
+
+/* where this is set, every call is made once more with lengths behind the catalogue: the next kind of them each time, and nothing may change */
+static int lengths_too = 1;
+
+/* the text with a line for each pack behind it, and its length; 0 if it does not say how many packs there are, or none, or too many */
+static size_t with_lengths(char *out, const char *catalogue, size_t length) {
+    static unsigned turn;
+    char code[6];
+    int n, k, s;
+    if (!lengths_too || sscanf(catalogue, "code=%5[a-z]\nmirrors=%d\npacks=%d\npiece=%d", code, &n, &k, &s) != 4) return 0;
+    if (k < 1 || k > MOST_LINES) return 0;
+    memcpy(out, catalogue, length);
+    return (size_t)(put_lengths(out + length, (enum kind)(turn++ % KINDS), 0, k, k, whole_pack(code, n, k, s)) - out);
+}
+
+static void call(const char *what, const char *catalogue, size_t catalogue_len, uint64_t mirror, const uint8_t *store, size_t store_len,
+                 const uint8_t *request, size_t request_len, size_t room, int64_t want, const uint8_t *bytes) {
+    char lined[MOST_TEXT];
+    size_t lined_len = with_lengths(lined, catalogue, catalogue_len);
+    each(what, catalogue, catalogue_len, mirror, store, store_len, request, request_len, room, want, bytes);
+    if (lined_len == 0) return;
+    beside = ", with lengths";
+    each(what, lined, lined_len, mirror, store, store_len, request, request_len, room, want, bytes);
+    beside = "";
+}
+
+static void longest_once(const char *what, const char *catalogue, size_t length, int64_t want) {
     struct buffer c = make(length, catalogue);
     expect(gozimpe_longest_answer(c.at, length) == want, what, -104);
     if (length == 0) expect(gozimpe_longest_answer(NULL, 0) == want, what, -105);
     expect(guarded(&c) && memcmp(c.at, catalogue, length) == 0, what, -106);
     free(c.base);
+}
+
+static void longest(const char *what, const char *catalogue, size_t length, int64_t want) {
+    char lined[MOST_TEXT];
+    size_t lined_len = with_lengths(lined, catalogue, length);
+    longest_once(what, catalogue, length, want);
+    if (lined_len == 0) return;
+    beside = ", with lengths";
+    longest_once(what, lined, lined_len, want);
+    beside = "";
 }
 
 static void text(char *out, const char *code, int n, int k, int s, int add) {
@@ -156,12 +226,10 @@ static void sets(struct walk *w, int *list, int chosen, int from, int left) {
     }
 }
 
-static void even(int n, int k, int s, int add) {
-    int m = power(n, k), query = k * power(n, k - 1), list[8], cell = 0;
-    size_t store_len = (size_t)(k * m * s);
-    uint8_t *store = malloc(store_len), *answer = malloc(256u * (size_t)s), request[1024], order[8][256];
-    char cat[64];
-    for (size_t i = 0; i < store_len; i++) store[i] = (uint8_t)draw(256);
+/* a request of the even code, with the pack at each of its positions; its length */
+static int even_request(int n, int k, uint8_t *request, int *packs) {
+    int m = power(n, k), cell = 0, next[8] = {0};
+    uint8_t order[8][256];
     for (int p = 0; p < k; p++) {
         for (int i = 0; i < m; i++) order[p][i] = (uint8_t)i;
         for (int i = m - 1; i > 0; i--) {
@@ -171,7 +239,6 @@ static void even(int n, int k, int s, int add) {
         }
     }
     /* the pack at each position: a walk that only counts */
-    int next[8] = {0}, packs[1024];
     for (int b = 1; b <= k; b++)
         for (int x = (1 << k) - 1; x >= 0; x--) { /* pack 0 as the highest bit, descending: lexicographic */
             if (__builtin_popcount((unsigned)x) != b) continue;
@@ -179,8 +246,18 @@ static void even(int n, int k, int s, int add) {
                 for (int p = 0; p < k; p++)
                     if (x >> (k - 1 - p) & 1) packs[cell++] = p;
         }
-    expect(cell == query, "even: positions", cell);
-    for (int i = 0; i < query; i++) request[i] = order[packs[i]][next[packs[i]]++];
+    for (int i = 0; i < cell; i++) request[i] = order[packs[i]][next[packs[i]]++];
+    return cell;
+}
+
+static void even(int n, int k, int s, int add) {
+    int m = power(n, k), query = k * power(n, k - 1), list[8], packs[1024];
+    size_t store_len = (size_t)(k * m * s);
+    uint8_t *store = malloc(store_len), *answer = malloc(256u * (size_t)s), request[1024 + 1];
+    char cat[64];
+    for (size_t i = 0; i < store_len; i++) store[i] = (uint8_t)draw(256);
+    int cells = even_request(n, k, request, packs);
+    expect(cells == query, "even: positions", cells);
     struct walk w = {n, k, s, add, 0, 0, store, request, answer};
     for (int b = 1; b <= k; b++) sets(&w, list, 0, 0, b);
     size_t len = (size_t)(w.rows * s);
@@ -415,6 +492,327 @@ static void seasons(void) {
     any_day = 1;
 }
 
+/* ---- lengths: a line for each pack behind all other lines, or none */
+
+enum season { NEVER, SEASON, CLOSES_FIRST };
+
+struct shape {
+    const char *code;
+    int n, k, s, add;
+    enum season season;
+};
+
+/* a store, a request that a mirror admits, and the answer by the reference */
+struct served {
+    size_t store_len, request_len, answer_len;
+    uint64_t mirror;
+    uint8_t *store, *answer, request[1024 + 1];
+};
+
+static const struct day opening_day = {2026, 3, 1}, closing_day = {2027, 3, 1}, unreal_day = {2026, 2, 29};
+
+/* the text without lengths; its length */
+static size_t head(char *out, struct shape c) {
+    if (c.season == SEASON) dated(out, c.code, c.n, c.k, c.s, c.add, opening_day, closing_day);
+    else if (c.season == CLOSES_FIRST) dated(out, c.code, c.n, c.k, c.s, c.add, closing_day, opening_day);
+    else text(out, c.code, c.n, c.k, c.s, c.add);
+    return strlen(out);
+}
+
+static long whole_of(struct shape c) {
+    return whole_pack(c.code, c.n, c.k, c.s);
+}
+
+static void serve_short(struct shape c, struct served *v) {
+    unsigned total = 0;
+    memset(v->answer, 0, (size_t)c.s);
+    for (int p = 0; p < c.k; p++) {
+        unsigned digit = p == 0 ? 1 + draw((unsigned)c.n - 1) : draw((unsigned)c.n);
+        v->request[p] = (uint8_t)digit;
+        total += digit;
+        if (digit > 0) add_piece(v->answer, v->store, (size_t)(p * (c.n - 1)) + digit - 1, c.s, c.add);
+    }
+    v->mirror = total % (unsigned)c.n;
+    v->request_len = (size_t)c.k;
+    v->answer_len = (size_t)c.s;
+}
+
+static void serve_even(struct shape c, struct served *v) {
+    int list[8], packs[1024];
+    v->request_len = (size_t)even_request(c.n, c.k, v->request, packs);
+    struct walk w = {c.n, c.k, c.s, c.add, 0, 0, v->store, v->request, v->answer};
+    for (int b = 1; b <= c.k; b++) sets(&w, list, 0, 0, b);
+    v->mirror = draw((unsigned)c.n);
+    v->answer_len = (size_t)(w.rows * c.s);
+}
+
+static struct served serve(struct shape c) {
+    struct served v;
+    v.store_len = (size_t)c.k * (size_t)whole_of(c);
+    v.store = malloc(v.store_len);
+    v.answer = malloc(256u * (size_t)c.s);
+    if (v.store == NULL || v.answer == NULL) exit(2);
+    for (size_t i = 0; i < v.store_len; i++) v.store[i] = (uint8_t)draw(256);
+    if (c.code[0] == 'e') serve_even(c, &v);
+    else serve_short(c, &v);
+    return v;
+}
+
+/* a text that the mirror serves by: the same answer, and the same numbers for what is wrong in the call */
+static void goes_by(const char *what, const char *cat, size_t len, struct shape c, const struct served *v) {
+    static const uint8_t zeros[32] = {0};
+    size_t room = v->answer_len, store = v->store_len, asked = v->request_len;
+    longest(what, cat, len, (int64_t)room);
+    any_day = c.season == NEVER;
+    today = opening_day;
+    call(what, cat, len, v->mirror, v->store, store, v->request, asked, room, (int64_t)room, v->answer);
+    call(what, cat, len, v->mirror, v->store, store, v->request, asked, room + 5, (int64_t)room, v->answer);
+    if (c.code[0] == 's') call(what, cat, len, 0, v->store, store, zeros, asked, 0, 0, NULL);
+    if (c.code[0] == 's') call(what, cat, len, 0, v->store, store, zeros, asked, room, 0, NULL);
+    call(what, cat, len, (uint64_t)c.n, v->store, store, v->request, asked, room, -3, NULL);
+    call(what, cat, len, v->mirror, v->store, store, v->request, asked - 1, room, -7, NULL);
+    call(what, cat, len, v->mirror, v->store, store - 1, v->request, asked, room, -8, NULL);
+    call(what, cat, len, v->mirror, v->store, store - (size_t)c.k, v->request, asked, room, -8, NULL);
+    call(what, cat, len, v->mirror, v->store, store, v->request, asked, room - 1, -9, NULL);
+    for (int late = 0; c.season == SEASON && late <= 1; late++) {
+        today = late ? closing_day : unreal_day;
+        call(what, cat, len, v->mirror, v->store, store, v->request, asked, room, late ? -14 : -13, NULL);
+        call(what, cat, len, UINT64_MAX, NULL, 0, NULL, 0, 0, late ? -14 : -13, NULL);
+    }
+    any_day = 1;
+}
+
+/* a text that is refused, all else being right */
+static void is_refused(const char *what, const char *cat, size_t len, const struct served *v, int64_t want) {
+    any_day = 0;
+    today = opening_day;
+    longest(what, cat, len, want);
+    call(what, cat, len, v->mirror, v->store, v->store_len, v->request, v->request_len, v->answer_len, want, NULL);
+    any_day = 1;
+}
+
+/* and before each other number that the call could give: 13, 14, 3, 7, 8, 9, and all of them */
+static void comes_first(const char *what, const char *cat, size_t len, const struct served *v, int64_t want) {
+    size_t room = v->answer_len, store = v->store_len, asked = v->request_len;
+    is_refused(what, cat, len, v, want);
+    any_day = 0;
+    today = unreal_day;
+    call(what, cat, len, v->mirror, v->store, store, v->request, asked, room, want, NULL);
+    call(what, cat, len, UINT64_MAX, NULL, 0, NULL, 0, 0, want, NULL);
+    today = closing_day;
+    call(what, cat, len, v->mirror, v->store, store, v->request, asked, room, want, NULL);
+    today = opening_day;
+    call(what, cat, len, 17, v->store, store, v->request, asked, room, want, NULL);
+    call(what, cat, len, v->mirror, v->store, store, v->request, asked - 1, room, want, NULL);
+    call(what, cat, len, v->mirror, v->store, store - 1, v->request, asked, room, want, NULL);
+    call(what, cat, len, v->mirror, v->store, store, v->request, asked, room - 1, want, NULL);
+    any_day = 1;
+}
+
+/* so many lines: none, K of them, or refusal 1, whatever is in them */
+static void counts(struct shape c, const struct served *v) {
+    const int some[] = {0, 1, c.k - 1, c.k, c.k + 1, 2 * c.k, 31, 32, 33, MOST_LINES};
+    char cat[MOST_TEXT];
+    for (size_t i = 0; i < sizeof some / sizeof *some; i++)
+        for (enum kind kind = 0; kind <= ABOVE; kind++) {
+            size_t len = (size_t)(put_lengths(cat + head(cat, c), kind, 0, some[i], c.k, whole_of(c)) - cat);
+            if (some[i] != 0 && some[i] != c.k) comes_first("lengths: another count", cat, len, v, -1);
+            else if (some[i] != 0 && kind >= KINDS) comes_first("lengths: all out of bounds", cat, len, v, -2);
+            else goes_by("lengths: none or K", cat, len, c, v);
+        }
+}
+
+/* the text in which the line of one pack is another; its length */
+static size_t one_other(char *cat, struct shape c, enum kind kind, int pack, const char *line) {
+    char *at = put_lengths(cat + head(cat, c), kind, 0, pack, c.k, whole_of(c));
+    at += sprintf(at, "%s", line);
+    return (size_t)(put_lengths(at, kind, pack + 1, c.k, c.k, whole_of(c)) - cat);
+}
+
+/* one length out of bounds at the first pack, in the middle, at the last, the others in bounds; and at the bounds */
+static void one_length(struct shape c, const struct served *v) {
+    const long whole = whole_of(c), wrong[] = {0, whole + 1, whole + 256, whole + 65536, MOST_LENGTH - 1, MOST_LENGTH};
+    const long right[] = {1, whole > 1 ? whole - 1 : 1, whole};
+    char cat[MOST_TEXT], line[32];
+    for (int third = 0; third <= 2; third++) {
+        int pack = third * (c.k - 1) / 2;
+        for (size_t i = 0; i < sizeof wrong / sizeof *wrong; i++) {
+            sprintf(line, "length=%ld\n", wrong[i]);
+            for (enum kind kind = 0; kind < KINDS; kind++)
+                comes_first("lengths: one out of bounds", cat, one_other(cat, c, kind, pack, line), v, -2);
+        }
+        for (size_t i = 0; i < sizeof right / sizeof *right; i++) {
+            sprintf(line, "length=%ld\n", right[i]);
+            goes_by("lengths: one at a bound", cat, one_other(cat, c, HALVES, pack, line), c, v);
+        }
+    }
+}
+
+/* one line that is none, too many, or not in form: 1, also where the other lines are out of bounds */
+static void one_form(struct shape c, const struct served *v) {
+    static const char *bad[] = {
+        "", "\n", "length=\n", "length=00\n", "length=01\n", "length=00000\n", "length=0000001\n", "length=00000001\n", "length=10000000\n",
+        "length=99999999\n", "length=4294967297\n", "length=18446744073709551617\n", "length=-1\n", "length=+1\n", "length= 1\n", " length=1\n",
+        "length =1\n", "length=1 \n", "length=1\t\n", "length=1\r\n", "length=1\r", "length=1", "length=1\n\n", "\nlength=1\n",
+        "length=1\nlength=1\n", "length=1,1\n", "length=1 1\n", "length=1.0\n", "length=0x1\n", "length=1e0\n", "length=one\n", "length=/\n",
+        "length=:\n", "Length=1\n", "LENGTH=1\n", "length:1\n", "length1\n", "lengt=1\n", "lengths=1\n", "ength=1\n", "llength=1\n", "length==1\n",
+        "piece=1\n", "sum=add\n", "open=2026-03-01\n", "wanted=0\n", "length=1\nx", "length=1\nlength", "length=1\nlength=", "length=1\nlength=1",
+    };
+    char cat[MOST_TEXT];
+    for (int third = 0; third <= 2; third++)
+        for (size_t i = 0; i < sizeof bad / sizeof *bad; i++)
+            for (enum kind kind = ONES; kind <= NOUGHTS; kind += NOUGHTS - ONES)
+                is_refused(bad[i], cat, one_other(cat, c, kind, third * (c.k - 1) / 2, bad[i]), v, -1);
+    comes_first("lengths: 1 before 2", cat, one_other(cat, c, NOUGHTS, c.k - 1, "length=\n"), v, -1);
+}
+
+/* lines before another line of the text, each that there is, and any number of them behind; of many packs, 1, K-1 or K before */
+static void elsewhere(struct shape c, const struct served *v) {
+    char first[MOST_TEXT], cat[2 * MOST_TEXT];
+    size_t len = head(first, c);
+    for (size_t at = 0; at < len; at++) {
+        if (at > 0 && first[at - 1] != '\n') continue;
+        memcpy(cat, first, at);
+        for (int before = 1; before <= c.k; before++)
+            for (int behind = 0; behind <= c.k; behind++) {
+                if (c.k > 3 && before > 1 && before < c.k - 1) continue;
+                char *to = put_lengths(cat + at, RISING, 0, before, c.k, whole_of(c));
+                memcpy(to, first + at, len - at);
+                to = put_lengths(to + len - at, RISING, c.k - behind, c.k, c.k, whole_of(c));
+                is_refused("lengths: before another line", cat, (size_t)(to - cat), v, -1);
+            }
+    }
+}
+
+/* cut off at each byte, each byte changed, and a byte behind the last line */
+static void each_byte(struct shape c, const struct served *v) {
+    char cat[MOST_TEXT];
+    size_t from = head(cat, c), len = (size_t)(put_lengths(cat + from, RISING, 0, c.k, c.k, whole_of(c)) - cat);
+    goes_by("lengths: cut off before the first", cat, from, c, v);
+    for (size_t at = from + 1; at < len; at++) is_refused("lengths: cut off", cat, at, v, -1);
+    goes_by("lengths: not cut off", cat, len, c, v);
+    for (size_t at = from; at < len; at++) {
+        const char kept = cat[at], other[] = {(char)(kept ^ 0x40), 0, (char)(kept ^ 0x80), ' ', kept == '\n' ? '\r' : '\n'};
+        for (size_t i = 0; i < sizeof other; i++) {
+            cat[at] = other[i];
+            is_refused("lengths: a byte changed", cat, len, v, -1);
+        }
+        cat[at] = kept;
+    }
+    for (int byte = 0; byte <= 255; byte++) {
+        cat[len] = (char)byte;
+        is_refused("lengths: a byte behind them", cat, len + 1, v, -1);
+    }
+}
+
+/* a catalogue that is turned away by a number of its own: it stays so with K good lengths; one out of bounds is 2, and another count 1 */
+static void turned_away(struct shape c, const struct served *v, int64_t own) {
+    const int some[] = {0, 1, 2, 8, 31, 32, 33, c.k - 1, c.k, c.k + 1, c.k % 256, c.k % 65536};
+    char *cat = malloc(128 + 16 * ((size_t)c.k + MOST_LINES));
+    if (cat == NULL) exit(2);
+    for (size_t i = 0; i < sizeof some / sizeof *some; i++)
+        for (enum kind kind = 0; kind <= ABOVE; kind++) {
+            int good = some[i] <= 0 || kind < KINDS, big = some[i] > 300;
+            int64_t want = some[i] > 0 && some[i] != c.k ? -1 : good ? own : -2;
+            if (big && kind != ONES) continue;
+            size_t len = (size_t)(put_lengths(cat + head(cat, c), kind, 0, some[i], c.k, whole_of(c)) - cat);
+            if (!big && (kind == ONES || kind == NOUGHTS)) comes_first("lengths: turned away", cat, len, v, want);
+            else is_refused("lengths: turned away", cat, len, v, want);
+        }
+    free(cat);
+}
+
+/* each number that a catalogue can give by itself, with lengths */
+static void own_numbers(int add, enum season season, const struct served *v) {
+    const struct shape out[] = {
+        {"short", 1, 2, 4, add, season}, {"short", 17, 2, 4, add, season}, {"short", 2, 2, 0, add, season}, {"short", 2, 2, 4097, add, season},
+        {"short", 2, 0, 4, add, season}, {"short", 2, 33, 4, add, season}, {"short", 3, 34, 4, add, season}, {"short", 16, 40, 4096, add, season},
+        {"short", 2, 64, 4, add, season}, {"short", 2, 258, 4, add, season}, {"even", 1, 2, 4, add, season}, {"even", 17, 2, 4, add, season},
+        {"even", 2, 2, 0, add, season}, {"even", 2, 2, 4097, add, season}, {"even", 2, 0, 4, add, season}, {"even", 2, 9, 4, add, season},
+        {"even", 6, 4, 4, add, season}, {"even", 16, 3, 4, add, season}, {"even", 2, 33, 4, add, season}, {"even", 2, 40, 4, add, season},
+        {"short", 2, 2, 4, add, CLOSES_FIRST}, {"even", 2, 1, 3, add, CLOSES_FIRST}, {"short", 17, 1, 3, add, season},
+    };
+    const struct shape one[] = {{"short", 2, 1, 4, add, season}, {"short", 16, 1, 3, add, season},
+                                {"even", 2, 1, 4, add, season}, {"even", 16, 1, 3, add, season}};
+    const struct shape odd[] = {{"short", 2, 2, 3, 1, season}, {"short", 3, 32, 4095, 1, season},
+                                {"even", 2, 2, 1, 1, season}, {"even", 2, 8, 3, 1, season}};
+    for (size_t i = 0; i < sizeof out / sizeof *out; i++) turned_away(out[i], v, -2);
+    for (size_t i = 0; i < sizeof one / sizeof *one; i++) turned_away(one[i], v, -17);
+    for (size_t i = 0; i < sizeof odd / sizeof *odd; i++) turned_away(odd[i], v, -15);
+}
+
+/* more packs than a catalogue can have: a line behind the 32nd is looked at for its form, too */
+static void many_packs(const struct served *v) {
+    char cat[MOST_TEXT];
+    for (int packs = 33; packs <= 40; packs++) {
+        const struct shape c = {packs % 2 ? "short" : "even", 2, packs, 4, packs / 2 % 2, packs / 4 % 2 ? SEASON : NEVER};
+        one_form(c, v);
+        comes_first("lengths: 33rd, form", cat, one_other(cat, c, ONES, 32, "length=10000000\n"), v, -1);
+        comes_first("lengths: 33rd, most", cat, one_other(cat, c, ONES, 32, "length=9999999\n"), v, -2);
+        comes_first("lengths: 33rd, 0", cat, one_other(cat, c, ONES, 32, "length=0\n"), v, -2);
+    }
+    turned_away((struct shape){"short", 2, 99999, 1, 0, NEVER}, v, -2);
+    turned_away((struct shape){"even", 2, 65568, 1, 0, NEVER}, v, -2);
+}
+
+/* the largest length of a catalogue, and one more, at one pack of any */
+static void largest(struct shape c) {
+    int rows = c.code[0] == 'e' ? power(c.n, c.k - 1) + (power(c.n, c.k - 1) - 1) / (c.n - 1) : 1, pack = (int)draw((unsigned)c.k);
+    char cat[MOST_TEXT], line[32];
+    sprintf(line, "length=%ld\n", whole_of(c));
+    longest_once("lengths: largest", cat, one_other(cat, c, ONES, pack, line), (int64_t)rows * c.s);
+    sprintf(line, "length=%ld\n", whole_of(c) + 1);
+    longest_once("lengths: above the largest", cat, one_other(cat, c, ONES, pack, line), -2);
+}
+
+static void largest_lengths(int n, int most_even) {
+    for (int s = 1; s <= 4096; s = s < 8 ? s + 1 : s * 2) {
+        const int add = s % 2 == 0 && n % 2;
+        const enum season season = n % 3 ? SEASON : NEVER;
+        for (int k = 2; k <= 32; k++) largest((struct shape){"short", n, k, s, add, season});
+        for (int k = 2; k <= most_even; k++) largest((struct shape){"even", n, k, s, add, season});
+    }
+}
+
+/* the longest texts there are: of a catalogue that is admitted, of lines with seven digits, of lines in form */
+static void longest_texts(void) {
+    const struct shape most = {"short", 16, 32, 4096, 1, SEASON}, seven = {"even", 2, 8, 4096, 1, SEASON};
+    char cat[MOST_TEXT];
+    struct served v = serve(most);
+    size_t len = (size_t)(put_lengths(cat + head(cat, most), WHOLES, 0, 32, 32, whole_of(most)) - cat);
+    expect(len == 499, "lengths: longest text", (long)len);
+    goes_by("lengths: longest text", cat, len, most, &v);
+    len = (size_t)(put_lengths(cat + head(cat, most), WHOLES, 0, 32, 32, MOST_LENGTH) - cat);
+    expect(len == 563, "lengths: longest text in form", (long)len);
+    comes_first("lengths: longest text in form", cat, len, &v, -2);
+    free(v.store), free(v.answer);
+    v = serve(seven);
+    len = (size_t)(put_lengths(cat + head(cat, seven), WHOLES, 0, 8, 8, whole_of(seven)) - cat);
+    any_day = 0;
+    today = opening_day;
+    call("lengths: seven digits", cat, len, v.mirror, v.store, v.store_len, v.request, v.request_len, v.answer_len, (int64_t)v.answer_len, v.answer);
+    any_day = 1;
+    free(v.store), free(v.answer);
+}
+
+static void lengths(void) {
+    static const struct { const char *code; int n, k, s; } some[] = {{"short", 2, 2, 2}, {"short", 3, 3, 4}, {"short", 16, 32, 6},
+                                                                      {"even", 2, 2, 2}, {"even", 3, 3, 2}, {"even", 2, 8, 2}};
+    lengths_too = 0;
+    for (int add = 0; add <= 1; add++)
+        for (enum season season = NEVER; season <= SEASON; season++)
+            for (size_t i = 0; i < sizeof some / sizeof *some; i++) {
+                const struct shape c = {some[i].code, some[i].n, some[i].k, some[i].s - !add, add, season};
+                struct served v = serve(c);
+                counts(c, &v), one_length(c, &v), one_form(c, &v), elsewhere(c, &v), each_byte(c, &v);
+                if (i == 0) own_numbers(add, season, &v);
+                if (i == 0 && add == 0 && season == NEVER) many_packs(&v);
+                free(v.store), free(v.answer);
+            }
+    longest_texts();
+    lengths_too = 1;
+}
+
 static void cards(void) {
     static const char b2[] = "code=short\nmirrors=2\npacks=2\npiece=1\n", b4[] = "code=short\nmirrors=3\npacks=3\npiece=4\n";
     uint8_t store[] = {0x5A, 0xC3}, both[] = {1, 1}, second[] = {0, 1}, first[] = {1, 0}, none[] = {0, 0, 0}, odd[] = {0, 0, 1}, three[] = {0, 1, 3}, big[24] = {0};
@@ -438,11 +836,13 @@ int main(int argc, char **argv) {
     catalogues();
     words();
     seasons();
+    lengths();
     for (int n = 2; n <= 16; n++) {
         one_pack("short", n, 3);
         one_pack("even", n, 3);
         odd_piece("short", n, n % 2 ? 1 : 4095);
         odd_piece("even", n, 3);
+        largest_lengths(n, most[n]);
         for (int k = 2; k <= most[n]; k++) even(n, k, n == 4 && k == 4 ? 64 : 3, 0), even(n, k, n == 4 && k == 4 ? 64 : 6, 1);
         for (size_t i = 0; i < sizeof ks / sizeof *ks; i++)
             for (size_t j = 0; j < sizeof sizes / sizeof *sizes; j++) {

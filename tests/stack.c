@@ -62,6 +62,10 @@ int main(void) {
     measure("answer, short 16 32 4096 add", answering);
     catalogue = "code=short\nmirrors=16\npacks=32\npiece=4096\nopen=2026-03-01\nclose=2027-03-01\n";
     measure("answer, short 16 32 4096 season", answering);
+    static char measured[1024] = "code=short\nmirrors=16\npacks=32\npiece=4096\n";
+    for (int k = 0; k < 32; k++) strcat(measured, "length=61439\n");
+    catalogue = measured;
+    measure("answer, short 16 32 4096 lengths", answering);
     catalogue = "code=even\nmirrors=2\npacks=8\npiece=4096\n", store_len = (size_t)8 * 256 * 4096, request_len = 1024;
     int next[8] = {0};
     size_t at = 0;

@@ -2,10 +2,11 @@
 //!
 //! Words here are document 01's: mirror, pack, piece, request. The short code follows the formulas of source 000, section III-B;
 //! the even code runs the process of document 01 with counters, row by row, and finds rows again by comparing them. A day is looked up in a list
-//! of all days of the calendar, walked month by month; no date is compared or tested by its numbers.
+//! of all days of the calendar, walked month by month; no date is compared or tested by its numbers. Lines `length=` are collected, however many
+//! there are, and counted afterwards; a pack is recovered whole and then cut.
 //!
 //!     rustc --edition 2021 -O docs/src/second.rs -o second
-//!     ./second self               checks it against the bench cards and the papers' tables, and that fetches recover
+//!     ./second self               checks it against the bench cards and the papers' tables, the rules of seasons and lengths, and that fetches recover
 //!     ./second printer FOLDER     writes inputs of the request printer, and what it must print for each
 //!     ./second cases              prints the calls that the program `conformance` makes (its `stdin`)
 //!     ./second expected           prints what they must give (its `stdout`)
@@ -75,11 +76,16 @@ struct Catalogue {
     /// The lines `open=` and `close=` (02, item 1): zeros without them.
     open: Day,
     close: Day,
+    /// Whether there are lines `length=`, and a place for each pack's (02, item 6): zeros where no line fills it.
+    measured: bool,
+    lengths: Lengths,
 }
+
+type Lengths = [usize; 32];
 
 /// A catalogue without the lines that it may have.
 const fn plain(even: bool, n: usize, k: usize, s: usize) -> Catalogue {
-    Catalogue { even, n, k, s, add: false, open: NO_DAY, close: NO_DAY }
+    Catalogue { even, n, k, s, add: false, open: NO_DAY, close: NO_DAY, measured: false, lengths: [0; 32] }
 }
 
 fn adding(c: Catalogue) -> Catalogue {
@@ -98,11 +104,27 @@ fn has_dates(c: Catalogue) -> bool {
     c != undated(c)
 }
 
+/// The catalogue with lines `length=` of these numbers, as many of them as a value has places for.
+fn measured(c: Catalogue, numbers: &[usize]) -> Catalogue {
+    let mut lengths = [0; 32];
+    lengths.iter_mut().zip(numbers).for_each(|(place, &number)| *place = number);
+    Catalogue { measured: true, lengths, ..c }
+}
+
+fn unmeasured(c: Catalogue) -> Catalogue {
+    Catalogue { measured: false, lengths: [0; 32], ..c }
+}
+
 const ZERO: Catalogue = plain(false, 0, 0, 0);
 
 /// A number in text form: one to five digits, no leading zero but `0` itself.
 fn number(text: &str) -> Option<usize> {
-    let good = (1..=5).contains(&text.len()) && text.bytes().all(|b| b.is_ascii_digit()) && (text == "0" || !text.starts_with('0'));
+    digits(text, 5)
+}
+
+/// A number in text form, of one digit up to so many.
+fn digits(text: &str, most: usize) -> Option<usize> {
+    let good = (1..=most).contains(&text.len()) && text.bytes().all(|b| b.is_ascii_digit()) && (text == "0" || !text.starts_with('0'));
     if good { text.parse().ok() } else { None }
 }
 
@@ -123,8 +145,23 @@ fn season_lines(c: Catalogue, text: &[u8]) -> Option<(Catalogue, &[u8])> {
     Some((dated(c, open, close), text))
 }
 
+/// The catalogue with the lengths at the start of a text, and what follows them: all lines of that name are collected, and then there must be none
+/// or as many as the packs, whatever their number (02, item 6).
+fn length_lines(c: Catalogue, text: &[u8]) -> Option<(Catalogue, &[u8])> {
+    let (mut found, mut rest) = (Vec::new(), text);
+    while let Some(line) = rest.strip_prefix(b"length=") {
+        let end = line.iter().position(|&b| b == 10)?;
+        found.push(digits(std::str::from_utf8(&line[..end]).ok()?, 7)?);
+        rest = &line[end + 1..];
+    }
+    match found.len() {
+        0 => Some((c, rest)),
+        count => (count == c.k).then(|| (measured(c, &found), rest)),
+    }
+}
+
 /// The catalogue's lines at the start, and what follows them: the four of document 01, then a season (02, item 1), then `sum=add` where a line of
-/// that name stands there (02, item 2).
+/// that name stands there (02, item 2), then the lengths (02, item 6).
 fn lines(text: &[u8]) -> Option<(Catalogue, &[u8])> {
     let mut rest = text;
     let mut line = |name: &str| -> Option<String> {
@@ -143,8 +180,8 @@ fn lines(text: &[u8]) -> Option<(Catalogue, &[u8])> {
     let s = number(&line("piece=")?)?;
     let (c, rest) = season_lines(plain(even, n, k, s), rest)?;
     match rest.strip_prefix(b"sum=") {
-        Some(value) => Some((adding(c), value.strip_prefix(b"add\n")?)),
-        None => Some((c, rest)),
+        Some(value) => length_lines(adding(c), value.strip_prefix(b"add\n")?),
+        None => length_lines(c, rest),
     }
 }
 
@@ -159,7 +196,13 @@ fn read(text: &[u8]) -> Result<Catalogue, u8> {
 fn write_text(c: Catalogue) -> String {
     let (code, sum) = (if c.even { "even" } else { "short" }, if c.add { "sum=add\n" } else { "" });
     let season = if has_dates(c) { season_text(&spelled(c.open), &spelled(c.close)) } else { String::new() };
-    format!("code={code}\nmirrors={}\npacks={}\npiece={}\n{season}{sum}", c.n, c.k, c.s)
+    let lengths = if c.measured { length_text(&c.lengths[..c.k.min(32)]) } else { String::new() };
+    format!("code={code}\nmirrors={}\npacks={}\npiece={}\n{season}{sum}{lengths}", c.n, c.k, c.s)
+}
+
+/// Lines `length=` of these numbers, or of anything that stands in their place.
+fn length_text<T: std::fmt::Display>(numbers: &[T]) -> String {
+    numbers.iter().map(|number| format!("length={number}\n")).collect()
 }
 
 fn season_text(open: &str, close: &str) -> String {
@@ -177,10 +220,16 @@ fn dates_good(c: Catalogue) -> bool {
     !has_dates(c) || place(c.open).zip(place(c.close)).is_some_and(|(open, close)| open < close)
 }
 
-/// Whether every call that tests the catalogue goes on: 2 for a broken bound or a fault of the dates, else 17 for a single pack, of every code
-/// (02, item 9), else 15 for a piece that is no row of words where words are added (02, item 2).
+/// Whether each place of a catalogue within its bounds is a length of its pack where a line fills it, and zero where none does (02, item 6).
+fn lengths_good(c: Catalogue) -> bool {
+    let (filled, empty) = c.lengths.split_at(if c.measured { c.k } else { 0 });
+    filled.iter().all(|length| (1..=pack_length(c)).contains(length)) && empty.iter().all(|&length| length == 0)
+}
+
+/// Whether every call that tests the catalogue goes on: 2 for a broken bound or a fault of the dates or lengths, else 17 for a single pack, of every
+/// code (02, item 9), else 15 for a piece that is no row of words where words are added (02, item 2).
 fn judged(c: Catalogue) -> Result<(), u8> {
-    match (within(c) && dates_good(c), c.k) {
+    match (within(c) && dates_good(c) && lengths_good(c), c.k) {
         (false, _) => Err(2),
         (true, 1) => Err(17),
         (true, _) if c.add && c.s & 1 == 1 => Err(15),
@@ -207,8 +256,14 @@ fn pieces(c: Catalogue) -> usize {
     if c.even { c.n.pow(c.k as u32) } else { c.n - 1 }
 }
 
+/// The length of a pack as mirrors store it, padding included.
 fn pack_length(c: Catalogue) -> usize {
     pieces(c) * c.s
+}
+
+/// The length of a pack as the catalogue means it: its line says where it ends; without the lines padding is part of it (02, item 6).
+fn pack_end(c: Catalogue, pack: usize) -> usize {
+    if c.measured { c.lengths[pack] } else { pack_length(c) }
 }
 
 fn key_length(c: Catalogue) -> usize {
@@ -398,7 +453,7 @@ fn answer_length(c: Catalogue, request: &[u8]) -> usize {
     if c.even || request.iter().any(|&d| d != 0) { slot(c) } else { 0 }
 }
 
-/// The wanted pack from the answers of all mirrors; an empty answer counts as zeros.
+/// The wanted pack as it is stored, from the answers of all mirrors; an empty answer counts as zeros.
 fn recover(c: Catalogue, wanted: usize, key: &[u8], answers: &[Bytes]) -> Bytes {
     let mut pack = vec![0; pack_length(c)];
     if !c.even {
@@ -538,8 +593,8 @@ impl Session {
 
     fn recover(&self, buffer: &[u8], pack: &mut [u8]) -> Result<(), u8> {
         self.fields(None, None)?;
-        let size = slot(self.cat);
-        if buffer.len() < self.cat.n * size || pack.len() < pack_length(self.cat) {
+        let (size, end) = (slot(self.cat), pack_end(self.cat, self.wanted));
+        if buffer.len() < self.cat.n * size || pack.len() < end {
             return Err(9);
         }
         if !self.marks_good() {
@@ -550,8 +605,9 @@ impl Session {
         }
         let answers: Vec<Bytes> = (0..self.cat.n)
             .map(|m| buffer[m * size..m * size + answer_length(self.cat, &self.request(m))].to_vec()).collect();
-        let got = recover(self.cat, self.wanted, self.used_key(), &answers);
-        pack[..got.len()].copy_from_slice(&got);
+        let mut got = recover(self.cat, self.wanted, self.used_key(), &answers);
+        got.truncate(end);
+        pack[..end].copy_from_slice(&got);
         Ok(())
     }
 }
@@ -734,7 +790,8 @@ fn printer_inputs() -> Vec<Bytes> {
     let good = input(plain(false, 3, 3, 4), 1, &[2, 0]);
     for (from, to) in [("2 0\n", "2  0\n"), ("2 0\n", " 2 0\n"), ("2 0\n", "2 0 \n"), ("2 0\n", "2 0"), ("2 0\n", "2 0\n\n"), ("2 0\n", "02 0\n"),
         ("2 0\n", "2 000000\n"), ("2 0\n", "\n"), ("2 0\n", "2\t0\n"), ("wanted=1", "wanted=01"), ("wanted=1", "wanted="), ("wanted=1", "wanted=100000"),
-        ("wanted=", "Wanted="), ("key=", "keys="), ("mirrors=3", "mirrors=3 "), ("packs=3", "packs=003"), ("piece=4\n", "piece=4\n\n"), ("code=short", "code=shorts")] {
+        ("wanted=", "Wanted="), ("key=", "keys="), ("mirrors=3", "mirrors=3 "), ("packs=3", "packs=003"), ("piece=4\n", "piece=4\n\n"),
+        ("code=short", "code=shorts")] {
         all.push(good.replacen(from, to, 1).into_bytes());
     }
     for at in 0..good.len() {
@@ -757,6 +814,7 @@ fn printer_inputs() -> Vec<Bytes> {
     }
     printer_sums(&mut draw, &mut all);
     printer_seasons(&mut draw, &mut all);
+    printer_lengths(&mut draw, &mut all);
     all.push(vec![b'0'; 65536]);
     all.push([good.as_bytes(), &vec![b' '; 65537 - good.len()]].concat());
     all.push((0..=255).collect());
@@ -904,6 +962,119 @@ fn moved_lines() -> Vec<(String, String)> {
     places.into_iter().chain([(format!("piece=4\n{a}"), format!("{a}piece=4\n")), (format!("piece=4\n{a}{b}"), format!("{a}{b}piece=4\n"))]).collect()
 }
 
+/// Lengths in a catalogue's text, with the requests of the same catalogue without them (02, item 6). Then each fault of the lengths, with other
+/// refusals besides; other numbers of lines; the lines damaged and misplaced.
+fn printer_lengths(draw: &mut Draw, all: &mut Vec<Bytes>) {
+    for (i, (even, n, k)) in [(false, 2, 2), (false, 16, 32), (true, 3, 3), (true, 2, 8)].into_iter().enumerate() {
+        let (c, key) = (plain(even, n, k, 4096), draw.key(plain(even, n, k, 1)));
+        let (open, close) = SEASONS[i];
+        for c in [c, adding(c), dated(c, open, close), dated(adding(c), open, close)] {
+            all.push(input(with_some(c), i % k, &key).into_bytes());
+            all.push(input(c, i % k, &key).into_bytes());
+        }
+        all.push(input(with_some(adding(Catalogue { s: 7, ..c })), k, &key).into_bytes());
+        for c in [with_some(c), placed(with_some(c), k - 1, 0), placed(with_some(c), 0, pack_length(c) + 1), placed(with_some(c), k - 1, 9999999)] {
+            for c in [c, Catalogue { n: 17, ..c }, Catalogue { s: 7, ..adding(c) }] {
+                all.push(input(c, 0, &key).into_bytes());
+            }
+            all.push(input(c, k, &key).into_bytes());
+            all.push(input(c, 0, &[&key[..], &[0]].concat()).into_bytes());
+            all.push(input(c, 0, &[&[99999], &key[1..]].concat()).into_bytes());
+            all.push(format!("{}\n", input(c, 0, &key)).into_bytes());
+        }
+    }
+    let many = [(7000, 7000), (7000, 6999)].map(|(k, count)| counted(plain(false, 2, k, 4), count));
+    for text in counted_lines().into_iter().chain(late_faults()).chain(many) {
+        all.push(format!("{text}wanted=0\nkey=0\n").into_bytes());
+    }
+    for numbers in [&[0, 0, 0][..], &[8, 9, 8], &[1, 0, 1], &[1, 8, 2], &[8], &[9], &[0]] {
+        let c = measured(plain(false, 3, numbers.len(), 4), numbers);
+        all.push(input(c, 0, &[2, 0]).into_bytes());
+        all.push(input(adding(c), c.k, &[3]).into_bytes());
+    }
+    let good = input(all_lines(), 1, &[2, 0]);
+    for text in other_lengths(all_lines()).into_iter().chain(moved_lengths()) {
+        all.push(good.replacen(&write_text(all_lines()), &text, 1).into_bytes());
+    }
+    for (from, to) in [("wanted=1", "wanted=0000001"), ("wanted=1", "wanted=100000"), ("key=2", "key=100000"), ("wanted=", "length=4\nwanted="),
+        ("wanted=1\n", ""), ("wanted=1\n", "wanted=1\nlength=4\n"), ("wanted=", "length"), ("wanted=", "\nwanted="), ("wanted=", "wanted= "),
+        ("key=2 0\n", "")] {
+        all.push(good.replacen(from, to, 1).into_bytes());
+    }
+    damaged(&good, &length_text(&all_lines().lengths[..3]), all);
+}
+
+/// Lengths for a catalogue's packs, the whole, then others that differ where there are bytes enough.
+fn some_lengths(c: Catalogue) -> Vec<usize> {
+    (0..c.k).map(|p| pack_length(c) - p * 5 % pack_length(c)).collect()
+}
+
+fn with_some(c: Catalogue) -> Catalogue {
+    measured(c, &some_lengths(c))
+}
+
+/// The catalogue with another number in one place of its lengths.
+fn placed(mut c: Catalogue, place: usize, number: usize) -> Catalogue {
+    c.lengths[place] = number;
+    c
+}
+
+/// A catalogue with every line that it may have; its lengths cut a piece, end one, and are the whole.
+fn all_lines() -> Catalogue {
+    measured(dated(adding(plain(false, 3, 3, 6)), A, B), &[7, 6, 12])
+}
+
+/// The text of a catalogue without lengths, and so many good lines `length=` after it.
+fn counted(c: Catalogue, count: usize) -> String {
+    format!("{}{}", write_text(c), length_text(&vec![1; count]))
+}
+
+/// Texts with other numbers of packs and of lines, equal or not: 1 where they are not, also where the packs are out of bounds.
+fn counted_lines() -> Vec<String> {
+    let short = [(2, 2), (31, 31), (31, 32), (32, 31), (32, 32), (32, 33), (32, 0), (33, 32), (33, 33), (33, 34), (33, 0), (40, 32), (40, 39), (40, 40),
+        (40, 41), (0, 0), (0, 1), (1, 0), (1, 1), (1, 2), (2, 32), (99999, 3), (99999, 0)];
+    let even = [(2, 8, 7), (2, 8, 8), (2, 8, 9), (2, 9, 8), (2, 9, 9), (16, 3, 2), (16, 3, 3), (17, 2, 1), (17, 2, 2), (0, 2, 3)];
+    let short = short.into_iter().map(|(k, count)| counted(plain(false, 2, k, 4), count));
+    short.chain(even.into_iter().map(|(n, k, count)| counted(plain(true, n, k, 4), count))).collect()
+}
+
+/// Texts with good lines and then one with another number in it, which is out of form or out of range, among them a line more than a value has
+/// places for.
+fn late_faults() -> Vec<String> {
+    let all = [(32, 31, "01"), (32, 32, "01"), (33, 32, "01"), (33, 32, "12345678"), (33, 32, "0"), (40, 39, ""), (1, 0, "01"), (0, 0, "01"), (99999, 1, "01")];
+    all.into_iter().map(|(k, count, last)| format!("{}length={last}\n", counted(plain(false, 2, k, 4), count))).collect()
+}
+
+/// What may stand in the place of a length and is none in form, so that it is 1.
+const NO_LENGTHS: [&str; 22] = ["", "00", "01", "007", "0000007", "00000007", "10000000", "12345678", "4294967300", "18446744073709551623", "+7", "-7", " 7",
+    "7 ", "7\r", "7\0", "x", "7x", "0x7", "7.0", "\u{667}", ":"];
+
+/// What may stand in the place of a line with the length 7, and is no such line.
+const NO_LENGTH_LINES: [&str; 14] = ["Length=7\n", "LENGTH=7\n", "length =7\n", " length=7\n", "lengths=7\n", "lenght=7\n", "length:7\n", "length 7\n",
+    "length\n", "7\n", "length=7", "length=7\n\n", "\nlength=7\n", "length=7\nsum=add\n"];
+
+/// The text of a catalogue of three packs, and in the first, the middle or the last of its lengths what is none in form.
+fn other_lengths(c: Catalogue) -> Vec<String> {
+    let (start, good) = (write_text(unmeasured(c)), c.lengths[..3].iter().map(|x| format!("length={x}\n")).collect::<Vec<_>>());
+    let with = |p: usize, line: String| format!("{start}{}{line}{}", good[..p].concat(), good[p + 1..].concat());
+    let numbers = NO_LENGTHS.iter().enumerate().flat_map(|(i, x)| [i % 3, 2 - i % 2].map(|p| with(p, format!("length={x}\n"))));
+    let lines = NO_LENGTH_LINES.iter().enumerate().flat_map(|(i, line)| [2, i % 2].map(|p| with(p, line.to_string())));
+    numbers.chain(lines).collect()
+}
+
+/// The text with every line, with some of its lengths before the others, between them, twice, or after what may not follow.
+fn moved_lengths() -> Vec<String> {
+    let text = write_text(all_lines());
+    let lengths = length_text(&all_lines().lengths[..3]);
+    let start = text.strip_suffix(&lengths).unwrap();
+    let before = ["code=", "mirrors=", "piece=", "open=", "close=", "sum="].map(|name| start.replacen(name, &format!("{lengths}{name}"), 1));
+    let one = ["open=", "close=", "sum="].map(|name| text.replacen("length=7\n", "", 1).replacen(name, &format!("length=7\n{name}"), 1));
+    let again = ["sum=", "open="].map(|name| text.replacen(name, &format!("{lengths}{name}"), 1));
+    let season = season_text(&spelled(A), &spelled(B));
+    let after = ["sum=add\n", &season, "\n", "l", "length", "length=", "length=7", "length=7\n", "length=01\n", "Length=7\n", &lengths];
+    before.into_iter().chain(one).chain(again).chain(after.map(|more| format!("{text}{more}"))).collect()
+}
+
 // ---------------------------------------------------------------- cases for the conformance program: what each line gives
 
 /// The numbers that keys and stores are drawn from, in `conformance` as here.
@@ -958,14 +1129,15 @@ fn shown_bytes(bytes: &[u8]) -> String {
     out + " )"
 }
 
-/// A catalogue as a line gives it, whose dates other lines set.
+/// A catalogue as a line gives it, whose dates and lengths other lines set.
 fn given(c: Catalogue) -> String {
     format!("{} {} {} {} {}", c.even as u8, c.n, c.k, c.s, c.add as u8)
 }
 
 fn shown_catalogue(c: Catalogue) -> String {
-    let dates = [c.open, c.close].concat().iter().map(|x| x.to_string()).collect::<Vec<_>>();
-    format!("{} {}", given(c), dates.join(" "))
+    let places = c.lengths.iter().rposition(|&length| length != 0).map_or(0, |last| last + 1);
+    let numbers = [&c.open[..], &c.close, &[c.measured as usize, places], &c.lengths[..places]].concat();
+    format!("{} {}", given(c), numbers.iter().map(|x| x.to_string()).collect::<Vec<_>>().join(" "))
 }
 
 fn shown_session(s: &Session) -> String {
@@ -981,12 +1153,11 @@ fn outcome(result: Result<usize, u8>) -> String {
     result.map_or_else(|refusal| format!("-{refusal}"), |value| value.to_string())
 }
 
-/// What stands between two lines: the catalogue, the dates that the next one gets, the day that it is, the session, the lent buffers, and how
-/// much of key and store is lent.
+/// What stands between two lines: the catalogue, one with the dates and lengths that the next one gets, the day that it is, the session, the lent
+/// buffers, and how much of key and store is lent.
 struct Bench {
     cat: Catalogue,
-    open: Day,
-    close: Day,
+    next: Catalogue,
     today: Day,
     session: Session,
     key: Bytes,
@@ -1003,8 +1174,7 @@ const LENGTHS: [usize; 6] = [2304, 262656, 2304, 66048, 139776, 131584];
 impl Bench {
     fn new() -> Bench {
         let [key, store, query, answer, answers, message] = LENGTHS.map(|length| vec![0; length]);
-        let [open, close, today] = [NO_DAY; 3];
-        Bench { cat: ZERO, open, close, today, session: blank(), key, store, query, answer, answers, message, lent: [0, 0] }
+        Bench { cat: ZERO, next: ZERO, today: NO_DAY, session: blank(), key, store, query, answer, answers, message, lent: [0, 0] }
     }
 
     /// A line that reads a catalogue's text.
@@ -1023,11 +1193,13 @@ impl Bench {
 
     /// A line of a letter and numbers; those that make no call print nothing.
     fn line(&mut self, letter: &str, [a, b, c, d, e]: [usize; 5]) -> String {
-        let cat = Catalogue { add: e != 0, ..dated(plain(a != 0, b, c, d), self.open, self.close) };
+        let cat = Catalogue { even: a != 0, n: b, k: c, s: d, add: e != 0, ..self.next };
         match letter {
             "c" => return self.catalogue(cat),
-            "f" => self.open = [a, b, c],
-            "l" => self.close = [a, b, c],
+            "f" => self.next.open = [a, b, c],
+            "l" => self.next.close = [a, b, c],
+            "p" => (self.next.measured, self.next.lengths) = (a != 0, [0; 32]),
+            "m" => self.next.lengths.iter_mut().skip(a).take(1).for_each(|place| *place = b % (1 << 32)),
             "n" => self.today = [a, b, c],
             "k" => {
                 if admitted(self.cat) {
@@ -1050,7 +1222,7 @@ impl Bench {
             "y" => self.session.key[a] = b as u8,
             "u" => self.session.issued[a] = b != 0,
             "j" => self.session.taken[a] = b != 0,
-            "x" => return self.whole(a),
+            "x" => return self.whole(a, b),
             _ => return self.call(letter, a, b, c),
         }
         String::new()
@@ -1109,9 +1281,10 @@ impl Bench {
         }
     }
 
-    /// A whole fetch, in buffers of exactly the lengths that it needs, on one day: in season nothing is refused and the pack is the store's; out of
-    /// season each issue, each answer and each take is refused, and then recover, which misses the answers.
-    fn whole(&mut self, wanted: usize) -> String {
+    /// A whole fetch, in buffers of exactly the lengths that it needs, the pack's a number of bytes less than the whole, on one day: in season nothing
+    /// is refused and the pack is the store's, unless its buffer is too short; out of season each issue, each answer and each take is refused, and
+    /// then recover, which misses the answers.
+    fn whole(&mut self, wanted: usize, less: usize) -> String {
         let mut session = match begin(self.cat, wanted, &self.key[..self.lent[0]]) {
             Ok(session) => session,
             Err(refusal) => return format!("x {refusal}\n"),
@@ -1132,13 +1305,13 @@ impl Bench {
             answers = sum(answers, &answer);
             received += answer.len();
         }
-        let message = &mut self.message[..pack_length(cat)];
+        let message = &mut self.message[..pack_length(cat).saturating_sub(less)];
         message.fill(204);
         let gave = verdict(session.recover(&self.answers[..slots], message));
-        match season {
-            Ok(()) => assert_eq!((gave, &*message), (0, &store[wanted * pack_length(cat)..(wanted + 1) * pack_length(cat)])),
-            Err(_) => assert_eq!(gave, 12),
-        }
+        let meant = &store[wanted * pack_length(cat)..][..pack_end(cat, wanted)];
+        let (number, written) = if message.len() < meant.len() { (9, 0) } else { season.map_or((12, 0), |_| (0, meant.len())) };
+        assert_eq!((gave, &message[..written]), (number, &meant[..written]));
+        assert!(message[written..].iter().all(|&b| b == 204));
         format!("x 0 {queries} {answers} {received} {gave} {}\n", shown_bytes(message))
     }
 }
@@ -1194,15 +1367,15 @@ fn month_ends(year: usize) -> Vec<Day> {
 
 /// A catalogue in the title of a section.
 fn titled(c: Catalogue) -> String {
-    if has_dates(c) { format!("{} {} {}", given(c), spelled(c.open), spelled(c.close)) } else { given(c) }
+    let lengths = if c.measured { " with lengths" } else { "" };
+    if has_dates(c) { format!("{} {} {}{lengths}", given(c), spelled(c.open), spelled(c.close)) } else { format!("{}{lengths}", given(c)) }
 }
 
-/// The lines so far, and the dates that the last of them have set.
+/// The lines so far, and a catalogue with the dates and lengths that the last of them have set.
 struct Cases {
     out: Bytes,
     draw: Draw,
-    open: Day,
-    close: Day,
+    last: Catalogue,
 }
 
 impl Cases {
@@ -1212,6 +1385,7 @@ impl Cases {
     }
 
     fn text(&mut self, text: &[u8]) {
+        assert!(!text.contains(&b'~'));
         self.out.push(b't');
         self.out.extend_from_slice(text);
         self.out.extend(b"~\n");
@@ -1225,15 +1399,31 @@ impl Cases {
         self.day("n", day);
     }
 
-    /// The dates of the catalogues in the next lines, where they are others than in the last ones.
-    fn dates(&mut self, c: Catalogue) {
-        if self.open != c.open {
+    /// The dates and the lengths of the catalogues in the next lines, where they are others than in the last ones.
+    fn optional(&mut self, c: Catalogue) {
+        if self.last.open != c.open {
             self.day("f", c.open);
         }
-        if self.close != c.close {
+        if self.last.close != c.close {
             self.day("l", c.close);
         }
-        (self.open, self.close) = (c.open, c.close);
+        if (self.last.measured, self.last.lengths) != (c.measured, c.lengths) {
+            self.lengths(c);
+        }
+        self.last = c;
+    }
+
+    /// The lengths, by fewest lines: the mark anew and each place that is not zero, or each place that is another than it was.
+    fn lengths(&mut self, c: Catalogue) {
+        let filled: Vec<usize> = (0..32).filter(|&p| c.lengths[p] != 0).collect();
+        let changed: Vec<usize> = (0..32).filter(|&p| c.lengths[p] != self.last.lengths[p]).collect();
+        let anew = self.last.measured != c.measured || changed.len() > filled.len();
+        if anew {
+            self.put(format!("p {}", c.measured as u8));
+        }
+        for p in if anew { filled } else { changed } {
+            self.put(format!("m {p} {}", c.lengths[p]));
+        }
     }
 
     /// A text with each byte of these lines of it changed in a bit, and cut off with all that follows.
@@ -1248,13 +1438,13 @@ impl Cases {
     }
 
     fn catalogue(&mut self, c: Catalogue) {
-        self.dates(c);
+        self.optional(c);
         self.put(format!("c {}", given(c)));
     }
 
     /// A catalogue put into the session.
     fn hold(&mut self, c: Catalogue) {
-        self.dates(c);
+        self.optional(c);
         self.put(format!("g {}", given(c)));
     }
 
@@ -1280,10 +1470,11 @@ impl Cases {
         self.put("w 100".to_string());
         self.text(b"code=even\nmirrors=99999\npacks=99999\npiece=99999\n\n");
         let good = write_text(plain(false, 3, 12, 40));
-        for (from, to) in [("short", "Short"), ("short", "shorts"), ("short", ""), ("mirrors=3", "mirrors=03"), ("mirrors=3", "mirrors="), ("mirrors=3", "mirrors=0"),
-            ("mirrors=3", "mirrors=+3"), ("mirrors=3", " mirrors=3"), ("mirrors=3", "mirrors=3 "), ("packs=12", "packs=00"), ("packs=12", "packs=000012"),
-            ("packs=12", "packs=100012"), ("packs=12", "packs=1x"), ("piece=40\n", "piece=40"), ("piece=40\n", "piece=40\r\n"), ("piece=40", "piece=40960"), ("piece", "pieces"),
-            ("mirrors=3\npacks=12", "packs=12\nmirrors=3"), ("code=short\n", ""), ("code=short\n", "code=short\ncode=short\n")] {
+        for (from, to) in [("short", "Short"), ("short", "shorts"), ("short", ""), ("mirrors=3", "mirrors=03"), ("mirrors=3", "mirrors="),
+            ("mirrors=3", "mirrors=0"), ("mirrors=3", "mirrors=+3"), ("mirrors=3", " mirrors=3"), ("mirrors=3", "mirrors=3 "), ("packs=12", "packs=00"),
+            ("packs=12", "packs=000012"), ("packs=12", "packs=100012"), ("packs=12", "packs=1x"), ("piece=40\n", "piece=40"), ("piece=40\n", "piece=40\r\n"),
+            ("piece=40", "piece=40960"), ("piece", "pieces"), ("mirrors=3\npacks=12", "packs=12\nmirrors=3"),
+            ("code=short\n", ""), ("code=short\n", "code=short\ncode=short\n")] {
             self.text(good.replacen(from, to, 1).as_bytes());
         }
         self.damaged(&good, &good);
@@ -1347,7 +1538,7 @@ impl Cases {
 
     /// The requests and answers of the papers' tables: I to III of 000 and those of 003, with keys that leave places in order.
     fn papers(&mut self) {
-        self.dates(ZERO);
+        self.optional(ZERO);
         self.put("# 000, table I".to_string());
         self.put("c 0 2 2 1\ns 1 2\nd 0 90\nd 1 195".to_string());
         for (key, wanted) in [(0, 0), (1, 0), (0, 1), (1, 1)] {
@@ -1442,7 +1633,7 @@ impl Cases {
 
     /// Every refusal of every call, each with what is just accepted beside it.
     fn refusals(&mut self, c: Catalogue) {
-        let (asked, slots, pack) = (request_length(c), c.n * slot(c), pack_length(c));
+        let (asked, slots, stored, pack) = (request_length(c), c.n * slot(c), c.k * pack_length(c), pack_end(c, 0));
         let last = c.n - 1;
         self.put(format!("# refusals {}", titled(c)));
         // a catalogue out of bounds, one of a single pack, and one that adds odd pieces: 2, 17 and 15 of every call that is given one
@@ -1471,8 +1662,8 @@ impl Cases {
         self.put(format!("a {last} {} {}\na {last} {} {}", asked + 1, slot(c), asked - 1, slot(c)));
         self.put(format!("a 0 {asked} {}", slot(c)));
         self.put(format!("q {} {most}\na {last} {asked} {}", asked - 1, slot(c)));
-        for (seed, length) in [(7, c.k * pack + 1), (7, c.k * pack - 1), (7, 0), (7, c.k * pack)] {
-            self.put(format!("s {seed} {length}\ni {last} {asked}\na {last} {asked} {}", slot(c)));
+        for length in [stored + 1, stored - 1, 0, stored] {
+            self.put(format!("s 7 {length}\ni {last} {asked}\na {last} {asked} {}", slot(c)));
         }
         // take: 3, 9, 10, 11, and a second one
         self.put(format!("h 0 {} {slots}", slot(c)));
@@ -1491,7 +1682,7 @@ impl Cases {
     fn fields(&mut self, c: Catalogue, asked: usize, slots: usize, pack: usize) {
         let calls = format!("i 0 {asked}\nh 0 {} {slots}\nr {slots} {pack}", slot(c));
         let set_cat = |n: usize, k: usize, s: usize| format!("g {}", given(Catalogue { n, k, s, ..c }));
-        self.dates(c);
+        self.optional(c);
         let most = if c.even { pieces(c) } else { c.n };
         let mut sets = vec![
             (set_cat(17, c.k, c.s), set_cat(c.n, c.k, c.s)),
@@ -1537,7 +1728,8 @@ impl Cases {
     fn odd_piece(&mut self, whole: Catalogue) {
         self.put(format!("# odd piece {}", titled(whole)));
         let odd = Catalogue { s: whole.s - 1, ..whole };
-        let other = [Catalogue { n: 17, ..odd }, Catalogue { s: 4097, ..odd }, Catalogue { k: 1, ..odd }, Catalogue { n: 1, k: 1, ..odd }, Catalogue { add: false, ..odd }];
+        let one = Catalogue { k: 1, ..odd };
+        let other = [Catalogue { n: 17, ..odd }, Catalogue { s: 4097, ..odd }, one, Catalogue { n: 1, ..one }, Catalogue { add: false, ..odd }];
         for c in [whole, odd].into_iter().chain(other) {
             let text = write_text(c);
             for bytes in [&text, &format!("{text}\n"), &text[..text.len() - 1], &format!("{text}wanted=0\nkey=\n")] {
@@ -1586,16 +1778,16 @@ impl Cases {
 
     /// A session for pack 1 that takes all answers.
     fn all_taken(&mut self, two: Catalogue) {
-        let (asked, room, slots, pack) = (request_length(two), slot(two), two.n * slot(two), pack_length(two));
+        let (asked, room, slots) = (request_length(two), slot(two), two.n * slot(two));
         self.catalogue(two);
-        self.put(format!("s 5 {}\nk 0 {}\nb 1", two.k * pack, key_length(two)));
+        self.put(format!("s 5 {}\nk 0 {}\nb 1", two.k * pack_length(two), key_length(two)));
         for mirror in 0..two.n {
             self.put(format!("i {mirror} {asked}\na {mirror} {asked} {room}\nh {mirror} {room} {slots}\nh {mirror} 0 {slots}"));
         }
     }
 
     fn held_calls(&mut self, two: Catalogue, held: &[Catalogue]) {
-        let (asked, room, slots, pack) = (request_length(two), slot(two), two.n * slot(two), pack_length(two));
+        let (asked, room, slots, pack) = (request_length(two), slot(two), two.n * slot(two), pack_end(two, 1));
         for &c in held {
             self.hold(c);
             // nothing else, then 4, 6, 11 by a mark, 11 or 12 by a mark; with each 3, 9, 10
@@ -1796,7 +1988,7 @@ impl Cases {
     /// Fetches whose calls come on days in season and out of it: begun, taken and recovered out of it; issued in it and asked out of it, and the other
     /// way round.
     fn across(&mut self, c: Catalogue) {
-        let (asked, room, slots, pack) = (request_length(c), slot(c), c.n * slot(c), pack_length(c));
+        let (asked, room, slots, pack) = (request_length(c), slot(c), c.n * slot(c), pack_end(c, 1));
         self.put(format!("# across the ends {}", titled(c)));
         let (first, last, before, after) = (c.open, later(c.close, -1), later(c.open, -1), c.close);
         self.today(before);
@@ -1818,6 +2010,225 @@ impl Cases {
         for day in [after, NO_DAY, HUGE[5], first] {
             self.today(day);
             self.put(format!("r {slots} {pack}\ni 0 {asked}"));
+        }
+    }
+
+    /// Texts with lengths (02, item 6), in both codes and sums, with dates and without: good, written, before more lines, with other numbers of lines.
+    fn length_texts(&mut self) {
+        self.put("# texts with lengths".to_string());
+        let codes = [plain(false, 3, 3, 4), plain(true, 2, 2, 2)];
+        for c in codes.into_iter().flat_map(|c| [c, adding(c), dated(c, A, B), dated(adding(c), A, B)]) {
+            let text = write_text(with_some(c));
+            self.text(text.as_bytes());
+            for room in [text.len(), text.len() - 1, text.len() - 9, text.len() + 3, 0] {
+                self.put(format!("w {room}"));
+            }
+            for more in ["wanted=0\n", "length=1\n", if c.add { "length=" } else { "lengt" }] {
+                self.text(format!("{text}{more}").as_bytes());
+            }
+            for count in [0, 1, c.k - 1, 2 * c.k] {
+                self.text(format!("{}{}", counted(c, count), if c.even { "wanted=0\n" } else { "" }).as_bytes());
+            }
+        }
+        for text in moved_lengths() {
+            self.text(text.as_bytes());
+        }
+        let good = write_text(measured(dated(adding(plain(false, 3, 2, 6)), A, B), &[7, 12]));
+        for (from, to) in [("", ""), ("packs=2", "packs=000002"), ("piece=6", "piece=0000006"), ("mirrors=3", "mirrors=100003")] {
+            self.text(good.replacen(from, to, 1).as_bytes());
+        }
+        self.damaged(&good, &good);
+    }
+
+    /// Numbers of lengths in texts: as many as packs and not, in bounds and out of them, with a fault besides; a later line that is out of form; then
+    /// writing 32 of them.
+    fn count_texts(&mut self) {
+        self.put("# numbers of lengths".to_string());
+        for (i, text) in counted_lines().into_iter().enumerate() {
+            self.text(format!("{text}{}", if i % 3 == 2 { "wanted=0\n" } else { "" }).as_bytes());
+        }
+        for text in late_faults() {
+            self.text(text.as_bytes());
+        }
+        self.text(counted(plain(false, 2, 33, 4), 33).trim_end().as_bytes());
+        for c in [plain(false, 2, 32, 4), adding(plain(false, 16, 32, 4096)), plain(true, 2, 8, 4096)] {
+            let text = write_text(with_some(c));
+            self.text(text.as_bytes());
+            for room in [text.len(), text.len() - 1, text.len() + 1] {
+                self.put(format!("w {room}"));
+            }
+        }
+    }
+
+    /// What may stand in a line `length=`, in the first, a middle or the last one: each bound from both sides, in packs of one byte up to a million;
+    /// with a single pack or an odd piece besides; out of form.
+    fn number_texts(&mut self) {
+        self.put("# lengths in texts".to_string());
+        for (even, n, k, s) in [(false, 3, 3, 4), (false, 2, 2, 1), (true, 2, 8, 4096), (true, 3, 2, 3641), (false, 16, 3, 4096)] {
+            let c = with_some(plain(even, n, k, s));
+            let whole = pack_length(c);
+            for (i, number) in [0, 1, whole - 1, whole, whole + 1, 99999, 100000, 9999999, 10000000].into_iter().enumerate() {
+                self.text(write_text(placed(c, i * (k - 1) % k, number)).as_bytes());
+            }
+            for place in [0, k / 2, k - 1].into_iter().filter(|_| s < 4096) {
+                self.text(write_text(placed(c, place, 0)).as_bytes());
+                self.text(write_text(placed(c, place, whole + 1)).as_bytes());
+            }
+        }
+        let (one, odd) = (plain(false, 2, 1, 4), adding(plain(true, 2, 2, 3)));
+        for c in [one, plain(true, 2, 1, 3), adding(plain(false, 3, 1, 3)), odd, plain(true, 2, 2, 3), plain(false, 1, 2, 4), plain(false, 2, 2, 4097)] {
+            let (start, whole) = (write_text(c), (c.n - 1) * c.s);
+            for number in ["0", "1", &whole.to_string(), "9999", "9999999", "01"] {
+                self.text(format!("{start}{}", length_text(&vec![number; c.k])).as_bytes());
+            }
+        }
+        for text in other_lengths(measured(plain(false, 3, 3, 6), &[7, 6, 12])) {
+            self.text(text.as_bytes());
+        }
+    }
+
+    /// Catalogue values with lengths, written and in begin: each fault of the lengths, and what is just none; with each other fault of a value
+    /// besides; and then in every call.
+    fn length_values(&mut self, c: Catalogue) {
+        self.put(format!("# lengths in values {}", titled(c)));
+        self.catalogue(c);
+        self.lend(c);
+        let (good, faulty) = (with_some(c), length_faults(c));
+        let ends = [0, c.k / 2, c.k - 1].into_iter().flat_map(|p| [1, pack_length(c)].map(|length| placed(good, p, length)));
+        for c in [c, good].into_iter().chain(ends).chain(faulty.iter().copied()) {
+            self.catalogue(c);
+            self.put(format!("w 120\nb {}", c.k - 1));
+        }
+        for c in [0, 3, 4, 5, 6, 8, 10, 12].map(|i| faulty[i]).into_iter().chain([good]) {
+            let (one, odd) = (Catalogue { k: 1, ..c }, Catalogue { s: 7, ..adding(c) });
+            let single = placed(Catalogue { measured: c.measured, ..measured(one, &c.lengths[..1]) }, 1, c.lengths[c.k]);
+            for c in [Catalogue { n: 17, ..c }, odd, one, single, Catalogue { s: 7, ..adding(single) }] {
+                self.catalogue(c);
+                self.put("w 0\nb 9".to_string());
+            }
+        }
+        for c in [good, faulty[0], faulty[5], faulty[8]] {
+            self.given_values(c, c);
+        }
+        self.held_values(good, &[faulty[1], faulty[4], faulty[6], faulty[10], good]);
+        self.held_values(c, &[faulty[7], good, c]);
+    }
+
+    /// Places at the end of a value: 32 packs fill them all, 31 leave the last one.
+    fn last_places(&mut self) {
+        self.put("# lengths of 31 and 32 packs".to_string());
+        for c in [plain(false, 2, 32, 40), plain(false, 2, 31, 40), adding(plain(false, 16, 32, 4096)), plain(true, 2, 8, 4096)] {
+            let (good, whole) = (with_some(c), pack_length(c));
+            self.catalogue(good);
+            self.lend(fitted(c, 40));
+            for (place, number) in [30, 31, c.k - 1].into_iter().flat_map(|place| [0, 1, whole, whole + 1].map(|number| (place, number))) {
+                self.catalogue(placed(good, place, number));
+                self.put("w 700\nb 1".to_string());
+            }
+            for c in [placed(c, 31, 1), placed(c, 30, 1), measured(c, &[]), c] {
+                self.catalogue(c);
+                self.put("w 700\nb 1".to_string());
+            }
+        }
+    }
+
+    /// 2 by a length before 13 and 14, which come as ever where the lengths are good; issue, answering, and a whole fetch.
+    fn length_days(&mut self, c: Catalogue) {
+        self.put(format!("# lengths and days {}", titled(c)));
+        let (asked, room, slots, pack) = (request_length(c), slot(c), c.n * slot(c), pack_end(c, 1));
+        self.today(c.open);
+        self.all_taken(c);
+        for day in [c.open, c.close, UNREAL[2]] {
+            self.today(day);
+            for c in [c, unmeasured(c), placed(c, 0, 0), placed(c, c.k, 1), Catalogue { measured: false, ..c }, placed(c, 1, pack_length(c) + 1)] {
+                self.catalogue(c);
+                self.put(format!("a 0 {asked} {room}\na 17 0 0\nx 1\nx 1 {}", pack_length(c) - pack + 1));
+                self.hold(c);
+                self.put(format!("i 0 {asked}\ni 17 0\nh 0 {room} {slots}\nr {slots} {pack}\nr {slots} {}", pack - 1));
+            }
+        }
+    }
+
+    /// Whole fetches of packs with these lengths, so many at a time as there are packs: into room for the whole, for the length, and for a byte less.
+    fn cut_fetches(&mut self, c: Catalogue, lengths: &[usize]) {
+        self.catalogue(c);
+        self.lend(c);
+        for start in (0..lengths.len()).step_by(c.k) {
+            let some: Vec<usize> = lengths.iter().cycle().skip(start).take(c.k).copied().collect();
+            self.catalogue(measured(c, &some));
+            for (wanted, length) in some.into_iter().enumerate() {
+                let spare = pack_length(c) - length;
+                self.put(format!("x {wanted}\nx {wanted} {spare}\nx {wanted} {}", spare + 1));
+            }
+        }
+    }
+
+    /// Fetches of packs that end at, before and behind the end of each piece, where there are few of them, else of some: in both codes and sums, with
+    /// pieces of one byte, of one word and long ones, and the largest packs; the answer buffer is full of ones before.
+    fn length_fetches(&mut self) {
+        self.put("# fetches with lengths\nz 255".to_string());
+        self.today(A);
+        let short = [(2, 2, 1), (3, 3, 1), (4, 3, 5), (3, 2, 4), (5, 4, 2), (2, 3, 4095)].map(|(n, k, s)| plain(false, n, k, s));
+        let even = [(2, 2, 3), (2, 3, 2), (3, 2, 4), (3, 3, 1), (2, 8, 2), (16, 2, 1), (4, 2, 4096)].map(|(n, k, s)| plain(true, n, k, s));
+        for c in short.into_iter().chain(even).chain([fitted(plain(true, 2, 8, 1), 4096), plain(false, 16, 2, 4096)]) {
+            let c = Catalogue { add: c.s % 2 == 0, ..c };
+            self.cut_fetches(c, &ends(c));
+        }
+        self.cut_fetches(dated(plain(false, 4, 3, 4), A, B), &[1, 6, 12, 5, 8, 11]);
+        // 32 packs of other lengths each
+        self.cut_fetches(plain(false, 5, 32, 9), &(1..=36).rev().collect::<Vec<_>>());
+        self.cut_fetches(adding(plain(false, 16, 32, 4)), &(29..=60).collect::<Vec<_>>());
+        // without the lines: the whole pack, as ever
+        for c in [plain(false, 4, 3, 5), adding(plain(true, 2, 3, 2))] {
+            self.catalogue(c);
+            self.lend(c);
+            self.put(format!("x 1\nx 1 0\nx 1 1\nx 2 {}\nx 2 {}\nx {} 1", pack_length(c), pack_length(c) + 1, c.k));
+        }
+    }
+
+    /// Recovery of a session with other lengths in it, each time into room for the length, a byte less, the whole pack, and more; from answers of the
+    /// mirrors, or from any bytes. Then for the other packs, as if they had been wanted, and 9 beside each number that may come instead.
+    fn cut_session(&mut self, c: Catalogue, honest: bool) {
+        self.put(format!("# recovery with lengths {}", titled(c)));
+        let (asked, room, slots, whole) = (request_length(c), slot(c), c.n * slot(c), pack_length(c));
+        let (ends, wanted, store, key) = (ends(c), self.draw.below(c.k), 1 + self.draw.below(9999), 1 + self.draw.below(9999));
+        self.catalogue(with_some(c));
+        self.put(format!("s {store} {}\nk {key} {}\nz 255\nb {wanted}", c.k * whole, key_length(c)));
+        for mirror in 0..c.n {
+            let answer = if honest { format!("a {mirror} {asked} {room}") } else { format!("e {}", 1 + self.draw.below(9999)) };
+            self.put(format!("i {mirror} {asked}\n{answer}\nh {mirror} {room} {slots}\nh {mirror} 0 {slots}"));
+        }
+        for start in (0..ends.len()).step_by(2) {
+            let some: Vec<usize> = ends.iter().cycle().skip(start).take(c.k).copied().collect();
+            self.hold(measured(c, &some));
+            let length = some[wanted];
+            self.put(format!("r {slots} {length}\nr {slots} {}\nr {slots} {whole}\nr {slots} {}", length - 1, whole + 2));
+        }
+        self.hold(with_some(c));
+        let lengths = some_lengths(c);
+        for pack in (0..c.k).filter(|pack| c.k < 9 || pack % 7 < 2) {
+            self.put(format!("v {pack}\nr {slots} {}\nr {slots} {}", lengths[pack], lengths[pack] - 1));
+        }
+        let (length, less, few) = (lengths[wanted], lengths[wanted] - 1, slots - 1);
+        let (back, digit) = (format!("v {wanted}"), format!("y 0 {}", drawn_key(key as u64, c, key_length(c))[0]));
+        for (set, undo) in [("v 99", &back[..]), ("y 0 255", &digit), ("u 0 0", "u 0 1"), ("j 0 0", "j 0 1")] {
+            self.put(format!("{set}\nr {slots} {length}\nr {slots} {less}\nr {few} {length}\nr {few} {less}\nr {slots} 0\n{undo}"));
+        }
+    }
+
+    /// The same fetch with lengths and without: what each mirror is sent, what it answers, and what is received do not differ.
+    fn same_exchanges(&mut self, c: Catalogue) {
+        self.put(format!("# the same exchanges {}", titled(c)));
+        self.catalogue(c);
+        self.lend(c);
+        for c in [c, with_some(c), measured(c, &vec![1; c.k])] {
+            let (asked, room) = (request_length(c), slot(c));
+            self.catalogue(c);
+            self.put("b 1".to_string());
+            for mirror in 0..c.n {
+                self.put(format!("i {mirror} {asked}\na {mirror} {asked} {room}\na {mirror} {asked} {}", room - 1));
+            }
+            self.put("x 1\nx 0".to_string());
         }
     }
 
@@ -1845,7 +2256,7 @@ impl Cases {
                 1 => length + 1,
                 _ => length,
             };
-            let (asked, room, slots, pack) = (near(request_length(c)), near(slot(c)), near(c.n * slot(c)), near(pack_length(c)));
+            let (asked, room, slots, pack) = (near(request_length(c)), near(slot(c)), near(c.n * slot(c)), near(pack_end(c, wanted)));
             let size = near(slot(c));
             let line = match self.draw.below(12) {
                 0 | 1 => format!("i {mirror} {asked}"),
@@ -1864,7 +2275,7 @@ impl Cases {
 
 /// The lines of the program `conformance`.
 fn cases() -> Bytes {
-    let mut cases = Cases { out: Vec::new(), draw: Draw(7), open: NO_DAY, close: NO_DAY };
+    let mut cases = Cases { out: Vec::new(), draw: Draw(7), last: ZERO };
     cases.texts();
     cases.sum_texts();
     cases.bounds();
@@ -1892,6 +2303,7 @@ fn cases() -> Bytes {
         cases.session(adding(plain(even, n, k, s)), 40);
     }
     seasons(&mut cases);
+    lengths(&mut cases);
     cases.out
 }
 
@@ -1916,6 +2328,63 @@ fn seasons(cases: &mut Cases) {
         let (open, close) = SEASONS[i * 2 % 3];
         cases.session(dated(Catalogue { add: i % 2 == 1, ..plain(even, n, k, s) }, open, close), 40);
     }
+}
+
+/// The lines about lengths (02, item 6).
+fn lengths(cases: &mut Cases) {
+    cases.length_texts();
+    cases.count_texts();
+    cases.number_texts();
+    cases.length_values(plain(false, 3, 3, 2));
+    cases.length_values(adding(plain(true, 2, 2, 2)));
+    cases.last_places();
+    for (c, (open, close)) in [plain(false, 3, 2, 3), adding(plain(true, 2, 2, 2))].into_iter().zip(SEASONS) {
+        cases.length_days(with_some(dated(c, open, close)));
+    }
+    cases.length_fetches();
+    for (even, n, k, s) in [(false, 3, 3, 3), (false, 4, 2, 4), (true, 2, 2, 1), (true, 2, 2, 4), (true, 3, 2, 3), (false, 2, 32, 40)] {
+        let c = Catalogue { add: s == 4, ..plain(even, n, k, s) };
+        cases.cut_session(c, false);
+        if k < 32 {
+            cases.cut_session(c, true);
+        }
+    }
+    for c in [plain(false, 3, 3, 2), adding(plain(true, 2, 3, 2))] {
+        cases.same_exchanges(c);
+        cases.refusals(with_some(c));
+    }
+    let sizes = [(false, 2, 2, 3), (false, 4, 3, 4096), (false, 5, 32, 2), (true, 2, 3, 2), (true, 3, 2, 5), (true, 4, 2, 4096)];
+    for (i, (even, n, k, s)) in sizes.into_iter().enumerate() {
+        let c = Catalogue { add: s % 2 == 0, ..plain(even, n, k, s) };
+        let numbers: Vec<usize> = (0..k).map(|_| 1 + cases.draw.below(pack_length(c))).collect();
+        let (open, close) = SEASONS[i];
+        cases.session(if i % 3 == 2 { dated(measured(c, &numbers), open, close) } else { measured(c, &numbers) }, 32);
+    }
+}
+
+/// Values that break the rule of the lengths, of an admitted catalogue without them: places past the packs filled, a mark without lengths, lengths without
+/// the mark, and a length that is zero or beyond the whole pack, also where its lowest bytes are good.
+fn length_faults(c: Catalogue) -> Vec<Catalogue> {
+    let (good, whole) = (with_some(c), pack_length(c));
+    let mut all = vec![placed(good, c.k, 1), placed(good, 31, 1), placed(good, 31, u32::MAX as usize), placed(good, c.k, whole)];
+    all.extend([measured(c, &[]), Catalogue { measured: false, ..good }]);
+    all.extend([0, c.k - 1, c.k, 31].map(|p| placed(c, p, 1)));
+    for p in [0, c.k / 2, c.k - 1] {
+        all.extend([0, whole + 1].map(|length| placed(good, p, length)));
+    }
+    all.extend([8, 16, 24, 31].map(|bit| placed(good, bit / 8 * (c.k - 1) % c.k, whole + (1 << bit))));
+    all.extend([0, c.k - 1].map(|p| placed(good, p, u32::MAX as usize)));
+    all
+}
+
+/// Lengths at the ends of pieces, a byte before and a byte behind: of all pieces, or of the first, middle and last ones.
+fn ends(c: Catalogue) -> Vec<usize> {
+    let (m, whole) = (pieces(c), pack_length(c));
+    let near = (0..=m).filter(|&b| m <= 9 || [0, 1, 2, m / 2, m - 1, m].contains(&b)).flat_map(|b| [b * c.s, b * c.s + 1, (b * c.s).wrapping_sub(1)]);
+    let mut all: Vec<usize> = near.filter(|length| (1..=whole).contains(length)).collect();
+    all.sort();
+    all.dedup();
+    all
 }
 
 /// The sum of 02, item 2, by its words: low byte first, carried into the high one, wrapping at 65,536, nothing carried into the next word.
@@ -2016,6 +2485,68 @@ fn fetches() {
     }
 }
 
+/// Lengths by 02, item 6: read and written, their number, their refusals and the order of these.
+fn length_rules() {
+    for c in [plain(false, 3, 3, 4), adding(plain(true, 2, 2, 2)), dated(plain(false, 2, 31, 40), A, B), dated(adding(plain(true, 2, 8, 4096)), A, B)] {
+        let (good, whole) = (with_some(c), pack_length(c));
+        assert_eq!(read(write_text(good).as_bytes()), Ok(good));
+        let counts = [0, c.k, 1, c.k - 1, c.k + 1, 2 * c.k].map(|count| read(counted(c, count).as_bytes()).map(unmeasured));
+        assert_eq!(counts, [Ok(c), Ok(c), Err(1), Err(1), Err(1), Err(1)]);
+        assert_eq!([1, whole].map(|length| judged(placed(good, c.k - 1, length))), [Ok(()); 2]);
+        assert!(length_faults(c).into_iter().all(|bad| judged(bad) == Err(2) && judged(adding(Catalogue { s: c.s - 1, ..bad })) == Err(2)));
+        assert_eq!([0, whole + 1, 9999999, 10000000].map(|length| read(write_text(placed(good, 1, length)).as_bytes())), [Err(2), Err(2), Err(2), Err(1)]);
+    }
+    let outcome = |k: usize, count: usize| read(counted(plain(false, 2, k, 4), count).as_bytes()).err().unwrap_or(0);
+    assert_eq!([(40, 39), (40, 40), (40, 41), (40, 32)].map(|(k, count)| outcome(k, count)), [1, 2, 1, 1]);
+    assert_eq!([(33, 32), (33, 33), (32, 32), (32, 31), (32, 33)].map(|(k, count)| outcome(k, count)), [1, 2, 0, 1, 1]);
+    assert_eq!([(0, 0), (0, 1), (1, 0), (1, 1), (1, 2), (99999, 0), (99999, 3)].map(|(k, count)| outcome(k, count)), [2, 1, 17, 17, 1, 2, 1]);
+    assert_eq!([1, 4, 5, 0].map(|length| judged(measured(plain(false, 2, 1, 4), &[length]))), [Err(17), Err(17), Err(2), Err(2)]);
+    assert_eq!([3, 4, 0].map(|length| judged(measured(adding(plain(false, 2, 2, 3)), &[1, length]))), [Err(15), Err(2), Err(2)]);
+    assert!(other_lengths(all_lines()).iter().chain(&moved_lengths()).all(|text| read(text.as_bytes()) == Err(1)));
+    let text = "code=short\nmirrors=3\npacks=3\npiece=6\nopen=2024-02-03\nclose=2025-10-09\nsum=add\nlength=7\nlength=6\nlength=12\n";
+    assert_eq!(write_text(all_lines()), text);
+    assert_eq!(lines(format!("{text}wanted=0\n").as_bytes()), Some((all_lines(), &b"wanted=0\n"[..])));
+}
+
+/// A fetch as a lab makes it, into a pack buffer of nines: what each mirror was sent and answered, what recover gave, and the buffer.
+fn fetched(c: Catalogue, store: &[u8], wanted: usize, key: &[u8], room: usize) -> (Vec<[Bytes; 2]>, Result<(), u8>, Bytes) {
+    let mut session = begin(c, wanted, key).unwrap();
+    let (mut shown, mut answers, mut pack) = (Vec::new(), vec![7; c.n * slot(c)], vec![9; room]);
+    for mirror in 0..c.n {
+        let mut request = vec![0; request_length(c)];
+        session.issue(NO_DAY, mirror, &mut request).unwrap();
+        let answer = answering(c, NO_DAY, mirror, store, &request, slot(c)).unwrap();
+        session.take(mirror, &answer, &mut answers).unwrap();
+        shown.push([request, answer]);
+    }
+    let gave = session.recover(&answers, &mut pack);
+    (shown, gave, pack)
+}
+
+/// Fetches with lengths: mirrors are sent and send what they are without; the pack is the store's first bytes, and nothing behind them is written; 9
+/// exactly where the length has no room. Where packs end in zeros, the lengths tell which of them are padding.
+fn cut_packs() {
+    let mut draw = Draw(6);
+    for (even, n, k, s) in [(false, 2, 2, 1), (false, 4, 3, 5), (false, 3, 32, 4), (true, 2, 3, 2), (true, 3, 2, 3), (true, 2, 2, 4)] {
+        let c = Catalogue { add: s % 2 == 0, ..plain(even, n, k, s) };
+        let (whole, store): (usize, Bytes) = (pack_length(c), (0..k * pack_length(c)).map(|_| draw.below(256) as u8).collect());
+        for length in 1..=whole {
+            let wanted = length % k;
+            let key: Bytes = draw.key(c).iter().map(|&x| x as u8).collect();
+            let long = placed(measured(c, &vec![whole - length / 2; k]), wanted, length);
+            let (shown, gave, pack) = fetched(long, &store, wanted, &key, whole + 1);
+            assert_eq!((gave, &pack[..length]), (Ok(()), &store[wanted * whole..][..length]));
+            assert!(pack[length..].iter().all(|&b| b == 9));
+            assert_eq!(fetched(c, &store, wanted, &key, whole).0, shown);
+            assert_eq!(fetched(long, &store, wanted, &key, length).1, Ok(()));
+            assert_eq!(fetched(long, &store, wanted, &key, length - 1), (shown, Err(9), vec![9; length - 1]));
+        }
+    }
+    let (c, store) = (plain(false, 3, 2, 2), [5, 0, 0, 0, 6, 0, 0, 0]);
+    let packs = [measured(c, &[2, 3]), measured(c, &[3, 2]), c].map(|c| fetched(c, &store, 0, &[1], 5).2);
+    assert_eq!(packs, [[5, 0, 9, 9, 9], [5, 0, 0, 9, 9], [5, 0, 0, 0, 9]]);
+}
+
 fn main() {
     let words: Vec<String> = std::env::args().collect();
     match words.iter().map(|w| w.as_str()).collect::<Vec<_>>()[1..] {
@@ -2025,8 +2556,10 @@ fn main() {
             added_words();
             days();
             season_rules();
+            length_rules();
             fetches();
-            println!("second implementation: the papers' tables, the bench cards, the calendar and whole fetches agree");
+            cut_packs();
+            println!("second implementation: the papers' tables, the bench cards, the calendar, lengths and whole fetches agree");
         }
         ["printer", folder] => {
             for (i, input) in printer_inputs().iter().enumerate() {

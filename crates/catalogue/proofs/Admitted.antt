@@ -1,18 +1,20 @@
--- What an admitted catalogue's numbers and sizes are bounded by (`admitted-numbers`, `admitted-small`), and what its dates are (`admitted-dates`). Rests
--- on the bounds of each code.
+-- What an admitted catalogue's numbers and sizes are bounded by (`admitted-numbers`, `admitted-small`), and what its dates and lengths are
+-- (`admitted-dates`, `admitted-lengths`): no message is empty, and none is longer than its symbols (`admitted-ends`). Rests on the bounds of each code.
 use mathlib.Core.Path.{_≡_}
-use mathlib.Core.Bool.{true}
-use Prim.Native.Nat.{ℕ, _≤_}
+use mathlib.Core.Bool.{true, _&&_}
+use Prim.Native.Nat.{ℕ, _≤_, _<_}
 use native.Mathlib.Omega.{arith}
 use borrow.Author.Tests.{eqb-false, not-false}
 use Rattle.lists.proofs.Both.{both-true}
 use Rattle.refusal.proofs.Accepted.{accepted-none}
 use Rattle.parameters.proofs.Bounds.{short-bounds, even-bounds}
+use Rattle.lengths.specs.Lengths.{lengthOf}
+use Rattle.lengths.proofs.Fits.{length-within}
 use Rattle.catalogue.specs.declared.Code.{Code}
 use Rattle.catalogue.specs.declared.Code.the-variants.{Short, Even}
 use Rattle.catalogue.specs.declared.Catalogue.{Catalogue}
-use Rattle.catalogue.specs.Catalogue.{fits, numbersFit, datesFit, inBounds, catalogueFaults, catalogueVerdict, Admitted}
-use Rattle.catalogue.specs.Catalogue.{sizesBy, sizesOf}
+use Rattle.catalogue.specs.Catalogue.{fits, numbersFit, datesFit, messagesEnd, inBounds, catalogueFaults, catalogueVerdict}
+use Rattle.catalogue.specs.Catalogue.{Admitted, sizesBy, sizesOf}
 use Rattle.parameters.proofs.SmallSizes.{Small, short-small, even-small}
 
 -- the numbers of an admitted catalogue, in every code
@@ -32,16 +34,19 @@ fits-small : (code : Code) (N K S : ℕ) → fits code N K S ≡ true → Small 
 fits-small Short N K S e = short-small N K S (short-bounds N K S e)
 fits-small Even N K S e = even-small N K S (even-bounds N K S e)
 
-admitted-bounds : (c : Catalogue) → Admitted c → (numbersFit c ≡ true) × (datesFit (c .opening) (c .closing) ≡ true)
+admitted-bounds : (c : Catalogue) → Admitted c → (numbersFit c ≡ true) × (datesFit (c .opening) (c .closing) && messagesEnd c ≡ true)
 unfolding catalogueVerdict
 admitted-bounds c a =
-    both-true (numbersFit c) (datesFit (c .opening) (c .closing)) (not-false (inBounds c) (accepted-none (catalogueFaults c) a .0))
+    both-true (numbersFit c) (datesFit (c .opening) (c .closing) && messagesEnd c) (not-false (inBounds c) (accepted-none (catalogueFaults c) a .0))
 
 pub admitted-fits : (c : Catalogue) → Admitted c → numbersFit c ≡ true
 admitted-fits c a = admitted-bounds c a .0
 
 pub admitted-dates : (c : Catalogue) → Admitted c → datesFit (c .opening) (c .closing) ≡ true
-admitted-dates c a = admitted-bounds c a .1
+admitted-dates c a = both-true (datesFit (c .opening) (c .closing)) (messagesEnd c) (admitted-bounds c a .1) .0
+
+pub admitted-lengths : (c : Catalogue) → Admitted c → messagesEnd c ≡ true
+admitted-lengths c a = both-true (datesFit (c .opening) (c .closing)) (messagesEnd c) (admitted-bounds c a .1) .1
 
 pub admitted-numbers : (c : Catalogue) → Admitted c → Numbers (c .servers) (c .messages) (c .symbol)
 unfolding catalogueVerdict
@@ -52,3 +57,10 @@ admitted-numbers c a =
 pub admitted-small : (c : Catalogue) → Admitted c → Small (c .servers) (sizesOf c)
 unfolding sizesOf
 admitted-small c a = fits-small (c .code) (c .servers) (c .messages) (c .symbol) (admitted-fits c a)
+
+-- a message has at least one byte, and no more than its symbols
+pub admitted-ends : (c : Catalogue) → Admitted c → (k : ℕ) → k < c .messages
+    → (1 ≤ lengthOf (c .lengths) (sizesOf c .message) k) × (lengthOf (c .lengths) (sizesOf c .message) k ≤ sizesOf c .message)
+admitted-ends c a =
+    length-within (c .messages) (sizesOf c .message) (c .lengths) (admitted-lengths c a) (admitted-numbers c a .messages-high)
+    (admitted-small c a .message-some)

@@ -1,7 +1,7 @@
 -- The verdict on a catalogue in numbers: which is admitted (`admitted-exactly`), which refused 2 (`refused-bounds`), 17 (`refused-one-message`: one
 -- message is, in every code, `one-message`) and 15 (`refused-odd-symbol`). Rests on the chain of its faults.
 use mathlib.Core.Path.{_≡_, refl, sym, _∙_}
-use mathlib.Core.Bool.{Bool, true, false, true≢false, not}
+use mathlib.Core.Bool.{Bool, true, false, true≢false, not, _&&_}
 use mathlib.Core.Logic.{_↔_}
 use Prim.Native.Nat.{ℕ, _%_, _^_, _≤_}
 use native.Mathlib.Nat.{pow-le-pow-left}
@@ -20,7 +20,7 @@ use Rattle.symbol.proofs.Operations.{not-added}
 use Rattle.catalogue.specs.declared.Code.{Code}
 use Rattle.catalogue.specs.declared.Code.the-variants.{Short, Even}
 use Rattle.catalogue.specs.declared.Catalogue.{Catalogue}
-use Rattle.catalogue.specs.Catalogue.{fits, numbersFit, datesFit, inBounds, wholeWords, catalogueVerdict, Admitted}
+use Rattle.catalogue.specs.Catalogue.{fits, numbersFit, datesFit, messagesEnd, inBounds, wholeWords, catalogueVerdict, Admitted}
 use Rattle.catalogue.proofs.Admitted.{fits-numbers}
 use Rattle.catalogue.proofs.Faults.{catalogue-chain}
 
@@ -52,7 +52,7 @@ module _ (c : Catalogue) where
   -- within its bounds with more than one message there are two or more
   two-messages : inBounds c ≡ true → (c .messages ≡ 1 → ⊥) → 2 ≤ c .messages
   two-messages within more =
-      let kept = both-true (numbersFit c) (datesFit (c .opening) (c .closing)) within .0 in
+      let kept = both-true (numbersFit c) (datesFit (c .opening) (c .closing) && messagesEnd c) within .0 in
       fits-numbers (c .code) (c .servers) (c .messages) (c .symbol) kept more .messages-low
 
   -- out of bounds and refused 2, or within them with one message and refused 17, or with more, and odd symbols are added, and refused 15, or admitted
@@ -119,9 +119,9 @@ one-fits Even N S n s =
     let few : leb (N ^ 1) 256 ≡ true = le-leb (N ^ 1) 256 (omega arith) in
     rw (n, s, few)
 
--- so that no code refuses it by 2 where its dates are kept, and none by 15
+-- so that no code refuses it by 2 where its dates and lengths are kept, and none by 15
 pub one-message : (c : Catalogue) → serversFit (c .servers) ≡ true → symbolFits (c .symbol) ≡ true → datesFit (c .opening) (c .closing) ≡ true
-    → c .messages ≡ 1 → catalogueVerdict c ≡ refused 17
-one-message c n s dates one =
+    → messagesEnd c ≡ true → c .messages ≡ 1 → catalogueVerdict c ≡ refused 17
+one-message c n s dates ends one =
     let fit : numbersFit c ≡ true = rw one (one-fits (c .code) (c .servers) (c .symbol) n s) in
-    refused-one-message c .1 (true-both fit dates, one)
+    refused-one-message c .1 (true-both fit (true-both dates ends), one)

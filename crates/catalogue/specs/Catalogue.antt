@@ -1,4 +1,4 @@
--- Catalogue values: which are admitted, and the sizes that follow (document 01, 'Catalogue'; document 02, items 1, 2 and 9).
+-- Catalogue values: which are admitted, and the sizes that follow (document 01, 'Catalogue'; document 02, items 1, 2, 6 and 9).
 use mathlib.Core.Path.{_≡_}
 use mathlib.Core.Bool.{Bool, true, not, _&&_, _||_}
 use mathlib.Core.List.{List, [], _∷_}
@@ -12,6 +12,7 @@ use Rattle.parameters.specs.Bounds.{shortFits, evenFits}
 use Rattle.parameters.specs.Measures.{shortSizes, evenSizes}
 use Rattle.calendar.specs.declared.Day.{Day}
 use Rattle.calendar.specs.Calendar.{realDay, before, noDay, undated}
+use Rattle.lengths.specs.Lengths.{noLengths, lengthsFit}
 use Rattle.symbol.specs.declared.Operation.{Operation}
 use Rattle.symbol.specs.declared.Operation.the-variants.{ExclusiveOr, Addition}
 use Rattle.catalogue.specs.declared.Code.{Code}
@@ -33,9 +34,21 @@ numbersFit c = fits (c .code) (c .servers) (c .messages) (c .symbol)
 unfoldable pub datesFit : Day → Day → Bool
 datesFit opening closing = undated opening closing || realDay opening && (realDay closing && before opening closing)
 
--- the catalogue keeps its bounds, those of its dates too
+abbrev pub sizesBy : Code → ℕ → ℕ → ℕ → Sizes
+sizesBy Short = shortSizes
+sizesBy Even = evenSizes
+
+-- the sizes of a catalogue, from its numbers alone
+unfoldable pub sizesOf : Catalogue → Sizes
+sizesOf c = sizesBy (c .code) (c .servers) (c .messages) (c .symbol)
+
+-- its lengths, if it has any, are from 1 to all the bytes of a message (02, item 6), and every place that no line fills holds 0
+abbrev pub messagesEnd : Catalogue → Bool
+messagesEnd c = lengthsFit (c .messages) (sizesOf c .message) (c .lengths)
+
+-- the catalogue keeps its bounds, those of its dates and lengths too
 abbrev pub inBounds : Catalogue → Bool
-inBounds c = numbersFit c && datesFit (c .opening) (c .closing)
+inBounds c = numbersFit c && (datesFit (c .opening) (c .closing) && messagesEnd c)
 
 -- symbols (01: pieces) of S bytes are whole words, where words are added (02, item 2)
 abbrev pub wholeWords : Operation → ℕ → Bool
@@ -58,14 +71,6 @@ catalogueVerdict c = foremost (catalogueFaults c)
 abbrev pub Admitted : Catalogue → Type 0
 Admitted c = catalogueVerdict c ≡ Accepted
 
-abbrev pub sizesBy : Code → ℕ → ℕ → ℕ → Sizes
-sizesBy Short = shortSizes
-sizesBy Even = evenSizes
-
--- the sizes of an admitted catalogue
-unfoldable pub sizesOf : Catalogue → Sizes
-sizesOf c = sizesBy (c .code) (c .servers) (c .messages) (c .symbol)
-
 abbrev measuredBy : Verdict → Sizes → Measured
 measuredBy Accepted sizes = Of sizes
 measuredBy (Refused refusal) sizes = NotMeasured refusal
@@ -74,7 +79,7 @@ measuredBy (Refused refusal) sizes = NotMeasured refusal
 unfoldable pub measuredOf : Catalogue → Measured
 measuredOf c = measuredBy (catalogueVerdict c) (sizesOf c)
 
--- what a refused reading hands back: zeros, the dates' places too, the code short, the sum exclusive or
+-- what a refused reading hands back: zeros, in the places of dates and lengths too, the code short, the sum exclusive or
 abbrev pub zeroCatalogue : Catalogue
 zeroCatalogue =
-    record { code = Short; sum = ExclusiveOr; opening = noDay; closing = noDay; servers = 0; messages = 0; symbol = 0 }
+    record { code = Short; sum = ExclusiveOr; opening = noDay; closing = noDay; lengths = noLengths; servers = 0; messages = 0; symbol = 0 }

@@ -1,12 +1,14 @@
-// The catalogue: which code, how many servers and messages, how long a symbol, what symbols are combined by, in which season; whether it is
-// admitted, and on which days it is served, and the sizes that follow.
+// The catalogue: which code, how many servers and messages, how long a symbol, what symbols are combined by, in which season, where messages end;
+// whether it is admitted, and on which days it is served, and the sizes that follow.
 use calendar::Day;
+use lengths::Lengths;
 use parameters::Sizes;
 use refusal::Refusal;
 use refusal::Verdict;
 use symbol::Operation;
 ghost use mathlib.Core.Path.{_≡_};
-ghost use Rattle.catalogue.specs.Catalogue.{numbersFit, datesFit, inBounds, wholeWords, catalogueVerdict, zeroCatalogue, measuredOf};
+ghost use mathlib.Core.Bool.{true};
+ghost use Rattle.catalogue.specs.Catalogue.{numbersFit, datesFit, inBounds, wholeWords, catalogueVerdict, zeroCatalogue, sizesOf, measuredOf};
 ghost use Rattle.catalogue.specs.Days.{dayVerdict};
 
 // The code that every fetch from the catalogue uses.
@@ -24,6 +26,8 @@ pub struct Catalogue {
     // The season (02, item 1: `open=` and `close=`): its first day, and the first day after it. Zeros in both where there are no dates.
     pub opening: Day,
     pub closing: Day,
+    // Where the messages end (02, item 6: `length=`).
+    pub lengths: Lengths,
     // N (01: mirrors).
     pub servers: usize,
     // K (01: packs).
@@ -65,6 +69,18 @@ fn dates_fit(opening: Day, closing: Day) -> bool
     calendar::is_before(opening, closing)
 }
 
+// The sizes that follow from numbers within their bounds.
+fn sizes_of(c: Catalogue) -> Sizes
+    requires { ⌜ numbersFit c ≡ true ⌝ }
+    ensures { λ r. ⌜ r ≡ sizesOf c ⌝ }
+{
+    let code = c.code;
+    match code {
+        Code::Short => parameters::short::sizes(c.servers, c.messages, c.symbol),
+        Code::Even => parameters::even::sizes(c.servers, c.messages, c.symbol),
+    }
+}
+
 // Whether the catalogue keeps its bounds.
 fn in_bounds(c: Catalogue) -> bool
     ensures { λ r. ⌜ r ≡ inBounds c ⌝ }
@@ -72,7 +88,11 @@ fn in_bounds(c: Catalogue) -> bool
     if !numbers_fit(c) {
         return false;
     }
-    dates_fit(c.opening, c.closing)
+    if !dates_fit(c.opening, c.closing) {
+        return false;
+    }
+    let sizes = sizes_of(c);
+    lengths::fit(c.lengths, c.messages, sizes.message)
 }
 
 // Whether symbols of s bytes are whole words, where words are added.
@@ -127,6 +147,7 @@ pub fn zero() -> Catalogue
         sum: Operation::ExclusiveOr,
         opening: calendar::none(),
         closing: calendar::none(),
+        lengths: lengths::none(),
         servers: 0,
         messages: 0,
         symbol: 0,
@@ -140,9 +161,5 @@ pub fn sizes(c: Catalogue) -> Measured
     if let Verdict::Refused(refusal) = verdict(c) {
         return Measured::Refused(refusal);
     }
-    let code = c.code;
-    match code {
-        Code::Short => Measured::Of(parameters::short::sizes(c.servers, c.messages, c.symbol)),
-        Code::Even => Measured::Of(parameters::even::sizes(c.servers, c.messages, c.symbol)),
-    }
+    Measured::Of(sizes_of(c))
 }

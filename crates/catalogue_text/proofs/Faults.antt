@@ -26,12 +26,12 @@ use Rattle.catalogue_text.proofs.CatalogueLines.{lines-cases}
 module _ (text : List ℕ) where
   -- the lines are refused with 1 or not at all
   pub line-chain : foremost (lineFault text ∷ []) ≡ catalogueLines text .verdict
-  line-chain = foremost-chain (lineFault text ∷ []) refl ∙ ⊎-elim (λ e. rw e) (λ r. rw (r .accepted)) (lines-cases text)
+  line-chain = foremost-chain (lineFault text ∷ []) refl ∙ ⊎-elim (λ e. rw e) (λ r. rw (r .1 .accepted)) (lines-cases text)
 
   pub lines-chain : foremost (linesFaults text) ≡ andThen (catalogueLines text .verdict) (catalogueVerdict (catalogueLines text .catalogue))
   lines-chain =
       foremost-chain (linesFaults text) refl
-      ∙ ⊎-elim (λ e. rw e) (λ r. rw (r .accepted, catalogue-chain (catalogueLines text .catalogue))) (lines-cases text)
+      ∙ ⊎-elim (λ e. rw e) (λ r. rw (r .1 .accepted, catalogue-chain (catalogueLines text .catalogue))) (lines-cases text)
 
   -- a whole text: the lines, then its end, then the catalogue
   abbrev pub readVerdict : Verdict
@@ -42,7 +42,7 @@ module _ (text : List ℕ) where
   pub read-chain : foremost (readFaults text) ≡ readVerdict
   read-chain =
       foremost-chain (readFaults text) refl
-      ∙ ⊎-elim (λ e. rw e) (λ r. rw (r .accepted, catalogue-chain (catalogueLines text .catalogue))) (lines-cases text)
+      ∙ ⊎-elim (λ e. rw e) (λ r. rw (r .1 .accepted, catalogue-chain (catalogueLines text .catalogue))) (lines-cases text)
 
   pub read-is : readOf text ≡ readingBy readVerdict (catalogueLines text .catalogue)
   unfolding readOf

@@ -80,9 +80,9 @@ first-written code N K S rest servers messages symbol =
     let at-e : drop (length a + length b + length d) text ≡ e ++ rest = drop-after text d (e ++ rest) (length a + length b) at-d in
     simp (
       first,
-      line-written serversName text (d ++ (e ++ rest)) (length a) N servers at-b,
-      line-written messagesName text (e ++ rest) (length a + length b) K messages at-d,
-      line-written symbolName text rest (length a + length b + length d) S symbol at-e,
+      line-written 5 serversName text (d ++ (e ++ rest)) (length a) N (omega arith) servers at-b,
+      line-written 5 messagesName text (e ++ rest) (length a + length b) K (omega arith) messages at-d,
+      line-written 5 symbolName text rest (length a + length b + length d) S (omega arith) symbol at-e,
       code-number code,
       first-length code N K S,
     )
@@ -96,7 +96,7 @@ pub record FirstRead (text : List ℕ) (code : Code) (N K S next : ℕ) : Type 0
   pub here : text ≡ firstText code N K S ++ drop next text
 
 all-read : (text : List ℕ) (code a N b K d S e : ℕ) → CodeRead text code a
-    → LineRead serversName text a N b → LineRead messagesName text b K d → LineRead symbolName text d S e
+    → LineRead 5 serversName text a N b → LineRead 5 messagesName text b K d → LineRead 5 symbolName text d S e
     → FirstRead text (codeNamed code) N K S e
 all-read text code a N b K d S e first servers messages symbol =
     let p = codeText (codeNamed code) in
@@ -129,9 +129,9 @@ pub first-read : (text : List ℕ) (code : Code) (N K S next : ℕ) → firstLin
 unfolding firstLines
 first-read text code N K S next e =
     went-on (codeLine text) _ code N K S next _ e λ value a first after-a.
-    went-on (numberLine serversName text a) _ code N K S next _ after-a λ n b servers after-b.
-    went-on (numberLine messagesName text b) _ code N K S next _ after-b λ k d messages after-d.
-    went-on (numberLine symbolName text d) _ code N K S next _ after-d λ s f symbol done.
+    went-on (numberLine 5 serversName text a) _ code N K S next _ after-a λ n b servers after-b.
+    went-on (numberLine 5 messagesName text b) _ code N K S next _ after-b λ k d messages after-d.
+    went-on (numberLine 5 symbolName text d) _ code N K S next _ after-d λ s f symbol done.
     let h : codeNamed value ≡ code = cc in
     let i : n ≡ N = cc in
     let j : k ≡ K = cc in
@@ -140,6 +140,6 @@ first-read text code N K S next e =
     rw (h, i, j, l, m) at
     (all-read text value a n b k d s f
     (code-read text value a first)
-    (line-read serversName text a n b servers)
-    (line-read messagesName text b k d messages)
-    (line-read symbolName text d s f symbol))
+    (line-read 5 serversName text a n b servers)
+    (line-read 5 messagesName text b k d messages)
+    (line-read 5 symbolName text d s f symbol))

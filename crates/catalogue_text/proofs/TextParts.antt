@@ -1,6 +1,7 @@
--- The lines of a catalogue's text: how it is put together from them (`text-parts`), their lengths (`text-length`), and how they come to stand side by
--- side in a buffer (`put-six`). What an admitted catalogue's text can hold (`admitted-writable`).
-use mathlib.Core.Path.{_≡_, refl, ap, _∙_}
+-- The lines of a catalogue's text: how those in front of the lengths are put together (`head-parts`), their lengths (`head-length`), and how they come
+-- to stand side by side in a buffer (`put-six`). An admitted catalogue can be written with its own lengths (`admitted-writable`), and with no others
+-- (`own-numbers`).
+use mathlib.Core.Path.{_≡_, refl, sym, ap, _∙_}
 use mathlib.Core.Bool.{Bool, true, false, _&&_, _||_}
 use mathlib.Core.List.{List, _++_, append-assoc}
 use Prim.Native.Nat.{ℕ, _+_, _≤_}
@@ -15,12 +16,14 @@ use Rattle.symbol.specs.declared.Operation.the-variants.{ExclusiveOr, Addition}
 use Rattle.calendar.specs.declared.Day.{Day}
 use Rattle.calendar.specs.Calendar.{realDay, before, undated}
 use Rattle.season_text.specs.SeasonLines.{inForm, seasonText}
+use Rattle.lengths.specs.Lengths.{numbersOf}
+use Rattle.length_text.proofs.Fitting.{numbers-in-form, kept-numbers, numbers-kept}
 use Rattle.catalogue.specs.declared.Code.{Code}
 use Rattle.catalogue.specs.declared.Code.the-variants.{Short, Even}
 use Rattle.catalogue.specs.declared.Catalogue.{Catalogue}
-use Rattle.catalogue.specs.Catalogue.{datesFit, Admitted}
-use Rattle.catalogue.proofs.Admitted.{admitted-numbers, admitted-dates}
-use Rattle.catalogue_text.specs.Text.{codeText, serversName, messagesName, symbolName, sumText, textOf, Writable}
+use Rattle.catalogue.specs.Catalogue.{datesFit, sizesOf, Admitted}
+use Rattle.catalogue.proofs.Admitted.{admitted-numbers, admitted-dates, admitted-lengths, admitted-small}
+use Rattle.catalogue_text.specs.Text.{codeText, serversName, messagesName, symbolName, sumText, headText, ownNumbers, Writable}
 
 pub code-most : (code : Code) → length (codeText code) ≤ 11
 code-most Short = omega arith
@@ -47,28 +50,28 @@ first-length code N K S =
     omega arith
 
 -- the first lines, the dates and the sum
-pub text-parts : (c : Catalogue)
-    → textOf c ≡ firstText (c .code) (c .servers) (c .messages) (c .symbol) ++ (seasonText (c .opening) (c .closing) ++ sumText (c .sum))
-unfolding textOf
-text-parts c = simp append-assoc
+pub head-parts : (c : Catalogue)
+    → headText c ≡ firstText (c .code) (c .servers) (c .messages) (c .symbol) ++ (seasonText (c .opening) (c .closing) ++ sumText (c .sum))
+unfolding headText
+head-parts c = simp append-assoc
 
 pub parts-length : (c : Catalogue)
     → length (firstText (c .code) (c .servers) (c .messages) (c .symbol)) + length (seasonText (c .opening) (c .closing)) + length (sumText (c .sum))
-    ≡ length (textOf c)
+    ≡ length (headText c)
 parts-length c =
     let first = firstText (c .code) (c .servers) (c .messages) (c .symbol) in
     let season = seasonText (c .opening) (c .closing) in
-    let l = ap length (text-parts c) in
+    let l = ap length (head-parts c) in
     let m = length-append first (season ++ sumText (c .sum)) in
     let n = length-append season (sumText (c .sum)) in
     omega arith
 
-pub text-length : (c : Catalogue)
-    → length (textOf c)
+pub head-length : (c : Catalogue)
+    → length (headText c)
     ≡ length (codeText (c .code)) + length (numberText serversName (c .servers))
     + length (numberText messagesName (c .messages)) + length (numberText symbolName (c .symbol))
     + length (seasonText (c .opening) (c .closing)) + length (sumText (c .sum))
-text-length c = let l = parts-length c in let m = first-length (c .code) (c .servers) (c .messages) (c .symbol) in omega arith
+head-length c = let l = parts-length c in let m = first-length (c .code) (c .servers) (c .messages) (c .symbol) in omega arith
 
 -- ---- an admitted catalogue can be written
 
@@ -81,15 +84,27 @@ dates-fit : (opening closing : Day) → datesFit opening closing ≡ true → in
 unfolding datesFit inForm
 dates-fit opening closing e = without-last (undated opening closing) (realDay opening) (realDay closing) (before opening closing) e
 
-pub admitted-writable : (c : Catalogue) → Admitted c → Writable c
+pub admitted-writable : (c : Catalogue) → Admitted c → Writable c (ownNumbers c)
 admitted-writable c a =
     let b = admitted-numbers c a in
+    let s = admitted-small c a in
+    let whole = sizesOf c .message in
+    let fit = admitted-lengths c a in
+    let some : 1 ≤ c .messages = omega arith in
     record {
       servers = omega arith;
       messages = omega arith;
       symbol = omega arith;
       dates = dates-fit (c .opening) (c .closing) (admitted-dates c a);
+      lengths = numbers-in-form (c .messages) whole (c .lengths) fit some (b .messages-high) (s .message-some) (omega (arith, s .message));
+      kept-are = sym (kept-numbers (c .messages) whole (c .lengths) fit some (b .messages-high));
     }
+
+-- the numbers beside an admitted value are its own
+pub own-numbers : (c : Catalogue) (ns : List ℕ) → Admitted c → Writable c ns → ns ≡ ownNumbers c
+own-numbers c ns a fit =
+    sym (numbers-kept (c .messages) ns (fit .lengths) (admitted-numbers c a .messages-high))
+    ∙ ap (numbersOf (c .messages)) (sym (fit .kept-are))
 
 -- ---- six parts written one after another
 

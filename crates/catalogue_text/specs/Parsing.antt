@@ -1,5 +1,5 @@
--- Reading catalogue text (document 01, 'Catalogue' and 'Numbers a call can give'; document 02, items 1 and 2): each line yields its value and where
--- the next line begins, or ends the reading. `readOf` is the reading of a whole text, `linesOf` that of its start.
+-- Reading catalogue text (document 01, 'Catalogue' and 'Numbers a call can give'; document 02, items 1, 2 and 6): each line yields its value and
+-- where the next line begins, or ends the reading. `readOf` is the reading of a whole text, `linesOf` that of its start.
 use Prim.Native.Nat.{ℕ, zero, suc, _+_}
 use mathlib.Core.Bool.{cond, not}
 use mathlib.Core.List.{List, _∷_}
@@ -24,6 +24,9 @@ use Rattle.calendar.specs.declared.Day.{Day}
 use Rattle.season_text.specs.declared.Season.{Season}
 use Rattle.season_text.specs.declared.Season.the-variants.{Of as Dates, Refused as NoSeason}
 use Rattle.season_text.specs.SeasonLines.{seasonLines}
+use Rattle.lengths.specs.declared.Lengths.{Lengths}
+use Rattle.length_text.specs.declared.LengthLines.{LengthLines}
+use Rattle.length_text.specs.LengthLines.{lengthLines}
 use Rattle.catalogue_text.specs.declared.First.{First}
 use Rattle.catalogue_text.specs.declared.First.the-variants.{Of, Refused as NoFirst}
 use Rattle.catalogue_text.specs.declared.Lines.{Lines}
@@ -62,14 +65,14 @@ onFirst NoLine continue = NoFirst
 unfoldable pub firstLines : List ℕ → First
 firstLines text =
     onFirst (codeLine text) λ code a.
-    onFirst (numberLine serversName text a) λ N b.
-    onFirst (numberLine messagesName text b) λ K d.
-    onFirst (numberLine symbolName text d) λ S e.
+    onFirst (numberLine 5 serversName text a) λ N b.
+    onFirst (numberLine 5 messagesName text b) λ K d.
+    onFirst (numberLine 5 symbolName text d) λ S e.
     Of (codeNamed code) N K S e
 
 -- ---- all lines
 
--- a refused reading holds zeros, its code short, its sum exclusive or
+-- a refused reading holds zeros, in the places of dates and lengths too, its code short, its sum exclusive or
 abbrev pub refusedLines : Refusal → Lines
 refusedLines refusal = record { verdict = Refused refusal; catalogue = zeroCatalogue; next = 0 }
 
@@ -86,17 +89,21 @@ abbrev pub afterSum : Line → (ℕ → ℕ → Lines) → Lines
 afterSum (Value value next) continue = continue value next
 afterSum NoLine continue = refusedLines (refusalOf 1)
 
-abbrev pub catalogueOf : Code → ℕ → ℕ → ℕ → Day → Day → ℕ → Catalogue
-catalogueOf code N K S opening closing sum =
-    record { code = code; sum = sumNamed sum; opening = opening; closing = closing; servers = N; messages = K; symbol = S }
+abbrev pub afterLengths : LengthLines → (Lengths → ℕ → Lines) → Lines
+afterLengths found continue = cond (found .formed) (continue (found .lengths) (found .next)) (refusedLines (refusalOf 1))
 
--- the catalogue's lines at the start of a text, in any bounds
+abbrev pub catalogueOf : Code → ℕ → ℕ → ℕ → Day → Day → ℕ → Lengths → Catalogue
+catalogueOf code N K S opening closing sum lengths =
+    record { code = code; sum = sumNamed sum; opening = opening; closing = closing; lengths = lengths; servers = N; messages = K; symbol = S }
+
+-- The catalogue's lines at the start of a text, in any bounds. There are as many lengths as the line of K says, or none
 unfoldable pub catalogueLines : List ℕ → Lines
 catalogueLines text =
     afterFirst (firstLines text) λ code N K S e.
     afterSeason (seasonLines text e) λ opening closing f.
     afterSum (sumLine text f) λ sum g.
-    record { verdict = Accepted; catalogue = catalogueOf code N K S opening closing sum; next = g }
+    afterLengths (lengthLines K text g) λ lengths h.
+    record { verdict = Accepted; catalogue = catalogueOf code N K S opening closing sum lengths; next = h }
 
 -- a line is not there or not in its form
 abbrev pub lineFault : List ℕ → Fault

@@ -2,21 +2,20 @@
 use calendar::Day;
 use catalogue::Catalogue;
 use catalogue::Code;
+use lengths::Lengths;
 use refusal::Outcome;
 use refusal::Refusal;
 use refusal::Verdict;
 use season_text::Season;
 use text_lines::Line;
 ghost use mathlib.Core.Path.{_≡_};
-ghost use Prim.Native.Nat.{_≤_};
-ghost use lib.ListN.{length};
-ghost use Rattle.lists.specs.Parts.{put};
-ghost use Rattle.catalogue_text.specs.Text.{textOf};
 ghost use Rattle.catalogue_text.specs.Parsing.{firstLines, catalogueOf, refusedLines, catalogueLines, linesOf, unread, readOf};
 ghost use Rattle.catalogue_text.specs.Writing.{Wrote};
 
-// The lines of the code and of the sum; those of the dates are `season_text`'s.
+// The lines of the code and of the sum; those of the dates are `season_text`'s, those of the lengths `length_text`'s.
 mod named;
+// All lines, written one after another.
+mod writing;
 
 // The four lines that every catalogue's text begins with, and where they end; or lines out of form.
 enum First {
@@ -54,13 +53,13 @@ fn first_lines(text: &[u8]) -> First
     else {
         return First::Refused;
     };
-    let Line::Value { value: n, next: b } = text_lines::number_line(b"mirrors=", text, a) else {
+    let Line::Value { value: n, next: b } = text_lines::number_line(5, b"mirrors=", text, a) else {
         return First::Refused;
     };
-    let Line::Value { value: k, next: d } = text_lines::number_line(b"packs=", text, b) else {
+    let Line::Value { value: k, next: d } = text_lines::number_line(5, b"packs=", text, b) else {
         return First::Refused;
     };
-    let Line::Value { value: s, next: e } = text_lines::number_line(b"piece=", text, d) else {
+    let Line::Value { value: s, next: e } = text_lines::number_line(5, b"piece=", text, d) else {
         return First::Refused;
     };
     First::Of {
@@ -81,14 +80,16 @@ fn catalogue_of(
     opening: Day,
     closing: Day,
     sum: usize,
+    lengths: Lengths,
 ) -> Catalogue
-    ensures { λ r. ⌜ r ≡ catalogueOf code servers messages symbol opening closing sum ⌝ }
+    ensures { λ r. ⌜ r ≡ catalogueOf code servers messages symbol opening closing sum lengths ⌝ }
 {
     Catalogue {
         code: code,
         sum: named::sum_named(sum),
         opening: opening,
         closing: closing,
+        lengths: lengths,
         servers: servers,
         messages: messages,
         symbol: symbol,
@@ -135,10 +136,16 @@ pub fn catalogue_lines(text: &[u8]) -> Lines
     else {
         return refused(Refusal::Text);
     };
+    let found = length_text::length_lines(text, g, messages);
+    if !found.formed {
+        return refused(Refusal::Text);
+    }
+    let ends = found.lengths;
+    let c = catalogue_of(code, servers, messages, symbol, opening, closing, sum, ends);
     Lines {
         verdict: Verdict::Accepted,
-        catalogue: catalogue_of(code, servers, messages, symbol, opening, closing, sum),
-        next: g,
+        catalogue: c,
+        next: found.next,
     }
 }
 
@@ -191,36 +198,6 @@ pub fn read(text: &[u8]) -> Reading
     }
 }
 
-// Writes the text at the start, and gives its length.
-fn put_text(out: &mut [u8], c: Catalogue) -> usize
-    requires { ⌜ length (textOf c) ≤ length (now out) ⌝ }
-    ensures { λ r. ⌜ r ≡ length (textOf c) ⌝ }
-    ensures { λ _. ⌜ now (out .exit) ≡ put 0 (textOf c) (now (out .entry)) ⌝ }
-{
-    let code = c.code;
-    let a = named::put_code(out, code);
-    let b = text_lines::put_line(out, a, b"mirrors=", c.servers);
-    let d = text_lines::put_line(out, b, b"packs=", c.messages);
-    let e = text_lines::put_line(out, d, b"piece=", c.symbol);
-    let f = season_text::put_season(out, e, c.opening, c.closing);
-    let sum = c.sum;
-    named::put_sum(out, f, sum)
-}
-
-// The bytes of the catalogue's text.
-fn text_length(c: Catalogue) -> usize
-    ensures { λ r. ⌜ r ≡ length (textOf c) ⌝ }
-{
-    let code = c.code;
-    let a = named::code_length(code);
-    let b = a + text_lines::line_length(b"mirrors=", c.servers);
-    let d = b + text_lines::line_length(b"packs=", c.messages);
-    let e = d + text_lines::line_length(b"piece=", c.symbol);
-    let f = e + season_text::season_length(c.opening, c.closing);
-    let sum = c.sum;
-    f + named::sum_length(sum)
-}
-
 // Writes the catalogue's text at the start of `out`, and gives its length.
 pub fn write(c: Catalogue, out: &mut [u8]) -> Outcome
     ensures { λ r. ⌜ Wrote c (now (out .entry)) r (now (out .exit)) ⌝ }
@@ -228,8 +205,8 @@ pub fn write(c: Catalogue, out: &mut [u8]) -> Outcome
     if let Verdict::Refused(refusal) = catalogue::verdict(c) {
         return Outcome::Refused(refusal);
     }
-    if out.len() < text_length(c) {
+    if out.len() < writing::text_length(c) {
         return Outcome::Refused(Refusal::Room);
     }
-    Outcome::Value(put_text(out, c))
+    Outcome::Value(writing::put_text(out, c))
 }

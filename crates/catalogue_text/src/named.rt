@@ -1,4 +1,4 @@
-// The lines of a catalogue's text that have a word behind their names: the first, of its code, and the last, of its sum. Read at their places, and
+// The lines of a catalogue's text that have a word behind their names: the first, of its code, and that of its sum. Read at their places, and
 // written.
 use catalogue::Code;
 use symbol::Operation;
@@ -49,7 +49,7 @@ pub fn sum_line(text: &[u8], at: usize) -> Line
     Line::Refused
 }
 
-// The sum of the last line's value.
+// The sum of its line's value.
 pub fn sum_named(value: usize) -> Operation
     ensures { λ r. ⌜ r ≡ sumNamed value ⌝ }
 {

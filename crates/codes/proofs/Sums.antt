@@ -1,6 +1,7 @@
--- Catalogues that differ at most in their sums and dates have the same keys, queries, admission and lengths (`same-queries`), and with the same sum the
--- same scheme, so that answers and recovery do not depend on dates (`same-scheme`). Such a catalogue of exclusive or is admitted wherever one with the
--- same dates is (`admitted-without`). Each code, over any two sums (`any-sum`).
+-- Catalogues that differ at most in their sums, dates and lengths have the same keys, queries, admission and answers' lengths (`same-queries`), and with
+-- the same sum the same scheme, so that what a server stores, is asked and answers does not depend on dates, nor on where messages end (`same-scheme`).
+-- Such a catalogue of exclusive or is admitted wherever one with the same dates and lengths is (`admitted-without`). Each code, over any two sums
+-- (`any-sum`).
 use mathlib.Core.Path.{_≡_, refl, sym, _∙_}
 use Prim.Native.Nat.{ℕ}
 use Rattle.symbol.specs.Sum.{Sum}
@@ -10,7 +11,7 @@ use Rattle.symbol.proofs.Operations.{not-added}
 use Rattle.catalogue.specs.declared.Code.{Code}
 use Rattle.catalogue.specs.declared.Code.the-variants.{Short, Even}
 use Rattle.catalogue.specs.declared.Catalogue.{Catalogue}
-use Rattle.catalogue.specs.Catalogue.{Admitted}
+use Rattle.catalogue.specs.Catalogue.{Admitted, sizesOf}
 use Rattle.catalogue.proofs.Verdicts.{admitted-exactly}
 use Rattle.codes.specs.Codes.{schemeBy, schemeOf}
 use Rattle.codes.specs.Sums.{SameQueries, SameNumbers}
@@ -41,12 +42,13 @@ pub same-scheme : (c d : Catalogue) → SameNumbers c d → c .sum ≡ d .sum �
 unfolding schemeOf
 same-scheme c d same sum = rw (same .code, same .servers, same .messages, same .symbol, sum)
 
-pub admitted-without : (c d : Catalogue) → SameNumbers c d → c .opening ≡ d .opening → c .closing ≡ d .closing → d .sum ≡ ExclusiveOr
-    → Admitted c → Admitted d
-admitted-without c d same opens closes without admitted =
+pub admitted-without : (c d : Catalogue) → SameNumbers c d → c .opening ≡ d .opening → c .closing ≡ d .closing → c .lengths ≡ d .lengths
+    → d .sum ≡ ExclusiveOr → Admitted c → Admitted d
+unfolding sizesOf
+admitted-without c d same opens closes ends without admitted =
     let in-numbers = admitted-exactly c .0 admitted in
     admitted-exactly d .1 (
-      rw (← same .code, ← same .servers, ← same .messages, ← same .symbol, ← opens, ← closes) (in-numbers .0),
+      rw (← same .code, ← same .servers, ← same .messages, ← same .symbol, ← opens, ← closes, ← ends) (in-numbers .0),
       rw (← same .messages) (in-numbers .1),
       λ added. not-added (sym without ∙ added),
     )

@@ -1,5 +1,6 @@
 -- What of a catalogue's scheme does not depend on what its symbols are combined by (document 02, item 2: a catalogue with `sum=add` goes by the same
--- rules), nor on its dates (item 1): its sizes, which keys are good, the queries, which of them a server admits, and how long their answers are.
+-- rules), nor on its dates (item 1), nor on where its messages end (item 6): its sizes, which keys are good, the queries, which of them a server admits,
+-- and how long their answers are.
 use mathlib.Core.Path.{_≡_}
 use mathlib.Core.List.{List}
 use Prim.Native.Nat.{ℕ}
@@ -14,7 +15,7 @@ pub record SameQueries (one other : Scheme) : Type 0 where
   pub admission : (server : ℕ) (query : List ℕ) → one .admits server query ≡ other .admits server query
   pub lengths : (query : List ℕ) → one .answerLength query ≡ other .answerLength query
 
--- two catalogues of the same code, N, K and S: they differ at most in their sums and their dates
+-- two catalogues of the same code, N, K and S: they differ at most in their sums, their dates and their lengths
 pub record SameNumbers (c d : Catalogue) : Type 0 where
   pub code : c .code ≡ d .code
   pub servers : c .servers ≡ d .servers

@@ -6,7 +6,7 @@ ghost use mathlib.Core.Path.{_≡_};
 ghost use mathlib.Core.Bool.{true};
 ghost use Prim.Native.Nat.{_*_, _≤_, _<_};
 ghost use lib.ListN.{length};
-ghost use Rattle.lists.specs.Parts.{put};
+ghost use Rattle.lists.specs.Parts.{put, lay};
 ghost use Rattle.catalogue.specs.Catalogue.{Admitted};
 ghost use Rattle.scheme.specs.Scheme.{Valid, recoverIn};
 ghost use Rattle.codes.specs.Codes.{schemeOf};
@@ -104,15 +104,14 @@ pub fn answer(c: Catalogue, server: usize, store: &[u8], query: &[u8], out: &mut
     }
 }
 
-// Writes the wanted message at the start of `message`, from the answers in the slots of `answers`.
+// Writes as much of the wanted message as `message` has room for, from its start, from the answers in the slots of `answers`.
 pub fn recover(c: Catalogue, wanted: usize, key: &[u8], answers: &[u8], message: &mut [u8])
     requires { ⌜ Admitted c ⌝ }
     requires { ⌜ wanted < c .messages ⌝ }
     requires { ⌜ Valid (schemeOf c) (now key) ⌝ }
     requires { ⌜ c .servers * schemeOf c .sizes .slot ≤ length (now answers) ⌝ }
-    requires { ⌜ schemeOf c .sizes .message ≤ length (now message) ⌝ }
     ensures { λ _. ⌜ now (message .exit)
-        ≡ put 0 (recoverIn (schemeOf c) (c .servers) wanted (now (key .entry)) (now (answers .entry))) (now (message .entry)) ⌝ }
+        ≡ lay 0 (recoverIn (schemeOf c) (c .servers) wanted (now (key .entry)) (now (answers .entry))) (now (message .entry)) ⌝ }
 {
     let op = c.sum;
     let code = c.code;

@@ -23,6 +23,7 @@ fn on_fetch(
     trial_fetches::whole(
         s,
         line.a,
+        line.b,
         &key[..length],
         &store[..stored],
         query,

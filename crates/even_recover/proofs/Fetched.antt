@@ -23,7 +23,8 @@ use Rattle.even_places.proofs.Bytes.{byte-ones, byte-has}
 use Rattle.even_places.proofs.ByteParts.{byte-covers}
 use Rattle.even_places.proofs.WantedCells.{cellsOf}
 use Rattle.even_places.proofs.AllSets.{ones-most}
-use Rattle.lists.specs.Assembled.{assemble}
+use Rattle.lists.specs.Parts.{lay}
+use Rattle.lists.specs.Assembled.{layAll}
 use Rattle.even_scheme.specs.Even.{recoveredPart, serverParts, evenScheme}
 use Rattle.even_sets.specs.Sets.{rowsOf}
 use Rattle.even_sets.proofs.Blocks.{all-length, subsets-few}
@@ -69,12 +70,11 @@ pub record Fetched (sum : Sum) (N K S wanted server : ℕ) (key sets firsts answ
   pub table : length firsts ≡ 256
   pub here-is : here ≡ serverRowsOf N K S wanted server
   pub held : Held here answers
-  pub room : N ^ K * S ≤ length start
   pub within : j ≤ length (allSets K)
   pub long : length message ≡ length start
   pub cell-is : cell ≡ summed (cellsOf N) (take j (allSets K))
   pub near : cell ≤ j * 2048
-  pub written : message ≡ assemble (partsOf sum N K S wanted server key answers (take j (allSets K))) start
+  pub written : message ≡ layAll (partsOf sum N K S wanted server key answers (take j (allSets K))) start
 
 module _ {sum : Sum} {N K S wanted server : ℕ} {key sets firsts answers start : List ℕ} {here : ServerRows} {query message : List ℕ} {cell j : ℕ}
     (fetched : Fetched sum N K S wanted server key sets firsts answers start here query message cell j) (more : j < length sets) where
@@ -123,7 +123,7 @@ module _ {sum : Sum} {N K S wanted server : ℕ} {key sets firsts answers start 
       go true e = group-parts sum (fetched .reads) (fetched .asked) j more-sets (wanted-set e) answers
       go false e = refl
 
-  pub set-ready : getD sets j 0 / here .bit % 2 ≡ 1 → Ready here (getD sets j 0) cell firsts query message
+  pub set-ready : getD sets j 0 / here .bit % 2 ≡ 1 → Ready here (getD sets j 0) cell firsts query
   unfolding bit
   set-ready e = rw (fetched .here-is, set-is .byte, fetched .cell-is) (go (has wanted A) refl (sym bit-is ∙ e))
     where
@@ -131,7 +131,7 @@ module _ {sum : Sum} {N K S wanted server : ℕ} {key sets firsts answers start 
       small = sized (fetched .reads .bounds) (fetched .reads .wanted-known)
 
       go : (t : Bool) → has wanted A ≡ t → bit t ≡ 1
-          → Ready (serverRowsOf N K S wanted server) (byteOf A) (summed (cellsOf N) (take j (allSets K))) firsts query message
+          → Ready (serverRowsOf N K S wanted server) (byteOf A) (summed (cellsOf N) (take j (allSets K))) firsts query
       go false f g = absurd (let w : ⊥ = omega arith in w)
       go true f g = record {
         given = record {
@@ -144,14 +144,14 @@ module _ {sum : Sum} {N K S wanted server : ℕ} {key sets firsts answers start 
           table = fetched .table;
         };
         grouped = group-grouped (fetched .reads) (wanted-set f) (summed (cellsOf N) (take j (allSets K)));
-        named = group-named sum (fetched .reads) (fetched .asked) j more-sets (wanted-set f) message (omega (arith, fetched .room, fetched .long));
+        named = group-named sum (fetched .reads) (fetched .asked) j more-sets (wanted-set f);
       }
 
   next-sets : take (j + 1) (allSets K) ≡ take j (allSets K) ++ (A ∷ [])
   next-sets = ap (λ (n : ℕ). take n (allSets K)) (add-one j) ∙ take-suc (allSets K) j [] more-sets
 
   pub fetched-more : (done : List ℕ) (next : ℕ) → length done ≡ length message
-      → done ≡ assemble (setParts sum here (getD sets j 0) cell firsts query answers) message
+      → done ≡ layAll (setParts sum here (getD sets j 0) cell firsts query answers) message
       → next ≡ cell + (N - 1) ^ (count (getD sets j 0) - 1) * count (getD sets j 0)
       → Fetched sum N K S wanted server key sets firsts answers start here query done next (j + 1)
   unfolding summed
@@ -162,25 +162,24 @@ module _ {sum : Sum} {N K S wanted server : ℕ} {key sets firsts answers start 
     table = fetched .table;
     here-is = fetched .here-is;
     held = fetched .held;
-    room = fetched .room;
     within = omega (arith, more-sets);
     long = long ∙ fetched .long;
     cell-is = rw next-sets (omega (arith, cells-are, fetched .cell-is, sum-append (cellsOf N) (take j (allSets K)) (A ∷ [])));
     near = omega (arith, cells-are, few-cells, fetched .near);
     written =
         e
-        ∙ ap₂ assemble set-parts (fetched .written)
-        ∙ sym (assemble-append (partsOf sum N K S wanted server key answers (take j (allSets K)))
+        ∙ ap₂ layAll set-parts (fetched .written)
+        ∙ sym (assemble-append lay (partsOf sum N K S wanted server key answers (take j (allSets K)))
         (cond (has wanted A) (partsOfSet sum N K S wanted server key answers A) []) start)
-        ∙ ap (λ (l : List (ℕ × List ℕ)). assemble l start)
+        ∙ ap (λ (l : List (ℕ × List ℕ)). layAll l start)
         (sym (ap (partsOf sum N K S wanted server key answers) next-sets ∙ parts-more sum N K S wanted server key answers (take j (allSets K)) A));
   }
 
 pub fetched-done : {sum : Sum} {N K S wanted server : ℕ} {key sets firsts answers start : List ℕ} {here : ServerRows} {query message : List ℕ} {cell j : ℕ}
     → Fetched sum N K S wanted server key sets firsts answers start here query message cell j → length sets ≤ j
-    → message ≡ assemble (serverParts sum N K S wanted key (answersIn (evenScheme sum N K S) N wanted key answers) server) start
+    → message ≡ layAll (serverParts sum N K S wanted key (answersIn (evenScheme sum N K S) N wanted key answers) server) start
 fetched-done {sum} {N} {K} {S} {wanted} {server} {key} {sets} {answers} {start} {j} fetched end =
     let all : length (allSets K) ≤ j = omega (arith, ap length (fetched .sets-are), length-map (allSets K) byteOf) in
     fetched .written
-    ∙ ap (λ (l : List (List Bool)). assemble (partsOf sum N K S wanted server key answers l) start) (take-all j (allSets K) all)
-    ∙ ap (λ (l : List (ℕ × List ℕ)). assemble l start) (parts-all sum N K S wanted server key answers)
+    ∙ ap (λ (l : List (List Bool)). layAll (partsOf sum N K S wanted server key answers l) start) (take-all j (allSets K) all)
+    ∙ ap (λ (l : List (ℕ × List ℕ)). layAll l start) (parts-all sum N K S wanted server key answers)

@@ -1,10 +1,9 @@
 -- The parts of the message that the group of a set gives are the scheme's: `group-parts`. The query has, at the wanted message's
 -- position in row i, the number of the symbol that the row gives.
 use Prim.Native.Nat.{ℕ, _+_, _-_, _*_, _^_, _≤_, _<_}
-use native.Mathlib.Nat.{suc-mul, mul-le-mul-right, one-le-pow}
 use native.Mathlib.Omega.{arith}
 use mathlib.Core.Path.{_≡_, ap, ap₂, _∙_}
-use mathlib.Core.Bool.{Bool, true}
+use mathlib.Core.Bool.{Bool}
 use mathlib.Core.List.{List, [], map}
 use lib.ListN.{length, getD, take, length-map}
 use Rattle.lists.specs.Ranges.{range}
@@ -15,15 +14,13 @@ use Rattle.symbol.specs.Sum.{Sum}
 use Rattle.scheme.specs.Scheme.{answersIn}
 use Rattle.even_places.specs.Rule.{byteOf, onesIn, queryCells, allSets}
 use Rattle.even_places.proofs.WantedCells.{cellsOf, WantedCell, wanted-cell}
-use Rattle.even_scheme.specs.Even.{entryAt, evenKeyGood, evenQuery, wantedPlace, recoveredPart, evenScheme}
-use Rattle.even_scheme.proofs.Symbols.{number-below}
+use Rattle.even_scheme.specs.Even.{entryAt, evenQuery, wantedPlace, recoveredPart, evenScheme}
 use Rattle.even_recover.specs.declared.Group.{Group}
 use Rattle.even_recover.specs.Rows.{serverRowsOf, groupPart, groupParts, groupOf, Named}
 use Rattle.even_recover.proofs.Groups.{Reads, WantedSet, messages-is, count-is, cell-is, group-symbol}
 
--- a buffer begins with the query that a good key calls for
+-- a buffer begins with the query that a key calls for
 pub record HasQuery (N K wanted server : ℕ) (key query : List ℕ) : Type 0 where
-  pub good : evenKeyGood N K key ≡ true
   pub room : length (evenQuery N K wanted server key) ≤ length query
   pub same : (c : ℕ) → c < length (evenQuery N K wanted server key) → getD query c 0 ≡ getD (evenQuery N K wanted server key) c 0
 
@@ -64,18 +61,11 @@ module _ (sum : Sum) {N K S wanted server : ℕ} {firsts key query : List ℕ} (
       ∙ map-at (λ cell. entryAt N K key (cell .0) (cell .1)) (0, 0) 0 (queryCells N K wanted server) (position i) (at-position i h .inside)
       ∙ rw (at-position i h .its-message, at-position i h .its-place)
 
-  pub group-named : (message : List ℕ) → N ^ K * S ≤ length message → Named (serverRowsOf N K S wanted server) group query message
-  group-named message room = record {
+  pub group-named : Named group query
+  group-named = record {
     cells = λ i h.
         let at = position-inside i (rw (count-is reads wantedSet cell) at h) in
         omega (arith, position-is i, asked .room);
-    symbols = λ i h.
-        let number = getD query (group .cell + i * group .messages) 0 in
-        let below : number < N ^ K =
-        rw (number-is i (rw (count-is reads wantedSet cell) at h))
-        (number-below N K key wanted (wantedPlace sum N K S wanted server A i) (asked .good) (reads .wanted-known)
-        (one-le-pow K N (omega (arith, reads .bounds .servers-low)))) in
-        omega (arith, suc-mul number S, mul-le-mul-right S below);
   }
 
   pub group-parts : (answers : List ℕ)

@@ -7,7 +7,7 @@ use mathlib.Core.Path.{_≡_, refl, sym, ap, ap₂, _∙_}
 use mathlib.Core.Logic.{_≢_}
 use mathlib.Core.Bool.{Bool, true, false, cond}
 use mathlib.Core.List.{List, []}
-use borrow.Author.Tests.{eqb-false}
+use borrow.Author.Tests.{eqb-false, ne-eqb}
 use lib.Count.{ones-le}
 use lib.Dec.{eqb}
 use lib.ListN.{length, getD, take, set}
@@ -16,7 +16,7 @@ use Rattle.lists.proofs.Mapped.{mapped-at}
 use Rattle.lists.proofs.Cuts.{cut-cut}
 use Rattle.parameters.specs.Measures.{evenRows, evenSizes}
 use Rattle.parameters.proofs.Bounds.{EvenBounds}
-use Rattle.symbol.specs.Sum.{Sum}
+use Rattle.symbol.specs.Sum.{Sum, symbolAt, less}
 use Rattle.scheme.specs.Scheme.{answersIn}
 use Rattle.even_places.specs.Rule.{has, byteOf, onesIn, others, rows, layout, firstRow}
 use Rattle.even_places.proofs.Bytes.{byte-ones, byte-below}
@@ -29,7 +29,7 @@ use Rattle.even_places.proofs.AllSets.{IsSet}
 use Rattle.even_scheme.specs.Even.{answeredRow, sourceServer, sourceRow, recoveredSymbol, evenScheme}
 use Rattle.even_recover.specs.declared.ServerRows.{ServerRows}
 use Rattle.even_recover.specs.declared.Group.{Group}
-use Rattle.even_recover.specs.Rows.{serverRowsOf, rowIn, groupSymbol, groupOf, Grouped}
+use Rattle.even_recover.specs.Rows.{serverRowsOf, ownRow, joinedFrom, groupSymbol, groupOf, Grouped}
 
 -- a server is read: parameters within their bounds, and a table with the first row of each set at the set's byte
 pub record Reads (N K S wanted server : ℕ) (firsts : List ℕ) : Type 0 where
@@ -44,11 +44,11 @@ pub record WantedSet (K wanted : ℕ) (A : List Bool) : Type 0 where
   pub has-wanted : has wanted A ≡ true
 
 -- the rows of an answer buffer are those of its slots
-row-read : (sum : Sum) (N K S wanted : ℕ) (key answers : List ℕ) (here server row : ℕ) → server < N → row < evenRows N K
-    → rowIn (serverRowsOf N K S wanted here) answers server row
+row-read : (sum : Sum) (N K S wanted : ℕ) (key answers : List ℕ) (server row : ℕ) → server < N → row < evenRows N K
+    → symbolAt S answers (server * evenRows N K + row)
     ≡ answeredRow sum N K S wanted (answersIn (evenScheme sum N K S) N wanted key answers) server row
 unfolding answeredRow answersIn evenSizes
-row-read sum N K S wanted key answers here server row known within =
+row-read sum N K S wanted key answers server row known within =
     ap (λ (at : ℕ). cut at S answers) offset
     ∙ sym (cut-cut (row * S) S (server * (evenRows N K * S)) (evenRows N K * S) answers inside)
     ∙ ap (cut (row * S) S) (sym (mapped-at (λ m. cut (m * (evenRows N K * S)) (evenRows N K * S) answers) [] N server known))
@@ -150,30 +150,33 @@ module _ {N K S wanted server : ℕ} {firsts : List ℕ} (reads : Reads N K S wa
       slots = answersIn (evenScheme sum N K S) N wanted key answers
 
       own-is : (i : ℕ) → i < (N - 1) ^ (onesIn A - 1)
-          → rowIn here answers server (group .first + i) ≡ answeredRow sum N K S wanted slots server (firstRow A (layout N K) + i)
+          → symbolAt S answers (ownRow here group i) ≡ answeredRow sum N K S wanted slots server (firstRow A (layout N K) + i)
       own-is i h =
-          ap (λ (r : ℕ). rowIn here answers server (r + i)) first-is
-          ∙ row-read sum N K S wanted key answers server server (firstRow A (layout N K) + i) (reads .server-known) (row-below A i good h)
+          ap (λ (r : ℕ). symbolAt S answers (server * evenRows N K + (r + i))) first-is
+          ∙ row-read sum N K S wanted key answers server (firstRow A (layout N K) + i) (reads .server-known) (row-below A i good h)
 
       from-is : (joined : 1 < onesIn A) (i : ℕ) → i < (N - 1) ^ (onesIn A - 1)
-          → rowIn here answers (getD (others N server) (i / group .each) 0) (group .source + i % group .each)
+          → symbolAt S answers (joinedFrom here group i)
           ≡ answeredRow sum N K S wanted slots (sourceServer sum N K S wanted server A i) (sourceRow sum N K S wanted A i)
-      unfolding sourceServer sourceRow
+      unfolding joinedFrom sourceServer sourceRow
       from-is joined i h =
           let q = (N - 1) ^ (onesIn A - 2) in
-          ap₂ (λ (x r : ℕ). rowIn here answers (getD (others N server) (i / x) 0) (r + i % x)) (each-is joined) (source-is joined)
-          ∙ row-read sum N K S wanted key answers server (getD (others N server) (i / q) 0) (firstRow (set A wanted false) (layout N K) + i % q)
+          let row : ℕ → ℕ → ℕ = λ each first. getD (others N server) (i / each) 0 * evenRows N K + (first + i % each) in
+          ap (λ (t : Bool). symbolAt S answers (cond t (ownRow here group i) (row (group .each) (group .source))))
+          (ne-eqb (group .messages) 1 (let many : group .messages ≢ 1 = λ e. omega (arith, messages-is, e) in many))
+          ∙ ap₂ (λ (x r : ℕ). symbolAt S answers (row x r)) (each-is joined) (source-is joined)
+          ∙ row-read sum N K S wanted key answers (getD (others N server) (i / q) 0) (firstRow (set A wanted false) (layout N K) + i % q)
           (source joined i h .server-below) (source-below joined (i % q) (mod-lt i (some-rows (onesIn A - 2))))
 
       pub group-symbol : (i : ℕ) → i < (N - 1) ^ (onesIn A - 1) → groupSymbol sum here group answers i ≡ recoveredSymbol sum N K S wanted slots server A i
-      unfolding groupSymbol recoveredSymbol
-      group-symbol i h = ap (λ (m : ℕ). cond (eqb m 1) own (sum .minus own from)) messages-is ∙ go (eqb (onesIn A) 1) refl
+      unfolding groupSymbol less recoveredSymbol
+      group-symbol i h = ap (λ (m : ℕ). less sum (eqb m 1) own from) messages-is ∙ go (eqb (onesIn A) 1) refl
         where
           own : List ℕ
-          own = rowIn here answers server (group .first + i)
+          own = symbolAt S answers (ownRow here group i)
 
           from : List ℕ
-          from = rowIn here answers (getD (others N server) (i / group .each) 0) (group .source + i % group .each)
+          from = symbolAt S answers (joinedFrom here group i)
 
           asked : List ℕ
           asked = answeredRow sum N K S wanted slots server (firstRow A (layout N K) + i)
@@ -181,7 +184,7 @@ module _ {N K S wanted server : ℕ} {firsts : List ℕ} (reads : Reads N K S wa
           joined-from : List ℕ
           joined-from = answeredRow sum N K S wanted slots (sourceServer sum N K S wanted server A i) (sourceRow sum N K S wanted A i)
 
-          go : (t : Bool) → eqb (onesIn A) 1 ≡ t → cond t own (sum .minus own from) ≡ cond t asked (sum .minus asked joined-from)
+          go : (t : Bool) → eqb (onesIn A) 1 ≡ t → less sum t own from ≡ cond t asked (sum .minus asked joined-from)
           go true alone = own-is i h
           go false f =
               let ne : onesIn A ≢ 1 = eqb-false (onesIn A) 1 f in

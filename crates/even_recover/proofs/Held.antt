@@ -1,46 +1,48 @@
--- The rows that recovery reads are in the answer buffer: a group's own rows (`own-row`), and those that they are joined from
--- (`source-row`).
-use Prim.Native.Nat.{ℕ, suc, _+_, _-_, _*_, _/_, _%_, _≤_, _<_}
+-- The rows that recovery reads are in the answer buffer (`row-inside`): a group's own rows (`own-row`), and those that they are joined
+-- from (`source-row`, `joined-row`).
+use Prim.Native.Nat.{ℕ, _+_, _-_, _*_, _/_, _%_, _≤_, _<_}
 use native.Mathlib.Nat.{mul-le-mul, mul-le-mul-right, suc-mul, mul-zero, mod-lt, div-lt-iff-lt-mul}
 use native.Mathlib.Decide.{decLt}
 use native.Mathlib.Omega.{arith}
-use mathlib.Core.Path.{_≡_, ap, _∙_}
+use mathlib.Core.Path.{_≡_, refl, ap, _∙_}
 use mathlib.Core.Logic.{_≢_}
+use mathlib.Core.Bool.{Bool, true, false, cond}
 use mathlib.Core.List.{List}
+use borrow.Author.Tests.{eqb-false}
+use lib.Dec.{eqb}
 use lib.ListN.{length, getD}
 use Rattle.lists.proofs.Each.{All-get}
 use Rattle.even_places.specs.Rule.{others}
 use Rattle.even_places.proofs.Others.{others-length, others-below}
 use Rattle.even_recover.specs.declared.ServerRows.{ServerRows}
 use Rattle.even_recover.specs.declared.Group.{Group}
-use Rattle.even_recover.specs.Rows.{Held, Grouped}
+use Rattle.even_recover.specs.Rows.{ownRow, joinedFrom, Bounded, Held, Grouped}
 
--- row x of the answer buffer is in it, and its number is small
-pub record RowAt (x symbol long : ℕ) : Type 0 where
-  pub inside : x * symbol + symbol ≤ long
+-- row x of the answer buffer is one of the servers' rows, and its number is small
+pub record RowAt (here : ServerRows) (x : ℕ) : Type 0 where
+  pub below : x < here .servers * here .rows
   pub small : x < 4096
 
-row-at : (here : ServerRows) (answers : List ℕ) (server row : ℕ) → Held here answers → server < here .servers → row < here .rows
-    → RowAt (server * here .rows + row) (here .symbol) (length answers)
-row-at here answers server row held known within =
-    let x = server * here .rows + row in
-    let below : suc x ≤ here .servers * here .rows = omega (arith, mul-le-mul-right (here .rows) known, suc-mul server (here .rows)) in
-    let high = mul-le-mul-right (here .symbol) below in
-    let most = mul-le-mul (held .few) (held .short) in
-    record { inside = omega (arith, suc-mul x (here .symbol), held .held); small = omega arith }
+row-at : (here : ServerRows) (server row : ℕ) → Bounded here → server < here .servers → row < here .rows → RowAt here (server * here .rows + row)
+row-at here server row bounded known within =
+    let last = mul-le-mul-right (here .rows) known in
+    let next = suc-mul server (here .rows) in
+    let most = mul-le-mul (bounded .few) (bounded .short) in
+    record { below = omega arith; small = omega arith }
 
-module _ (here : ServerRows) (group : Group) (answers : List ℕ) (i : ℕ) (held : Held here answers) (grouped : Grouped here group)
-    (within : i < group .count) where
-  pub own-row : RowAt (here .server * here .rows + (group .first + i)) (here .symbol) (length answers)
-  own-row =
-      row-at here answers (here .server) (group .first + i) held (held .known) (omega (arith, grouped .own))
+-- such a row is in the buffer
+pub row-inside : (here : ServerRows) (answers : List ℕ) (x : ℕ) → Held here answers → RowAt here x → x * here .symbol + here .symbol ≤ length answers
+row-inside here answers x held at = omega (arith, suc-mul x (here .symbol), mul-le-mul-right (here .symbol) (at .below), held .held)
+
+module _ (here : ServerRows) (group : Group) (i : ℕ) (bounded : Bounded here) (grouped : Grouped here group) (within : i < group .count) where
+  pub own-row : RowAt here (ownRow here group i)
+  own-row = row-at here (here .server) (group .first + i) bounded (bounded .known) (omega (arith, grouped .own))
 
   -- whose turn it is, and which row of that server's
   pub record Source : Type 0 where
     pub some-each : 0 < group .each
     pub turn : i / group .each < here .servers - 1
-    pub source : RowAt (getD (others (here .servers) (here .server)) (i / group .each) 0 * here .rows + (group .source + i % group .each))
-        (here .symbol) (length answers)
+    pub source : RowAt here (getD (others (here .servers) (here .server)) (i / group .each) 0 * here .rows + (group .source + i % group .each))
 
   pub source-row : group .messages ≢ 1 → Source
   source-row joined =
@@ -51,9 +53,9 @@ module _ (here : ServerRows) (group : Group) (answers : List ℕ) (i : ℕ) (hel
         some-each = some-each;
         turn = turn;
         source =
-            row-at here answers (getD (others (here .servers) (here .server)) (i / group .each) 0) (group .source + i % group .each) held
+            row-at here (getD (others (here .servers) (here .server)) (i / group .each) 0) (group .source + i % group .each) bounded
             (All-get 0 (others-below (here .servers) (here .server)) (i / group .each)
-            (omega (arith, turn, others-length (here .servers) (here .server) (held .known))))
+            (omega (arith, turn, others-length (here .servers) (here .server) (bounded .known))))
             (omega (arith, grouped .joined joined, mod-lt i some-each));
       }
     where
@@ -63,3 +65,13 @@ module _ (here : ServerRows) (group : Group) (answers : List ℕ) (i : ℕ) (hel
           let none : group .each ≡ 0 = omega arith in
           let nothing : (here .servers - 1) * group .each ≡ 0 = ap (λ (e : ℕ). (here .servers - 1) * e) none ∙ mul-zero (here .servers - 1) in
           absurd (let w : ⊥ = omega (arith, grouped .turns joined) in w)
+
+  pub joined-row : RowAt here (joinedFrom here group i)
+  unfolding joinedFrom
+  joined-row = go (eqb (group .messages) 1) refl
+    where
+      go : (t : Bool) → eqb (group .messages) 1 ≡ t
+          → RowAt here (cond t (ownRow here group i)
+          (getD (others (here .servers) (here .server)) (i / group .each) 0 * here .rows + (group .source + i % group .each)))
+      go true e = own-row
+      go false e = source-row (eqb-false (group .messages) 1 e) .source

@@ -1,5 +1,4 @@
 pub mod Held
-pub mod RowSymbol
 pub mod Groups
 pub mod GroupParts
 pub mod Sized

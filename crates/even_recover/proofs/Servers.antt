@@ -9,7 +9,8 @@ use Rattle.lists.proofs.Cuts.{front-is, front-fits}
 use Rattle.symbol.specs.Sum.{Sum}
 use Rattle.scheme.specs.Scheme.{answersIn}
 use Rattle.even_places.specs.Rule.{byteOf, allSets}
-use Rattle.lists.specs.Assembled.{assemble}
+use Rattle.lists.specs.Parts.{lay}
+use Rattle.lists.specs.Assembled.{assembleBy, layAll}
 use Rattle.even_scheme.specs.Even.{serverParts, recoveredParts, evenScheme}
 use Rattle.even_sets.proofs.Blocks.{all-bytes}
 use Rattle.lists.proofs.Assembled.{assemble-list}
@@ -30,17 +31,17 @@ module _ (sum : Sum) (N K S wanted : ℕ) (key answers : List ℕ) where
   unfoldable pub partsBefore : ℕ → List (ℕ × List ℕ)
   partsBefore servers = flatMap (serverParts sum N K S wanted key (answersIn (evenScheme sum N K S) N wanted key answers)) (range 0 servers)
 
-  pub before-none : (buffer : List ℕ) → buffer ≡ assemble (partsBefore 0) buffer
-  unfolding partsBefore range flatMap assemble
+  pub before-none : (buffer : List ℕ) → buffer ≡ layAll (partsBefore 0) buffer
+  unfolding partsBefore range flatMap assembleBy
   before-none buffer = refl
 
-  pub before-more : (server : ℕ) (start message done : List ℕ) → message ≡ assemble (partsBefore server) start
-      → done ≡ assemble (serverParts sum N K S wanted key (answersIn (evenScheme sum N K S) N wanted key answers) server) message
-      → done ≡ assemble (partsBefore (server + 1)) start
+  pub before-more : (server : ℕ) (start message done : List ℕ) → message ≡ layAll (partsBefore server) start
+      → done ≡ layAll (serverParts sum N K S wanted key (answersIn (evenScheme sum N K S) N wanted key answers) server) message
+      → done ≡ layAll (partsBefore (server + 1)) start
   unfolding partsBefore
   before-more server start message done e f =
       let parts = serverParts sum N K S wanted key (answersIn (evenScheme sum N K S) N wanted key answers) in
-      f ∙ ap (assemble (parts server)) e ∙ sym (assemble-list parts server start)
+      f ∙ ap (layAll (parts server)) e ∙ sym (assemble-list lay parts server start)
 
   pub before-all : (servers : ℕ) → servers ≡ N
       → partsBefore servers ≡ recoveredParts sum N K S wanted key (answersIn (evenScheme sum N K S) N wanted key answers)

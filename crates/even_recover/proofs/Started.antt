@@ -1,6 +1,6 @@
 -- Before the first set of a server is recovered, the query, the table of first rows and what is the same for all rows are as they
 -- should be: `fetched-none`.
-use Prim.Native.Nat.{ℕ, _*_, _^_, _≤_, _<_}
+use Prim.Native.Nat.{ℕ, _*_, _≤_, _<_}
 use native.Mathlib.Nat.{mul-assoc}
 use native.Mathlib.Omega.{arith}
 use mathlib.Core.Path.{_≡_, refl, ap, _∙_}
@@ -15,8 +15,8 @@ use Rattle.parameters.specs.Measures.{evenRows}
 use Rattle.parameters.proofs.Bounds.{EvenBounds, even-bounds}
 use Rattle.symbol.specs.Sum.{Sum}
 use Rattle.even_places.specs.Rule.{byteOf, allSets}
-use Rattle.lists.specs.Assembled.{assemble}
-use Rattle.even_scheme.specs.Even.{evenKeyGood, evenQuery}
+use Rattle.lists.specs.Assembled.{assembleBy}
+use Rattle.even_scheme.specs.Even.{evenQuery}
 use Rattle.even_layout.specs.Layout.{firstRows, firstRowOf}
 use Rattle.even_layout.proofs.Firsts.{first-rows-at}
 use Rattle.even_recover.specs.declared.ServerRows.{ServerRows}
@@ -27,13 +27,12 @@ use Rattle.even_recover.proofs.Sized.{sized}
 use Rattle.even_recover.proofs.Fetched.{Fetched, partsOf}
 
 -- a query written to the front of a buffer
-has-query : (N K wanted server : ℕ) (key query space : List ℕ) → evenKeyGood N K key ≡ true → query ≡ put 0 (evenQuery N K wanted server key) space
+has-query : (N K wanted server : ℕ) (key query space : List ℕ) → query ≡ put 0 (evenQuery N K wanted server key) space
     → HasQuery N K wanted server key query
-has-query N K wanted server key query space good e =
+has-query N K wanted server key query space e =
     let bytes = evenQuery N K wanted server key in
     let rest = drop (length bytes) space in
     record {
-      good = good;
       room = omega (arith, ap length e, length-append bytes rest);
       same = λ c h. ap (λ (l : List ℕ). getD l c 0) e ∙ List·getD-append bytes rest 0 c h;
     }
@@ -56,25 +55,27 @@ module _ (N K S wanted server : ℕ) (fits : evenFits N K S ≡ true) (wanted-kn
 
   held : (answers : List ℕ) → N * (evenRows N K * S) ≤ length answers → Held (serverRowsOf N K S wanted server) answers
   held answers h = record {
-    known = server-known;
-    few = bounds .servers-high;
-    short = sized bounds wanted-known .rows-high;
+    bounded = record {
+      known = server-known;
+      few = bounds .servers-high;
+      short = sized bounds wanted-known .rows-high;
+      narrow = bounds .symbol-high;
+    };
     held = omega (arith, mul-assoc N (evenRows N K) S);
   }
 
-  pub fetched-none : (sum : Sum) (key sets firsts answers start : List ℕ) (here : ServerRows) (query space : List ℕ) → evenKeyGood N K key ≡ true
-      → sets ≡ map byteOf (allSets K) → firsts ≡ firstRows N K → N * (evenRows N K * S) ≤ length answers → N ^ K * S ≤ length start
+  pub fetched-none : (sum : Sum) (key sets firsts answers start : List ℕ) (here : ServerRows) (query space : List ℕ)
+      → sets ≡ map byteOf (allSets K) → firsts ≡ firstRows N K → N * (evenRows N K * S) ≤ length answers
       → here ≡ serverRowsOf N K S wanted server → query ≡ put 0 (evenQuery N K wanted server key) space
       → Fetched sum N K S wanted server key sets firsts answers start here query start 0 0
-  unfolding summed partsOf keep flatMap assemble
-  fetched-none sum key sets firsts answers start here query space good sets-are firsts-are slots room here-is query-is = record {
+  unfolding summed partsOf keep flatMap assembleBy
+  fetched-none sum key sets firsts answers start here query space sets-are firsts-are slots here-is query-is = record {
     reads = reads firsts firsts-are;
-    asked = has-query N K wanted server key query space good query-is;
+    asked = has-query N K wanted server key query space query-is;
     sets-are = sets-are;
     table = ap length firsts-are ∙ firsts-length N K;
     here-is = here-is;
     held = rw here-is (held answers slots);
-    room = room;
     within = omega arith;
     long = refl;
     cell-is = refl;

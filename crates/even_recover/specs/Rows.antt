@@ -8,10 +8,9 @@ use mathlib.Core.List.{List, [], map}
 use lib.Count.{ones}
 use lib.Dec.{eqb}
 use lib.ListN.{length, getD}
-use Rattle.lists.specs.Parts.{cut, put}
 use Rattle.lists.specs.Ranges.{range}
 use Rattle.parameters.specs.Measures.{evenRows}
-use Rattle.symbol.specs.Sum.{Sum}
+use Rattle.symbol.specs.Sum.{Sum, symbolAt, less}
 use Rattle.even_places.specs.Rule.{others}
 use Rattle.even_recover.specs.declared.ServerRows.{ServerRows}
 use Rattle.even_recover.specs.declared.Group.{Group}
@@ -20,22 +19,21 @@ use Rattle.even_recover.specs.declared.Group.{Group}
 abbrev pub serverRowsOf : ℕ → ℕ → ℕ → ℕ → ℕ → ServerRows
 serverRowsOf N K S wanted server = record { servers = N; symbol = S; rows = evenRows N K; bit = 2 ^ wanted; server = server }
 
--- the answer to a row of a server's query, in the answer buffer
-abbrev pub rowIn : ServerRows → List ℕ → ℕ → ℕ → List ℕ
-rowIn here answers server row = cut ((server * here .rows + row) * here .symbol) (here .symbol) answers
+-- row i of a group, as a row of the answer buffer
+abbrev pub ownRow : ServerRows → Group → ℕ → ℕ
+ownRow here group i = here .server * here .rows + (group .first + i)
 
--- the message after a row of the answer buffer is taken away from a symbol of it
-abbrev pub rowTaken : Sum → ℕ → ℕ → ℕ → List ℕ → List ℕ → List ℕ
-rowTaken sum size number row answers message =
-    put (number * size) (sum .minus (cut (number * size) size message) (cut (row * size) size answers)) message
+-- the row of the answer buffer that it was joined from; the row itself, if the wanted message stands alone in it
+unfoldable pub joinedFrom : ServerRows → Group → ℕ → ℕ
+joinedFrom here group i =
+    cond (eqb (group .messages) 1)
+    (ownRow here group i)
+    (getD (others (here .servers) (here .server)) (i / group .each) 0 * here .rows + (group .source + i % group .each))
 
--- the symbol that row i of a group gives
+-- the symbol that it gives: the answer to it, less the answer to the row that it was joined from
 unfoldable pub groupSymbol : Sum → ServerRows → Group → List ℕ → ℕ → List ℕ
 groupSymbol sum here group answers i =
-    cond (eqb (group .messages) 1)
-    (rowIn here answers (here .server) (group .first + i))
-    (sum .minus (rowIn here answers (here .server) (group .first + i))
-    (rowIn here answers (getD (others (here .servers) (here .server)) (i / group .each) 0) (group .source + i % group .each)))
+    less sum (eqb (group .messages) 1) (symbolAt (here .symbol) answers (ownRow here group i)) (symbolAt (here .symbol) answers (joinedFrom here group i))
 
 -- the part of the message that it gives: the query names the symbol's number
 unfoldable pub groupPart : Sum → ServerRows → Group → List ℕ → List ℕ → ℕ → ℕ × List ℕ
@@ -72,11 +70,16 @@ pub record Given (here : ServerRows) (set cell : ℕ) (firsts : List ℕ) : Type
   pub near : cell ≤ 524288
   pub table : length firsts ≡ 256
 
--- the server is one of at most 16, a query has at most 256 rows, and the answer buffer holds the rows of all
-pub record Held (here : ServerRows) (answers : List ℕ) : Type 0 where
+-- the server is one of at most 16, a query has at most 256 rows, and a symbol at most 4,096 bytes
+pub record Bounded (here : ServerRows) : Type 0 where
   pub known : here .server < here .servers
   pub few : here .servers ≤ 16
   pub short : here .rows ≤ 256
+  pub narrow : here .symbol ≤ 4096
+
+-- and the answer buffer holds the rows of all
+pub record Held (here : ServerRows) (answers : List ℕ) : Type 0 where
+  pub bounded : Bounded here
   pub held : here .servers * here .rows * here .symbol ≤ length answers
 
 -- the group's rows, and those that they are joined from, are rows of a query
@@ -86,13 +89,12 @@ pub record Grouped (here : ServerRows) (group : Group) : Type 0 where
   pub joined : group .messages ≢ 1 → group .source + group .each ≤ here .rows
   pub turns : group .messages ≢ 1 → group .count ≤ (here .servers - 1) * group .each
 
--- the group's cells are in the query, and the symbols that they name in the message
-pub record Named (here : ServerRows) (group : Group) (query message : List ℕ) : Type 0 where
+-- the group's cells are in the query
+pub record Named (group : Group) (query : List ℕ) : Type 0 where
   pub cells : (i : ℕ) → i < group .count → group .cell + i * group .messages < length query
-  pub symbols : (i : ℕ) → i < group .count → getD query (group .cell + i * group .messages) 0 * here .symbol + here .symbol ≤ length message
 
 -- all of that, of the group of a set with the wanted message
-pub record Ready (here : ServerRows) (set cell : ℕ) (firsts query message : List ℕ) : Type 0 where
+pub record Ready (here : ServerRows) (set cell : ℕ) (firsts query : List ℕ) : Type 0 where
   pub given : Given here set cell firsts
   pub grouped : Grouped here (groupOf here set cell firsts)
-  pub named : Named here (groupOf here set cell firsts) query message
+  pub named : Named (groupOf here set cell firsts) query

@@ -3,20 +3,21 @@ use symbol::Operation;
 ghost use mathlib.Core.Path.{_≡_};
 ghost use mathlib.Core.Bool.{true};
 ghost use mathlib.Core.List.{map};
-ghost use Prim.Native.Nat.{_+_, _-_, _*_, _/_, _%_, _^_, _≤_, _<_};
+ghost use Prim.Native.Nat.{_*_, _/_, _%_, _^_, _≤_, _<_};
 ghost use lib.ListN.{length};
-ghost use Rattle.lists.specs.Parts.{put};
-ghost use Rattle.lists.specs.Assembled.{assemble};
+ghost use Rattle.lists.specs.Parts.{lay};
+ghost use Rattle.lists.specs.Assembled.{layAll};
 ghost use Rattle.symbol.specs.Operations.{sumOf};
 ghost use Rattle.parameters.specs.Bounds.{evenFits};
-ghost use Rattle.parameters.specs.Measures.{evenRows};
-ghost use Rattle.scheme.specs.Scheme.{answersIn};
+ghost use Rattle.parameters.specs.Measures.{evenRows, evenSizes};
+ghost use Rattle.scheme.specs.Scheme.{Valid, answersIn, recoverIn};
 ghost use Rattle.even_places.specs.Rule.{byteOf, allSets};
-ghost use Rattle.even_scheme.specs.Even.{evenKeyGood, serverParts, recoveredParts, evenScheme};
+ghost use Rattle.even_scheme.specs.Even.{serverParts, evenScheme};
 ghost use Rattle.even_layout.specs.Layout.{firstRows};
-ghost use Rattle.even_recover.specs.Rows.{serverRowsOf, groupSymbol, groupParts, groupOf, setParts, Given, Held, Grouped, Named, Ready};
+ghost use Rattle.even_recover.specs.Rows.{serverRowsOf, groupParts, groupOf, setParts, Given, Held, Grouped, Named, Ready};
 
-mod symbols;
+// One row of a query.
+mod rows;
 
 // What is the same for all rows of one server's query.
 struct ServerRows {
@@ -48,31 +49,6 @@ struct Group {
     cell: usize,
 }
 
-// Recovers the symbol of row `i` of the group: the answer to it, less the answer to the row that it was joined from.
-fn from_row(
-    op: Operation,
-    here: ServerRows,
-    group: Group,
-    i: usize,
-    number: usize,
-    answers: &[u8],
-    message: &mut [u8],
-)
-    requires { ⌜ Held here (now answers) ⌝ }
-    requires { ⌜ Grouped here group ⌝ }
-    requires { ⌜ i < group .count ⌝ }
-    requires { ⌜ number * here .symbol + here .symbol ≤ length (now message) ⌝ }
-    ensures { λ _. ⌜ now (message .exit) ≡ put (number * here .symbol) (groupSymbol (sumOf op) here group (now (answers .entry)) i) (now (message .entry)) ⌝ }
-{
-    let row = here.server * here.rows + (group.first + i);
-    symbols::copy_row(here.symbol, number, row, answers, message);
-    if group.messages != 1 {
-        let source = even_layout::other_server(here.server, i / group.each) * here.rows
-            + (group.source + i % group.each);
-        symbols::subtract_row(op, here.symbol, number, source, answers, message);
-    }
-}
-
 // Recovers the symbols of the group's rows, in order.
 fn from_group(
     op: Operation,
@@ -84,15 +60,15 @@ fn from_group(
 )
     requires { ⌜ Held here (now answers) ⌝ }
     requires { ⌜ Grouped here group ⌝ }
-    requires { ⌜ Named here group (now query) (now message) ⌝ }
-    ensures { λ _. ⌜ now (message .exit) ≡ assemble (groupParts (sumOf op) here group (now (query .entry)) (now (answers .entry))) (now (message .entry)) ⌝ }
+    requires { ⌜ Named group (now query) ⌝ }
+    ensures { λ _. ⌜ now (message .exit) ≡ layAll (groupParts (sumOf op) here group (now (query .entry)) (now (answers .entry))) (now (message .entry)) ⌝ }
 {
     let count = group.count;
     let mut cell = group.cell;
     let mut i = 0;
     while i < count {
         let number = query[cell] as usize;
-        from_row(op, here, group, i, number, answers, message);
+        rows::from_row(op, here, group, i, number, answers, message);
         cell += group.messages;
         i += 1;
     }
@@ -127,9 +103,9 @@ fn from_set(
 )
     requires { ⌜ 1 ≤ here .bit ⌝ }
     requires { ⌜ Held here (now answers) ⌝ }
-    requires { ⌜ (set / here .bit % 2 ≡ 1 → Ready here set cell (now firsts) (now query) (now message)) ⌝ }
+    requires { ⌜ (set / here .bit % 2 ≡ 1 → Ready here set cell (now firsts) (now query)) ⌝ }
     ensures { λ _. ⌜ now (message .exit)
-        ≡ assemble (setParts (sumOf op) here set cell (now (firsts .entry)) (now (query .entry)) (now (answers .entry))) (now (message .entry)) ⌝ }
+        ≡ layAll (setParts (sumOf op) here set cell (now (firsts .entry)) (now (query .entry)) (now (answers .entry))) (now (message .entry)) ⌝ }
 {
     if set / here.bit % 2 == 1 {
         from_group(
@@ -175,11 +151,11 @@ fn from_server(
 )
     requires { ⌜ evenFits n k s ≡ true ⌝ }
     requires { ⌜ (wanted < k) × (server < n) ⌝ }
-    requires { ⌜ (length (now key) ≡ k * n ^ k) × (evenKeyGood n k (now key) ≡ true) ⌝ }
+    requires { ⌜ length (now key) ≡ k * n ^ k ⌝ }
     requires { ⌜ (now sets ≡ map byteOf (allSets k)) × (now firsts ≡ firstRows n k) ⌝ }
-    requires { ⌜ (n * (evenRows n k * s) ≤ length (now answers)) × (n ^ k * s ≤ length (now message)) ⌝ }
+    requires { ⌜ n * (evenRows n k * s) ≤ length (now answers) ⌝ }
     ensures { λ _. ⌜ now (message .exit)
-        ≡ assemble (serverParts (sumOf op) n k s wanted (now (key .entry))
+        ≡ layAll (serverParts (sumOf op) n k s wanted (now (key .entry))
         (answersIn (evenScheme (sumOf op) n k s) n wanted (now (key .entry)) (now (answers .entry))) server) (now (message .entry)) ⌝ }
 {
     let here = server_rows_of(n, k, s, wanted, server);
@@ -195,7 +171,7 @@ fn from_server(
     }
 }
 
-// Recovers the wanted message from the slots of the answer buffer, and writes each symbol at its number.
+// Recovers the wanted message from the slots of the answer buffer, and writes each symbol at its number, as far as `message` reaches.
 pub fn recover(
     op: Operation,
     n: usize,
@@ -208,11 +184,10 @@ pub fn recover(
 )
     requires { ⌜ evenFits n k s ≡ true ⌝ }
     requires { ⌜ wanted < k ⌝ }
-    requires { ⌜ (length (now key) ≡ k * n ^ k) × (evenKeyGood n k (now key) ≡ true) ⌝ }
-    requires { ⌜ (n * (evenRows n k * s) ≤ length (now answers)) × (n ^ k * s ≤ length (now message)) ⌝ }
+    requires { ⌜ Valid (evenScheme (sumOf op) n k s) (now key) ⌝ }
+    requires { ⌜ n * evenSizes n k s .slot ≤ length (now answers) ⌝ }
     ensures { λ _. ⌜ now (message .exit)
-        ≡ assemble (recoveredParts (sumOf op) n k s wanted (now (key .entry))
-        (answersIn (evenScheme (sumOf op) n k s) n wanted (now (key .entry)) (now (answers .entry)))) (now (message .entry)) ⌝ }
+        ≡ lay 0 (recoverIn (evenScheme (sumOf op) n k s) n wanted (now (key .entry)) (now (answers .entry))) (now (message .entry)) ⌝ }
 {
     let sets = even_sets::ordered_sets(k);
     let count = parameters::power(2, k) - 1;

@@ -9,14 +9,14 @@ use lib.ListN.{length}
 use Rattle.lists.specs.Arranged.{completed}
 use Rattle.lists.specs.Below.{Below}
 use Rattle.lists.specs.Distinct.{distinct}
-use Rattle.lists.specs.Parts.{put}
+use Rattle.lists.specs.Parts.{lay}
 use Rattle.lists.proofs.Completed.{completed-permutation}
 use Rattle.parameters.specs.Bounds.{evenFits}
 use Rattle.symbol.specs.Group.{AbelianGroup}
 use Rattle.symbol.specs.Sum.{Sum}
 use Rattle.scheme.specs.Laws.{Laws}
 use Rattle.scheme.specs.Scheme.{Valid, answersIn, recoverIn}
-use Rattle.lists.specs.Assembled.{assemble}
+use Rattle.lists.specs.Assembled.{layAll}
 use Rattle.even_scheme.specs.Even.{recoveredParts, evenScheme}
 use Rattle.even_scheme.proofs.Answers.{answer-length, answer-fits}
 use Rattle.even_scheme.proofs.Exchange.{evenExchange, moved-valid, moved-back, moved-shown}
@@ -57,8 +57,8 @@ even-laws sum N K S group fits = record {
 
 pub even-written : (sum : Sum) (N K S : ℕ) → AbelianGroup sum S → evenFits N K S ≡ true → (wanted : ℕ) → wanted < K → (key : List ℕ)
     → Valid (evenScheme sum N K S) key → (slots : List ℕ) → N * evenScheme sum N K S .sizes .slot ≤ length slots
-    → (buffer : List ℕ) → evenScheme sum N K S .sizes .message ≤ length buffer
-    → assemble (recoveredParts sum N K S wanted key (answersIn (evenScheme sum N K S) N wanted key slots)) buffer
-    ≡ put 0 (recoverIn (evenScheme sum N K S) N wanted key slots) buffer
-even-written sum N K S group fits wanted known key valid slots enough buffer room =
-    slots-written sum N K S (group .minus-length) fits wanted known key valid slots enough buffer room
+    → (buffer : List ℕ)
+    → layAll (recoveredParts sum N K S wanted key (answersIn (evenScheme sum N K S) N wanted key slots)) buffer
+    ≡ lay 0 (recoverIn (evenScheme sum N K S) N wanted key slots) buffer
+even-written sum N K S group fits wanted known key valid slots enough buffer =
+    slots-written sum N K S (group .minus-length) fits wanted known key valid slots enough buffer

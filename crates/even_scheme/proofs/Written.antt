@@ -1,5 +1,5 @@
--- Recovery from answers of any contents writes the whole message and nothing behind it, whatever stood in the buffer: what is left by
--- writing one part after another (`assemble`) is the recovered message put at its start: `slots-written`.
+-- Recovery from answers of any contents writes the whole message and nothing behind it, whatever stood in the buffer and wherever it ends:
+-- what is left by writing one part after another (`layAll`) is the recovered message laid at its start: `slots-written`.
 use mathlib.Core.Path.{_≡_, refl, ap, _∙_}
 use mathlib.Core.Bool.{Bool, true, false, cond}
 use mathlib.Core.List.{List, []}
@@ -9,7 +9,7 @@ use native.Mathlib.Omega.{arith}
 use borrow.Author.Tests.{eqb-false}
 use lib.Dec.{eqb}
 use lib.ListN.{length, getD, set, length-replicate}
-use Rattle.lists.specs.Parts.{cut, put}
+use Rattle.lists.specs.Parts.{cut, lay}
 use Rattle.lists.specs.Sums.{All}
 use Rattle.lists.proofs.Cuts.{cut-length}
 use Rattle.lists.proofs.Mapped.{mapped-at}
@@ -24,9 +24,10 @@ use Rattle.even_places.proofs.Counts.{rows-length}
 use Rattle.even_places.proofs.RowNumbers.{row-number}
 use Rattle.even_places.proofs.SourceRows.{source-row}
 use Rattle.even_places.proofs.AllSets.{IsSet}
-use Rattle.lists.specs.Assembled.{assemble}
+use Rattle.lists.specs.Assembled.{layAll}
 use Rattle.even_scheme.specs.Even.{answeredRow, sourceServer, sourceRow, recoveredSymbol, recoveredParts, evenScheme}
-use Rattle.lists.proofs.Assembled.{PartWithin, assemble-anywhere}
+use Rattle.lists.proofs.Assembled.{PartWithin}
+use Rattle.lists.proofs.Laid.{lay-all}
 use Rattle.even_scheme.proofs.Covers.{Whole, parts-within, parts-cover}
 use Rattle.even_scheme.proofs.Measures.{rows-counted}
 
@@ -90,14 +91,12 @@ module _ (sum : Sum) (N K S : ℕ) (keeps : KeepsLength (sum .minus) S) (fits : 
     within = parts-within sum N K S wanted key answers (bounds .servers-low) known valid whole
 
     -- the parts written into a buffer are the recovered message at its start
-    recover-written : (buffer : List ℕ) → evenScheme sum N K S .sizes .message ≤ length buffer
-        → assemble (recoveredParts sum N K S wanted key answers) buffer ≡ put 0 (evenScheme sum N K S .recover wanted key answers) buffer
-    unfolding evenSizes
-    recover-written buffer room =
-        assemble-anywhere (N ^ K * S) (recoveredParts sum N K S wanted key answers) (zeros (N ^ K * S)) buffer within
+    recover-written : (buffer : List ℕ)
+        → layAll (recoveredParts sum N K S wanted key answers) buffer ≡ lay 0 (evenScheme sum N K S .recover wanted key answers) buffer
+    recover-written buffer =
+        lay-all (N ^ K * S) (recoveredParts sum N K S wanted key answers) (zeros (N ^ K * S)) buffer within
         (parts-cover sum N K S wanted key answers (bounds .servers-low) known valid whole (bounds .symbol-low))
         (length-replicate (N ^ K * S) 0)
-        room
 
   -- and so from the slots of an answer buffer of any contents
   module _ (slots : List ℕ) (enough : N * evenScheme sum N K S .sizes .slot ≤ length slots) where
@@ -108,7 +107,7 @@ module _ (sum : Sum) (N K S : ℕ) (keeps : KeepsLength (sum .minus) S) (fits : 
         ap length (mapped-at (λ server. cut (server * slot) slot slots) [] N n l)
         ∙ cut-length (n * slot) slot slots (omega (arith, suc-mul n slot, mul-le-mul-right slot l))
 
-    pub slots-written : (buffer : List ℕ) → evenScheme sum N K S .sizes .message ≤ length buffer
-        → assemble (recoveredParts sum N K S wanted key (answersIn (evenScheme sum N K S) N wanted key slots)) buffer
-        ≡ put 0 (recoverIn (evenScheme sum N K S) N wanted key slots) buffer
-    slots-written buffer room = recover-written (answersIn (evenScheme sum N K S) N wanted key slots) slots-long buffer room
+    pub slots-written : (buffer : List ℕ)
+        → layAll (recoveredParts sum N K S wanted key (answersIn (evenScheme sum N K S) N wanted key slots)) buffer
+        ≡ lay 0 (recoverIn (evenScheme sum N K S) N wanted key slots) buffer
+    slots-written buffer = recover-written (answersIn (evenScheme sum N K S) N wanted key slots) slots-long buffer

@@ -10,4 +10,5 @@ pub mod Served
 pub mod Received
 pub mod Reached
 pub mod Unserved
+pub mod Unmeasured
 pub mod Closed

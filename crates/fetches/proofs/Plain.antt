@@ -13,12 +13,13 @@ use Rattle.lists.specs.Below.{Below}
 use Rattle.lists.specs.Distinct.{stands}
 use Rattle.lists.specs.Ranges.{range}
 use Rattle.refusal.specs.declared.Verdict.the-variants.{Accepted}
-use Rattle.scheme.specs.Scheme.{Scheme, Valid, messageOf}
+use Rattle.scheme.specs.Scheme.{Scheme, Valid}
 use Rattle.scheme.specs.Laws.{Laws}
 use Rattle.calendar.specs.declared.Day.{Day}
 use Rattle.catalogue.specs.declared.Catalogue.{Catalogue}
 use Rattle.catalogue.specs.Catalogue.{Admitted}
 use Rattle.catalogue.specs.Days.{Served}
+use Rattle.codes.specs.Messages.{messageLength, messageIn}
 use Rattle.session.specs.declared.Session.{Session}
 use Rattle.session_parts.specs.Marks.{noMarks, marked}
 use Rattle.session.specs.Calls.{slotsOf, issueVerdict}
@@ -35,13 +36,13 @@ use Rattle.fetches.proofs.Theorem.{kept-first, held-first, begun}
 module _ (schemeOf : Catalogue → Scheme) (c : Catalogue) (admitted : Admitted c) (laws : Laws (c .servers) (c .messages) (schemeOf c))
     (wanted : ℕ) (inside : wanted < c .messages) (key : List ℕ) (valid : Valid (schemeOf c) key)
     (store : List ℕ) (bytes : Below 256 store) (long : length store ≡ schemeOf c .sizes .store)
-    (message : List ℕ) (fits : schemeOf c .sizes .message ≤ length message) (room : ℕ) (roomy : slotsOf schemeOf c ≤ room)
+    (message : List ℕ) (fits : messageLength schemeOf c wanted ≤ length message) (room : ℕ) (roomy : slotsOf schemeOf c ≤ room)
     (day answerDay : ℕ → Day) (in-season : (server : ℕ) → server < c .servers → Served c (day server) × Served c (answerDay server)) where
   abbrev answerFrom : ℕ → List ℕ
   answerFrom = answerOf schemeOf c store wanted key
 
   abbrev End : Made → Type 0
-  End made = made .left ≡ put 0 (messageOf (schemeOf c) store wanted) message
+  End made = made .left ≡ put 0 (messageIn schemeOf c store wanted) message
 
   -- the calls from the take of server `from` on, and from its issue on
   abbrev takesFrom : ℕ → ℕ → List Call
@@ -63,7 +64,7 @@ module _ (schemeOf : Catalogue → Scheme) (c : Catalogue) (admitted : Admitted 
   unfolding range stands
   takes-end zero from e issued taken past answers k held all had lacks =
       last
-      (rw (le-ltb (length message) (schemeOf c .sizes .message) fits) at
+      (rw (le-ltb (length message) (messageLength schemeOf c wanted) fits) at
       (recover-right schemeOf c admitted laws wanted inside key valid room past issued taken answers k message .all-taken (λ i h. had i (omega arith))))
       (recover-message schemeOf c admitted laws wanted inside key valid room past issued taken answers k message store bytes held
       (λ i h. had i (omega arith)) fits)
@@ -130,11 +131,11 @@ module _ (schemeOf : Catalogue → Scheme) (c : Catalogue) (admitted : Admitted 
 
 pub plain-ends : (schemeOf : Catalogue → Scheme) (c : Catalogue) → Admitted c → Laws (c .servers) (c .messages) (schemeOf c)
     → (wanted : ℕ) → wanted < c .messages → (key : List ℕ) → Valid (schemeOf c) key
-    → (store : List ℕ) → Below 256 store → length store ≡ schemeOf c .sizes .store → (message : List ℕ) → schemeOf c .sizes .message ≤ length message
+    → (store : List ℕ) → Below 256 store → length store ≡ schemeOf c .sizes .store → (message : List ℕ) → messageLength schemeOf c wanted ≤ length message
     → (answers : List ℕ) → slotsOf schemeOf c ≤ length answers → (day answerDay : ℕ → Day)
     → ((server : ℕ) → server < c .servers → Served c (day server) × Served c (answerDay server))
     → (query answer : List ℕ) → schemeOf c .sizes .query ≤ length query
-    → Ends (λ (made : Made). made .left ≡ put 0 (messageOf (schemeOf c) store wanted) message)
+    → Ends (λ (made : Made). made .left ≡ put 0 (messageIn schemeOf c store wanted) message)
     (history schemeOf c (plainFetch schemeOf c store wanted key day answerDay answers query answer message))
 plain-ends schemeOf c admitted laws wanted inside key valid store bytes long message fits answers roomy day answerDay in-season query answer room-for =
     rw (begun schemeOf c admitted laws wanted inside key valid)

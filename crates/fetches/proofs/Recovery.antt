@@ -7,7 +7,7 @@ use Prim.Native.Nat.{ℕ, _≤_, _<_}
 use native.Mathlib.Omega.{arith}
 use borrow.Author.Tests.{le-ltb}
 use lib.Dec.{ltb}
-use lib.ListN.{length}
+use lib.ListN.{length, take}
 use Rattle.lists.specs.Distinct.{stands}
 use Rattle.lists.specs.Parts.{put}
 use Rattle.lists.specs.Below.{Below}
@@ -16,10 +16,11 @@ use Rattle.lists.proofs.Mapped.{map-range}
 use Rattle.refusal.specs.declared.Verdict.{Verdict}
 use Rattle.refusal.specs.declared.Verdict.the-variants.{Accepted}
 use Rattle.refusal.specs.Chain.{refused, refuseIf}
-use Rattle.scheme.specs.Scheme.{Scheme, Valid, messageOf, honestAnswers, answersIn, recoverIn}
+use Rattle.scheme.specs.Scheme.{Scheme, Valid, honestAnswers, answersIn, recoverIn}
 use Rattle.scheme.specs.Laws.{Laws}
 use Rattle.catalogue.specs.declared.Catalogue.{Catalogue}
 use Rattle.catalogue.specs.Catalogue.{Admitted}
+use Rattle.codes.specs.Messages.{messageLength, messageIn}
 use Rattle.session.specs.declared.Session.{Session}
 use Rattle.session_parts.specs.Marks.{marked, allTaken}
 use Rattle.session.specs.Calls.{slotsOf, recoveredMessage, recoverVerdict, recover}
@@ -46,14 +47,14 @@ module _ (schemeOf : Catalogue → Scheme) (c : Catalogue) (admitted : Admitted 
 
     verdict-left : verdict
         ≡ refuseIf (ltb room (slotsOf schemeOf c)) 9
-        (refuseIf (ltb (length message) (schemeOf c .sizes .message)) 9 (refuseIf (not (allTaken (c .servers) taken)) 12 Accepted))
+        (refuseIf (ltb (length message) (messageLength schemeOf c wanted)) 9 (refuseIf (not (allTaken (c .servers) taken)) 12 Accepted))
     verdict-left = rw (← k .room-kept)
         (recover-verdict schemeOf s (sound schemeOf c admitted laws wanted inside key valid issued taken (k .marks))
         (length answers) (length message))
 
     -- all are taken, by the calls and so by the marks
     all-verdict : AllTaken schemeOf c past → verdict
-        ≡ refuseIf (ltb (length message) (schemeOf c .sizes .message)) 9 Accepted
+        ≡ refuseIf (ltb (length message) (messageLength schemeOf c wanted)) 9 Accepted
     unfolding allTaken
     all-verdict all =
         verdict-left
@@ -64,11 +65,11 @@ module _ (schemeOf : Catalogue → Scheme) (c : Catalogue) (admitted : Admitted 
 
     missing-verdict : (server : ℕ) → server < c .servers → stands server (past .taken) ≡ false
         → verdict
-        ≡ refuseIf (ltb room (slotsOf schemeOf c)) 9 (refuseIf (ltb (length message) (schemeOf c .sizes .message)) 9 (refused 12))
+        ≡ refuseIf (ltb room (slotsOf schemeOf c)) 9 (refuseIf (ltb (length message) (messageLength schemeOf c wanted)) 9 (refused 12))
     unfolding allTaken
     missing-verdict server h lacks = verdict-left ∙ rw (every-false (c .servers) (marked taken) server h (k .agree server h ∙ lacks))
 
-    pub recover-right : RecoverSays schemeOf c room past message (recover schemeOf s answers message .handed .verdict)
+    pub recover-right : RecoverSays schemeOf c wanted room past message (recover schemeOf s answers message .handed .verdict)
     recover-right = record {
       all-taken = λ all. recover-goes schemeOf s answers message .says ∙ all-verdict all;
       missing = λ server h lacks. recover-goes schemeOf s answers message .says ∙ missing-verdict server h lacks;
@@ -80,29 +81,31 @@ module _ (schemeOf : Catalogue → Scheme) (c : Catalogue) (admitted : Admitted 
       unfolding answersIn honestAnswers
       answers-honest = map-range 0 (c .servers) _ _ (λ i l u. let h : i < c .servers = omega arith in held i h (all i h) .holds)
 
-      gives : recoveredMessage schemeOf s answers ≡ messageOf (schemeOf c) store wanted
+      -- cut to the message's length, what is recovered is what the store holds
+      gives : recoveredMessage schemeOf s answers ≡ messageIn schemeOf c store wanted
       gives =
-          ap (λ (l : List ℕ). recoverIn (schemeOf c) (c .servers) wanted l answers) (key-kept schemeOf c wanted key (valid .long))
+          ap (take (messageLength schemeOf c wanted))
+          (ap (λ (l : List ℕ). recoverIn (schemeOf c) (c .servers) wanted l answers) (key-kept schemeOf c wanted key (valid .long))
           ∙ ap (schemeOf c .recover wanted key) answers-honest
-          ∙ laws .recovers store wanted key bytes (held 0 (laws .servers-some) (all 0 (laws .servers-some)) .store-long) inside valid
+          ∙ laws .recovers store wanted key bytes (held 0 (laws .servers-some) (all 0 (laws .servers-some)) .store-long) inside valid)
 
-      pub recover-message : schemeOf c .sizes .message ≤ length message
-          → recover schemeOf s answers message .buffer ≡ put 0 (messageOf (schemeOf c) store wanted) message
+      pub recover-message : messageLength schemeOf c wanted ≤ length message
+          → recover schemeOf s answers message .buffer ≡ put 0 (messageIn schemeOf c store wanted) message
       recover-message fits =
           let e : verdict ≡ Accepted
-          = rw (le-ltb (length message) (schemeOf c .sizes .message) fits) at (all-verdict all) in
+          = rw (le-ltb (length message) (messageLength schemeOf c wanted) fits) at (all-verdict all) in
           rw (recover-by schemeOf s answers message Accepted (sym e), gives)
 
   -- over the calls of a fetch
   says : (room : ℕ) (past : Past) (issued taken : List Bool) (answers : List ℕ) → Kept schemeOf c room past issued taken answers → (call : Call)
-      → RecoverVerdict schemeOf c room past (make schemeOf (stateOf c wanted key issued taken answers) call)
+      → RecoverVerdict schemeOf c wanted room past (make schemeOf (stateOf c wanted key issued taken answers) call)
   says room past issued taken answers k (issuing server day query answerDay answer) message e =
       absurd (let z : _≡_ {A = ℕ} 0 1 = cc in let w : ⊥ = omega arith in w)
   says room past issued taken answers k (taking server answer) message e = absurd (let z : _≡_ {A = ℕ} 0 1 = cc in let w : ⊥ = omega arith in w)
   says room past issued taken answers k (recovering own) message e = rw (← same-message e) (recover-right room past issued taken answers k own)
 
   pub verdicts : (calls : List Call) (room : ℕ) (past : Past) (issued taken : List Bool) (answers : List ℕ) → Kept schemeOf c room past issued taken answers
-      → Throughout (RecoverVerdict schemeOf c room) past (run schemeOf (stateOf c wanted key issued taken answers) calls)
+      → Throughout (RecoverVerdict schemeOf c wanted room) past (run schemeOf (stateOf c wanted key issued taken answers) calls)
   verdicts [] room past issued taken answers k = end
   verdicts (call ∷ calls) room past issued taken answers k =
       let x = next schemeOf c admitted laws wanted inside key valid room past issued taken answers k call in

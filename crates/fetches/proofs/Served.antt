@@ -8,8 +8,8 @@ use native.Mathlib.Nat.{zero-add}
 use native.Mathlib.Omega.{arith}
 use borrow.Author.Tests.{eqb-true, eqb-false, ne-eqb, le-ltb}
 use lib.Dec.{eqb}
-use lib.ListN.{length, replicate, length-replicate}
-use lib.Seq.{take-all}
+use lib.ListN.{length, take, replicate, length-replicate}
+use lib.Seq.{take-all, length-take-le}
 use Rattle.lists.specs.Ranges.{range}
 use Rattle.lists.proofs.Cuts.{cut-length, slot-end}
 use Rattle.refusal.specs.declared.Verdict.the-variants.{Accepted}
@@ -20,6 +20,7 @@ use Rattle.calendar.specs.declared.Day.{Day}
 use Rattle.catalogue.specs.declared.Catalogue.{Catalogue}
 use Rattle.catalogue.specs.Catalogue.{Admitted}
 use Rattle.catalogue.specs.Days.{Served}
+use Rattle.codes.specs.Messages.{messageLength}
 use Rattle.server.specs.Answering.{answerVerdict}
 use Rattle.server.proofs.Laws.{answer-accepted, answer-by, writes-answer}
 use Rattle.fetches.specs.Fetches.{Call, issuing, taking, recovering, history}
@@ -116,18 +117,26 @@ module _ (schemeOf : Catalogue → Scheme) (c : Catalogue) (admitted : Admitted 
           )
           (honest (answerDay n) answered-in (replicate (length answerBuffer) 0) (omega (arith, length-replicate {A = ℕ} (length answerBuffer) 0)))
 
--- a message of the store has all its bytes
-whole-message : (servers messages : ℕ) (scheme : Scheme) → Laws servers messages scheme → (store : List ℕ) → length store ≡ scheme .sizes .store
-    → (wanted : ℕ) → wanted < messages → length (messageOf scheme store wanted) ≡ scheme .sizes .message
-whole-message servers messages scheme laws store long wanted inside =
-    cut-length (wanted * scheme .sizes .message) (scheme .sizes .message) store
-    (omega (arith, slot-end wanted messages (scheme .sizes .message) inside, laws .store-whole))
+-- no message is longer than its symbols
+abbrev pub EndsWithin : (Catalogue → Scheme) → Type 0
+EndsWithin schemeOf = (c : Catalogue) → Admitted c → (k : ℕ) → k < c .messages → messageLength schemeOf c k ≤ schemeOf c .sizes .message
 
-pub plain-fetch : (schemeOf : Catalogue → Scheme) → Promises schemeOf → PlainFetches schemeOf
-plain-fetch schemeOf promises c admitted store bytes long wanted inside key valid day answerDay in-season answers query answer message
+-- a message of the store has all its bytes, and as many of them are left as its length says
+whole-message : (servers messages : ℕ) (scheme : Scheme) → Laws servers messages scheme → (store : List ℕ) → length store ≡ scheme .sizes .store
+    → (wanted : ℕ) → wanted < messages → (size : ℕ) → size ≤ scheme .sizes .message → length (take size (messageOf scheme store wanted)) ≡ size
+whole-message servers messages scheme laws store long wanted inside size fits =
+    let whole : length (messageOf scheme store wanted) ≡ scheme .sizes .message =
+    cut-length (wanted * scheme .sizes .message) (scheme .sizes .message) store
+    (omega (arith, slot-end wanted messages (scheme .sizes .message) inside, laws .store-whole)) in
+    length-take-le size (messageOf scheme store wanted) (omega (arith, whole))
+
+pub plain-fetch : (schemeOf : Catalogue → Scheme) → Promises schemeOf → EndsWithin schemeOf → PlainFetches schemeOf
+plain-fetch schemeOf promises ends c admitted store bytes long wanted inside key valid day answerDay in-season answers query answer message
     slots-fit query-fits answer-fits message-fits =
     record {
-      whole = whole-message (c .servers) (c .messages) (schemeOf c) (promises c admitted) store long wanted inside;
+      whole =
+          whole-message (c .servers) (c .messages) (schemeOf c) (promises c admitted) store long wanted inside (messageLength schemeOf c wanted)
+          (ends c admitted wanted inside);
       served = λ n below.
           served schemeOf c admitted (promises c admitted) store long wanted inside key valid n below day answerDay
           (in-season n below .0) (in-season n below .1) answers query answer message query-fits answer-fits;

@@ -48,14 +48,14 @@ module _ (schemeOf : Catalogue → Scheme) (c : Catalogue) (some : 0 < c .server
   still-nothing at (recovering message) u told = refl
 
   none-recovered : {calls : List Call} (at : State) → All (Unserved c) calls → Throughout (Told schemeOf c wanted key room) nothing (run schemeOf at calls)
-      → Throughout (RecoverVerdict schemeOf c room) nothing (run schemeOf at calls)
-      → Throughout (RecoverRefused schemeOf c room) nothing (run schemeOf at calls)
+      → Throughout (RecoverVerdict schemeOf c wanted room) nothing (run schemeOf at calls)
+      → Throughout (RecoverRefused schemeOf c wanted room) nothing (run schemeOf at calls)
   unfolding stands
   none-recovered at allNil told verdicts = end
   none-recovered at (allCons {x = call} {xs = calls} u us) told verdicts =
       let after : State = make schemeOf at call .after in
       let same = still-nothing at call u (now-holds told) in
-      let rest : Throughout (RecoverRefused schemeOf c room) (since nothing (make schemeOf at call)) (run schemeOf after calls) =
+      let rest : Throughout (RecoverRefused schemeOf c wanted room) (since nothing (make schemeOf at call)) (run schemeOf after calls) =
       rw same (none-recovered after us (rw same at (then-holds told)) (rw same at (then-holds verdicts))) in
       step (λ message e. now-holds verdicts message e .missing 0 some refl) rest
 

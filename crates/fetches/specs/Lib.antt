@@ -8,3 +8,4 @@ pub mod Plain
 pub mod Received
 pub mod Reached
 pub mod Unserved
+pub mod Unmeasured

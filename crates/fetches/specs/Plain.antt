@@ -10,11 +10,12 @@ use Rattle.lists.specs.Below.{Below}
 use Rattle.lists.specs.Ranges.{range}
 use Rattle.refusal.specs.declared.Verdict.the-variants.{Accepted}
 use Rattle.refusal.specs.declared.Outcome.the-variants.{Value}
-use Rattle.scheme.specs.Scheme.{Scheme, Valid, messageOf}
+use Rattle.scheme.specs.Scheme.{Scheme, Valid}
 use Rattle.calendar.specs.declared.Day.{Day}
 use Rattle.catalogue.specs.declared.Catalogue.{Catalogue}
 use Rattle.catalogue.specs.Catalogue.{Admitted}
 use Rattle.catalogue.specs.Days.{Served}
+use Rattle.codes.specs.Messages.{messageLength, messageIn}
 use Rattle.session.specs.Calls.{slotsOf}
 use Rattle.fetches.specs.Fetches.{issuing, taking, recovering, Fetch, Made, history}
 use Rattle.fetches.specs.Shown.{asked, shownTo}
@@ -45,11 +46,11 @@ module _ (schemeOf : Catalogue → Scheme) (c : Catalogue) (store : List ℕ) (w
   -- the wanted message has all its bytes; each server is asked the query that the code calls for, once, and writes the answer that is taken from it; no
   -- call is refused; and the message's buffer ends with the wanted message at its start and the rest as it was
   pub record PlainRight (day answerDay : ℕ → Day) (answers query answer message : List ℕ) : Type 0 where
-    pub whole : length (messageOf (schemeOf c) store wanted) ≡ schemeOf c .sizes .message
+    pub whole : length (messageIn schemeOf c store wanted) ≡ messageLength schemeOf c wanted
     pub served : (n : ℕ) → n < c .servers
         → shownTo schemeOf c store n (history schemeOf c (plainFetch day answerDay answers query answer message))
         ≡ asked (queryTo n) (Value (length (answerOf n))) (answerOf n) ∷ []
-    pub ends : Ends (λ (made : Made). made .left ≡ put 0 (messageOf (schemeOf c) store wanted) message)
+    pub ends : Ends (λ (made : Made). made .left ≡ put 0 (messageIn schemeOf c store wanted) message)
         (history schemeOf c (plainFetch day answerDay answers query answer message))
 
 abbrev pub PlainFetches : (Catalogue → Scheme) → Type 0
@@ -58,5 +59,5 @@ PlainFetches schemeOf =
     → (wanted : ℕ) → wanted < c .messages → (key : List ℕ) → Valid (schemeOf c) key
     → (day answerDay : ℕ → Day) → ((server : ℕ) → server < c .servers → Served c (day server) × Served c (answerDay server))
     → (answers query answer message : List ℕ) → slotsOf schemeOf c ≤ length answers → schemeOf c .sizes .query ≤ length query
-    → schemeOf c .sizes .slot ≤ length answer → schemeOf c .sizes .message ≤ length message
+    → schemeOf c .sizes .slot ≤ length answer → messageLength schemeOf c wanted ≤ length message
     → PlainRight schemeOf c store wanted key day answerDay answers query answer message

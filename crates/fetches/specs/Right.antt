@@ -1,5 +1,5 @@
 -- What holds in one fetch (document 01, 'Lists of fetches'): refused calls change nothing, each call says what its history calls for, and after honest
--- takes from all servers recover leaves the wanted message. `FetchRight` is all of it.
+-- takes from all servers recover leaves the wanted message (document 02, item 6: as far as its length goes). `FetchRight` is all of it.
 use mathlib.Core.Path.{_≡_}
 use mathlib.Core.Bool.{true, false}
 use mathlib.Core.List.{List}
@@ -12,9 +12,10 @@ use Rattle.refusal.specs.declared.Refusal.{Refusal}
 use Rattle.refusal.specs.declared.Verdict.{Verdict}
 use Rattle.refusal.specs.declared.Verdict.the-variants.{Accepted, Refused}
 use Rattle.refusal.specs.Chain.{refused, refuseIf}
-use Rattle.scheme.specs.Scheme.{Scheme, messageOf}
+use Rattle.scheme.specs.Scheme.{Scheme}
 use Rattle.calendar.specs.declared.Day.{Day}
 use Rattle.catalogue.specs.declared.Catalogue.{Catalogue}
+use Rattle.codes.specs.Messages.{messageLength, messageIn}
 use Rattle.server.specs.Answering.{Answered, writtenBy, answering}
 use Rattle.session.specs.Calls.{slotsOf, begin}
 use Rattle.fetches.specs.Fetches.{issuing, taking, recovering, Fetch, Made, lent, history}
@@ -32,16 +33,16 @@ module _ (schemeOf : Catalogue → Scheme) (c : Catalogue) where
   abbrev pub AllTaken : Past → Type 0
   AllTaken past = (server : ℕ) → server < c .servers → stands server (past .taken) ≡ true
 
-  -- A recover into `message`, with an answer buffer of `room` bytes: once all are taken it is done, unless the message's buffer is too short (9);
-  -- with an answer missing it is refused, 9 if a buffer is too short, else 12
-  pub record RecoverSays (room : ℕ) (past : Past) (message : List ℕ) (verdict : Verdict) : Type 0 where
-    pub all-taken : AllTaken past → verdict ≡ refuseIf (ltb (length message) (schemeOf c .sizes .message)) 9 Accepted
+  -- A recover into `message`, with an answer buffer of `room` bytes: once all are taken it is done, unless the message's buffer is too short (9) for the
+  -- bytes of the wanted message; with an answer missing it is refused, 9 if a buffer is too short, else 12
+  pub record RecoverSays (wanted room : ℕ) (past : Past) (message : List ℕ) (verdict : Verdict) : Type 0 where
+    pub all-taken : AllTaken past → verdict ≡ refuseIf (ltb (length message) (messageLength schemeOf c wanted)) 9 Accepted
     pub missing : (server : ℕ) → server < c .servers → stands server (past .taken) ≡ false
         → verdict
-        ≡ refuseIf (ltb room (slotsOf schemeOf c)) 9 (refuseIf (ltb (length message) (schemeOf c .sizes .message)) 9 (refused 12))
+        ≡ refuseIf (ltb room (slotsOf schemeOf c)) 9 (refuseIf (ltb (length message) (messageLength schemeOf c wanted)) 9 (refused 12))
 
-  abbrev pub RecoverVerdict : ℕ → Past → Made → Type 0
-  RecoverVerdict room past made = (message : List ℕ) → made .call ≡ recovering message → RecoverSays room past message (made .verdict)
+  abbrev pub RecoverVerdict : ℕ → ℕ → Past → Made → Type 0
+  RecoverVerdict wanted room past made = (message : List ℕ) → made .call ≡ recovering message → RecoverSays wanted room past message (made .verdict)
 
   module _ (store : List ℕ) where
     -- The honest answer of a server to what the wanted message and the key call for there. From a store not of the catalogue's length none is honest
@@ -57,8 +58,8 @@ module _ (schemeOf : Catalogue → Scheme) (c : Catalogue) where
     -- a recover after all are taken leaves the wanted message at the start of its buffer, if that is long enough, and the rest as it was
     abbrev pub MessageLeft : ℕ → Past → Made → Type 0
     MessageLeft wanted past made =
-        (message : List ℕ) → made .call ≡ recovering message → AllTaken past → schemeOf c .sizes .message ≤ length message
-        → made .left ≡ put 0 (messageOf (schemeOf c) store wanted) message
+        (message : List ℕ) → made .call ≡ recovering message → AllTaken past → messageLength schemeOf c wanted ≤ length message
+        → made .left ≡ put 0 (messageIn schemeOf c store wanted) message
 
     -- of the buffer that a query is answered into, nothing is left changed but what the server is shown to write
     abbrev pub AnswerLeft : Past → Made → Type 0
@@ -72,6 +73,6 @@ module _ (schemeOf : Catalogue → Scheme) (c : Catalogue) where
       pub refusals : Throughout Unchanged nothing (history schemeOf c f)
       pub told : Throughout (Told schemeOf c (f .wanted) (f .key) (length (f .answers))) nothing (history schemeOf c f)
       pub answers-left : Throughout AnswerLeft nothing (history schemeOf c f)
-      pub verdicts : Throughout (RecoverVerdict (length (f .answers))) nothing (history schemeOf c f)
+      pub verdicts : Throughout (RecoverVerdict (f .wanted) (length (f .answers))) nothing (history schemeOf c f)
       pub messages : Throughout (HonestTake (f .wanted) (f .key)) nothing (history schemeOf c f)
           → Throughout (MessageLeft (f .wanted)) nothing (history schemeOf c f)

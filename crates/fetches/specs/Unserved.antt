@@ -13,6 +13,7 @@ use Rattle.scheme.specs.Scheme.{Scheme, Valid}
 use Rattle.catalogue.specs.declared.Catalogue.{Catalogue}
 use Rattle.catalogue.specs.Catalogue.{Admitted}
 use Rattle.catalogue.specs.Days.{dayVerdict}
+use Rattle.codes.specs.Messages.{messageLength}
 use Rattle.session.specs.Calls.{slotsOf}
 use Rattle.fetches.specs.Fetches.{Call, issuing, taking, recovering, Fetch, Made, history}
 use Rattle.fetches.specs.Past.{Past, nothing, Throughout}
@@ -25,12 +26,12 @@ Unserved c (recovering message) = Unit {0}
 
 module _ (schemeOf : Catalogue → Scheme) (c : Catalogue) where
   -- a recover, with an answer buffer of `room` bytes, is refused
-  abbrev pub RecoverRefused : ℕ → Past → Made → Type 0
-  RecoverRefused room past made =
+  abbrev pub RecoverRefused : ℕ → ℕ → Past → Made → Type 0
+  RecoverRefused wanted room past made =
       (message : List ℕ) → made .call ≡ recovering message
-      → made .verdict ≡ refuseIf (ltb room (slotsOf schemeOf c)) 9 (refuseIf (ltb (length message) (schemeOf c .sizes .message)) 9 (refused 12))
+      → made .verdict ≡ refuseIf (ltb room (slotsOf schemeOf c)) 9 (refuseIf (ltb (length message) (messageLength schemeOf c wanted)) 9 (refused 12))
 
 abbrev pub NothingRecovered : (Catalogue → Scheme) → Type 0
 NothingRecovered schemeOf =
     (c : Catalogue) → Admitted c → (f : Fetch) → f .wanted < c .messages → Valid (schemeOf c) (f .key) → All (Unserved c) (f .calls)
-    → Throughout (RecoverRefused schemeOf c (length (f .answers))) nothing (history schemeOf c f)
+    → Throughout (RecoverRefused schemeOf c (f .wanted) (length (f .answers))) nothing (history schemeOf c f)

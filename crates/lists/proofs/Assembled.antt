@@ -12,7 +12,7 @@ use lib.ListN.{length, getD}
 use lib.Seq.{ext-getD}
 use Rattle.lists.specs.Any.{Any, anyHere, anyLater}
 use Rattle.lists.specs.Parts.{cut, put}
-use Rattle.lists.specs.Assembled.{Part, assemble}
+use Rattle.lists.specs.Assembled.{Part, assembleBy, assemble}
 use Rattle.lists.specs.Ranges.{range}
 use Rattle.lists.specs.Sums.{All, allNil, allCons}
 use Rattle.lists.proofs.Puts.{put-length}
@@ -30,30 +30,33 @@ PartWithin size part = part .0 + length (part .1) ≤ size
 abbrev pub InPart : ℕ → Part → Type 0
 InPart j part = (part .0 ≤ j) × (j < part .0 + length (part .1))
 
--- ---- Lists of parts one after another, and one part, or one list of them, more
+-- ---- Lists of parts one after another, and one part, or one list of them, more, whatever writes them
 
-pub assemble-append : (parts more : List Part) (buffer : List ℕ) → assemble (parts ++ more) buffer ≡ assemble more (assemble parts buffer)
-unfolding assemble
-assemble-append [] more buffer = refl
-assemble-append (part ∷ parts) more buffer = assemble-append parts more (put (part .0) (part .1) buffer)
+module _ (write : ℕ → List ℕ → List ℕ → List ℕ) where
+  pub assemble-append : (parts more : List Part) (buffer : List ℕ)
+      → assembleBy write (parts ++ more) buffer ≡ assembleBy write more (assembleBy write parts buffer)
+  unfolding assembleBy
+  assemble-append [] more buffer = refl
+  assemble-append (part ∷ parts) more buffer = assemble-append parts more (write (part .0) (part .1) buffer)
 
-pub assemble-none : (part : ℕ → Part) (buffer : List ℕ) → buffer ≡ assemble (map part (range 0 0)) buffer
-unfolding assemble range
-assemble-none part buffer = refl
+  pub assemble-none : (part : ℕ → Part) (buffer : List ℕ) → buffer ≡ assembleBy write (map part (range 0 0)) buffer
+  unfolding assembleBy range
+  assemble-none part buffer = refl
 
-pub assemble-part : (part : ℕ → Part) (i : ℕ) (buffer : List ℕ)
-    → assemble (map part (range 0 (i + 1))) buffer ≡ put (part i .0) (part i .1) (assemble (map part (range 0 i)) buffer)
-unfolding assemble
-assemble-part part i buffer =
-    ap (λ (l : List ℕ). assemble (map part l) buffer) (ap (range 0) (add-one i) ∙ range-next i)
-    ∙ ap (λ (l : List Part). assemble l buffer) (map-append part (range 0 i) (i ∷ []))
-    ∙ assemble-append (map part (range 0 i)) (part i ∷ []) buffer
+  pub assemble-part : (part : ℕ → Part) (i : ℕ) (buffer : List ℕ)
+      → assembleBy write (map part (range 0 (i + 1))) buffer ≡ write (part i .0) (part i .1) (assembleBy write (map part (range 0 i)) buffer)
+  unfolding assembleBy
+  assemble-part part i buffer =
+      ap (λ (l : List ℕ). assembleBy write (map part l) buffer) (ap (range 0) (add-one i) ∙ range-next i)
+      ∙ ap (λ (l : List Part). assembleBy write l buffer) (map-append part (range 0 i) (i ∷ []))
+      ∙ assemble-append (map part (range 0 i)) (part i ∷ []) buffer
 
-pub assemble-list : (parts : ℕ → List Part) (i : ℕ) (buffer : List ℕ)
-    → assemble (flatMap parts (range 0 (i + 1))) buffer ≡ assemble (parts i) (assemble (flatMap parts (range 0 i)) buffer)
-assemble-list parts i buffer =
-    ap (λ (l : List Part). assemble l buffer) (ap (λ (n : ℕ). flatMap parts (range 0 n)) (add-one i) ∙ flatMap-next parts i)
-    ∙ assemble-append (flatMap parts (range 0 i)) (parts i) buffer
+  pub assemble-list : (parts : ℕ → List Part) (i : ℕ) (buffer : List ℕ)
+      → assembleBy write (flatMap parts (range 0 (i + 1))) buffer
+      ≡ assembleBy write (parts i) (assembleBy write (flatMap parts (range 0 i)) buffer)
+  assemble-list parts i buffer =
+      ap (λ (l : List Part). assembleBy write l buffer) (ap (λ (n : ℕ). flatMap parts (range 0 n)) (add-one i) ∙ flatMap-next parts i)
+      ∙ assemble-append (flatMap parts (range 0 i)) (parts i) buffer
 
 -- ---- One part
 
@@ -102,11 +105,11 @@ Covers size parts = (j : ℕ) → j < size → Any (InPart j) parts
 
 module _ (size : ℕ) where
   -- one part written, the buffer is still long enough
-  still : (part : Part) (a : List ℕ) → PartWithin size part → size ≤ length a → size ≤ length (put (part .0) (part .1) a)
+  pub still : (part : Part) (a : List ℕ) → PartWithin size part → size ≤ length a → size ≤ length (put (part .0) (part .1) a)
   still part a h l = omega (arith, put-length (part .0) (part .1) a (let w : part .0 + length (part .1) ≤ length a = omega arith in w))
 
   pub assemble-length : {parts : List Part} → All (PartWithin size) parts → (a : List ℕ) → size ≤ length a → length (assemble parts a) ≡ length a
-  unfolding assemble
+  unfolding assembleBy
   assemble-length allNil a l = refl
   assemble-length (allCons {x = part} h hs) a l =
       assemble-length hs (put (part .0) (part .1) a) (still part a h l) ∙ put-length (part .0) (part .1) a (omega arith)
@@ -114,7 +117,7 @@ module _ (size : ℕ) where
   -- bytes that are the same stay the same
   assemble-same : {parts : List Part} → All (PartWithin size) parts → (j : ℕ) (a b : List ℕ) → size ≤ length a → size ≤ length b → getD a j 0 ≡ getD b j 0
       → getD (assemble parts a) j 0 ≡ getD (assemble parts b) j 0
-  unfolding assemble
+  unfolding assembleBy
   assemble-same allNil j a b la lb e = e
   assemble-same (allCons {x = part} h hs) j a b la lb e =
       assemble-same hs j (put (part .0) (part .1) a) (put (part .0) (part .1) b) (still part a h la) (still part b h lb) (step (in-part part j))
@@ -126,7 +129,7 @@ module _ (size : ℕ) where
   -- bytes in some part become the same
   assemble-in : {parts : List Part} → All (PartWithin size) parts → (j : ℕ) (a b : List ℕ) → size ≤ length a → size ≤ length b → Any (InPart j) parts
       → getD (assemble parts a) j 0 ≡ getD (assemble parts b) j 0
-  unfolding assemble
+  unfolding assembleBy
   assemble-in (allCons {x = part} h hs) j a b la lb (anyHere i) =
       assemble-same hs j (put (part .0) (part .1) a) (put (part .0) (part .1) b) (still part a h la) (still part b h lb)
       (put-in part j a b (omega arith) (omega arith) i)
@@ -136,7 +139,7 @@ module _ (size : ℕ) where
   -- bytes behind the parts stay
   assemble-out : {parts : List Part} → All (PartWithin size) parts → (j : ℕ) (a : List ℕ) → size ≤ length a → size ≤ j
       → getD (assemble parts a) j 0 ≡ getD a j 0
-  unfolding assemble
+  unfolding assembleBy
   assemble-out allNil j a l h = refl
   assemble-out (allCons {x = part} w ws) j a l h =
       assemble-out ws j (put (part .0) (part .1) a) (still part a w l) h ∙ put-out part j a (omega arith) (λ i. let x : ⊥ = omega (arith, i .1) in x)
@@ -183,7 +186,7 @@ pub record PartOf (message : List ℕ) (part : Part) : Type 0 where
   pub same : part .1 ≡ cut (part .0) (length (part .1)) message
 
 assemble-own : (message : List ℕ) {parts : List Part} → All (PartOf message) parts → assemble parts message ≡ message
-unfolding assemble
+unfolding assembleBy
 assemble-own message allNil = refl
 assemble-own message (allCons {x = part} {xs = parts} h hs) =
     ap (assemble parts) (ap (λ (l : List ℕ). put (part .0) l message) (h .same) ∙ put-cut (part .0) (length (part .1)) message (h .within))

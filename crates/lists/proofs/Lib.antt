@@ -15,6 +15,7 @@ pub mod ReadBack
 pub mod Puts
 pub mod Writing
 pub mod Assembled
+pub mod Laid
 pub mod Inserts
 pub mod Marks
 pub mod Passes

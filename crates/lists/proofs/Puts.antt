@@ -1,4 +1,4 @@
--- Parts that are written (`put`): one after another (`put-put`, and in a row of calls `put-next`, `put-three`), before or over another,
+-- Parts that are written (`put`): one after another (`put-put`, and in a row of calls `put-next`, `put-three`), before another,
 -- over zeros (`put-padded`), over a whole buffer (`put-whole`); and what a part that was lent and written leaves in its buffer (`put-part`).
 use mathlib.Core.Path.{_≡_, refl, sym, ap, ap₂, _∙_}
 use mathlib.Core.List.{List, [], _∷_, _++_, append-assoc, append-nil}
@@ -10,7 +10,6 @@ use lib.ListN.{length, take, drop, set, getD, replicate, length-append, length-d
 use lib.Seq.{length-take-le, take-at, drop-at, drop-drop, drop-cons, take-suc, take-suc-set, append-snoc, set-at, paste-suc}
 use Rattle.lists.specs.Padded.{padded}
 use Rattle.lists.specs.Parts.{put}
-use Rattle.lists.proofs.ReadBack.{cut-put}
 use Rattle.lists.proofs.Replicate.{drop-replicate}
 
 pub put-length : (at : ℕ) (bytes buffer : List ℕ) → at + length bytes ≤ length buffer → length (put at bytes buffer) ≡ length buffer
@@ -74,40 +73,11 @@ put-three at a b c out out₁ out₂ out₃ p₁ p₂ h i₁ i₂ o₁ o₂ o₃
     let two : out₂ ≡ put at (a ++ b) out = o₂ ∙ put-next at p₁ a b out out₁ h i₁ o₁ in
     o₃ ∙ put-next at p₂ (a ++ b) c out out₂ h j two ∙ ap (λ (l : List ℕ). put at l out) (append-assoc a b c)
 
--- one part over another of the same length
-pub put-over : (at : ℕ) (a b buffer : List ℕ) → at ≤ length buffer → length a ≡ length b → put at b (put at a buffer) ≡ put at b buffer
-put-over at a b buffer h e =
-    let front = take at buffer in
-    let rest = drop (length a) (drop at buffer) in
-    let long = length-take-le at buffer h in
-    ap₂ (λ (x y : List ℕ). x ++ (b ++ drop (length b) y)) (take-at front (a ++ rest) at long) (drop-at front (a ++ rest) at long)
-    ∙ ap (λ (x : List ℕ). front ++ (b ++ x)) (drop-at a rest (length b) e ∙ ap (λ (n : ℕ). drop n (drop at buffer)) e)
-
 -- the part from `at` to `at + size`, lent and left as `bytes`
 pub put-part : (at size : ℕ) (bytes buffer : List ℕ) → length bytes ≡ size
     → take at buffer ++ (bytes ++ drop (at + size - at) (drop at buffer)) ≡ put at bytes buffer
 put-part at size bytes buffer e =
     ap (λ (n : ℕ). take at buffer ++ (bytes ++ drop n (drop at buffer))) (add-sub-cancel-left at size ∙ sym e)
-
--- the buffer after the part from `at` to `at + size` was lent and left as `bytes`
-abbrev left : ℕ → ℕ → List ℕ → List ℕ → List ℕ
-left at size buffer bytes = take at buffer ++ (bytes ++ drop (at + size - at) (drop at buffer))
-
--- a part that is lent twice: left as x at first, and then as f of what it held
-pub put-twice : (at size : ℕ) (x buffer : List ℕ) (f : List ℕ → List ℕ) {first last : List ℕ} → at + size ≤ length buffer
-    → length x ≡ size → length (f x) ≡ size → first ≡ x → last ≡ f (take (at + size - at) (drop at (left at size buffer first)))
-    → left at size (left at size buffer first) last ≡ put at (f x) buffer
-put-twice at size x buffer f {first} {last} fits long kept e m =
-    let held : left at size buffer first ≡ put at x buffer =
-    put-part at size first buffer (ap length e ∙ long) ∙ ap (λ (l : List ℕ). put at l buffer) e in
-    let made : last ≡ f x =
-    m ∙ ap₂ (λ (l : List ℕ) (n : ℕ). f (take n (drop at l))) held (add-sub-cancel-left at size ∙ sym long)
-    ∙ ap f (cut-put at x buffer (omega arith)) in
-    let whole : length last ≡ size = ap length made ∙ kept in
-    ap (λ (l : List ℕ). left at size l last) held
-    ∙ put-part at size last (put at x buffer) whole
-    ∙ put-over at x last buffer (omega arith) (long ∙ sym whole)
-    ∙ ap (λ (l : List ℕ). put at l buffer) made
 
 -- the rest of a buffer from a place on, lent as a part and written at its front
 pub rest-written : (at : ℕ) (bytes buffer : List ℕ)

@@ -20,19 +20,19 @@ use Rattle.number_lists.specs.NumberLists.{onNumber, numeralFrom, numera
 
 -- ---- one number
 
-some-digits : (count : ℕ) (text : List ℕ) → isNumeral count text ≡ true → 1 ≤ count
+some-digits : (count : ℕ) (text : List ℕ) → isNumeral 5 count text ≡ true → 1 ≤ count
 unfolding isNumeral
 some-digits count text e = leb-true 1 count (both-true (leb 1 count) _ e .0)
 
 -- a number lies within its text
 pub numeral-within : (text : List ℕ) (at n end : ℕ) → numeralAt text at ≡ Value n end → (at < end) × (end ≤ length text)
 unfolding numeralFrom
-numeral-within text at n end e = go (isNumeral (digitCount rest) rest) refl e
+numeral-within text at n end e = go (isNumeral 5 (digitCount rest) rest) refl e
   where
     rest : List ℕ
     rest = drop at text
 
-    go : (t : Bool) → isNumeral (digitCount rest) rest ≡ t
+    go : (t : Bool) → isNumeral 5 (digitCount rest) rest ≡ t
         → cond t (Value (valueFrom 0 (take (digitCount rest) rest)) (at + digitCount rest)) Refused ≡ Value n end → (at < end) × (end ≤ length text)
     go true f g =
         let p : at + digitCount rest ≡ end = cc in

@@ -38,7 +38,7 @@ onNumber Refused continue = none
 -- a number at the start of a text, which begins at place `at`
 unfoldable pub numeralFrom : ℕ → List ℕ → Line
 numeralFrom at text =
-    let count = digitCount text in cond (isNumeral count text) (Value (valueFrom 0 (take count text)) (at + count)) Refused
+    let count = digitCount text in cond (isNumeral 5 count text) (Value (valueFrom 0 (take count text)) (at + count)) Refused
 
 -- the number at place `at`
 abbrev pub numeralAt : List ℕ → ℕ → Line

@@ -22,7 +22,7 @@ fn numeral(text: &[u8], at: usize) -> Line
     ensures { λ r. ⌜ r ≡ numeralFrom at (now (text .entry)) ⌝ }
 {
     let count = text_lines::digits(text);
-    if !text_lines::is_numeral(count, text) {
+    if !text_lines::is_numeral(5, count, text) {
         return Line::Refused;
     }
     let value = text_lines::value(&text[..count]);

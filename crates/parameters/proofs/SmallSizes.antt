@@ -1,8 +1,9 @@
--- Within the bounds of a code its sizes are small (`short-small`, `even-small`): what callers need so that their sums and products fit.
+-- Within the bounds of a code its sizes are small (`short-small`, `even-small`): what callers need so that their sums and products fit. No message is
+-- empty, and the length of each has at most seven digits.
 -- Rests on the bounds as facts (`Bounds`).
 use mathlib.Core.Path.{_≡_, sym, ap, _∙_}
 use Prim.Native.Nat.{ℕ, suc, _-_, _*_, _^_, _≤_, _<_}
-use native.Mathlib.Nat.{mul-le-mul, mul-comm, mul-left-comm, pow-suc, pow-le-pow-right, div-le-self}
+use native.Mathlib.Nat.{mul-le-mul, one-le-pow, mul-comm, mul-left-comm, pow-suc, pow-le-pow-right, div-le-self}
 use native.Mathlib.Omega.{arith}
 use Rattle.parameters.specs.declared.Sizes.{Sizes}
 use Rattle.parameters.specs.Measures.{shortSizes, evenRows, evenSizes, keyPlaces, mostServers}
@@ -12,7 +13,8 @@ use Rattle.parameters.proofs.Bounds.{ShortBounds, EvenBounds}
 pub record Small (N : ℕ) (sizes : Sizes) : Type 0 where
   pub servers : N ≤ mostServers
   pub symbols : sizes .symbols ≤ 256
-  pub message : sizes .message < 2 ^ 32
+  pub message-some : 1 ≤ sizes .message
+  pub message : sizes .message ≤ 1048576
   pub store : sizes .store < 2 ^ 32
   pub key : sizes .key ≤ keyPlaces
   pub query : sizes .query ≤ keyPlaces
@@ -23,6 +25,7 @@ pub record Small (N : ℕ) (sizes : Sizes) : Type 0 where
 pub short-small : (N K S : ℕ) → ShortBounds N K S → Small N (shortSizes N K S)
 unfolding shortSizes
 short-small N K S b =
+    let some : 1 * 1 ≤ (N - 1) * S = mul-le-mul (let h : 1 ≤ N - 1 = omega arith in h) (b .symbol-low) in
     let n : N - 1 ≤ 15 = omega arith in
     let m : (N - 1) * S ≤ 15 * 4096 = mul-le-mul n (b .symbol-high) in
     let t : K * ((N - 1) * S) ≤ 32 * (15 * 4096) = mul-le-mul (b .messages-high) m in
@@ -31,6 +34,7 @@ short-small N K S b =
     record {
       servers = b .servers-high;
       symbols = omega arith;
+      message-some = omega arith;
       message = omega arith;
       store = omega arith;
       key = omega arith;
@@ -60,6 +64,7 @@ queries-whole N K h =
 pub even-small : (N K S : ℕ) → EvenBounds N K S → Small N (evenSizes N K S)
 unfolding evenSizes
 even-small N K S b =
+    let some : 1 * 1 ≤ N ^ K * S = mul-le-mul (one-le-pow K N (let h : 1 ≤ N = omega (arith, b .servers-low) in h)) (b .symbol-low) in
     let m : N ^ K * S ≤ 256 * 4096 = mul-le-mul (b .symbols-high) (b .symbol-high) in
     let t : K * (N ^ K * S) ≤ 8 * (256 * 4096) = mul-le-mul (b .messages-high) m in
     let k : K * N ^ K ≤ 8 * 256 = mul-le-mul (b .messages-high) (b .symbols-high) in
@@ -70,6 +75,7 @@ even-small N K S b =
     record {
       servers = b .servers-high;
       symbols = b .symbols-high;
+      message-some = omega arith;
       message = omega arith;
       store = omega arith;
       key = k;

@@ -22,20 +22,20 @@ use Rattle.text_lines.specs.Lines.{numberText, begins, isNumeral, numberLine}
 use Rattle.text_lines.proofs.Begins.{begins-split}
 use Rattle.text_lines.proofs.Numerals.{NumeralRead, numeral-read}
 use Rattle.text_lines.proofs.RoundTrip.{LineRead, line-read}
-use Rattle.catalogue_text.specs.Text.{textOf, Writable}
+use Rattle.catalogue_text.specs.Text.{textWith, Writable}
 use Rattle.catalogue_text.specs.Parsing.{catalogueLines}
 use Rattle.catalogue_text.proofs.CatalogueLines.{LinesRead, lines-cases}
 use Rattle.number_lists.specs.NumberLists.{afterSpaces, spaced, onNumber, numeralFrom, numeralAt, endsAt, before, numbersFrom, numbersAt}
 use Rattle.printing.specs.Input.{Asked, asked, wantedName, keyName, mostInput, keyLine, onKey, linesAsk, inputAsks, inputOf}
 use Rattle.printing.proofs.RoundTrip.{input-reads-back}
 
--- The text is what is written for this, in at most five digits for each number and with real dates or none, and not too long
-pub record InForm (text : List ℕ) (a : Asked) : Type 0 where
+-- The text is what is written for this and these lengths, in at most five digits for each other number and with real dates or none, and not too long
+pub record InForm (text : List ℕ) (a : Asked) (ns : List ℕ) : Type 0 where
   pub short : length text ≤ mostInput
-  pub catalogue-writable : Writable (a .catalogue)
+  pub catalogue-writable : Writable (a .catalogue) ns
   pub wanted-digits : a .wanted < 100000
   pub key-digits : Below 100000 (a .key)
-  pub text-is : text ≡ inputOf a
+  pub text-is : text ≡ inputOf a ns
 
 none-some : {A B : Type 0} {x : A} → none ≡ some x → B
 none-some {A} {B} {x} e = let z : _≡_ {A = ℕ} 0 1 = cc in absurd (let w : ⊥ = omega arith in w)
@@ -67,17 +67,17 @@ record NumeralAt (text : List ℕ) (at n end : ℕ) : Type 0 where
 
 numeral-at : (text : List ℕ) (at n end : ℕ) → numeralAt text at ≡ Value n end → NumeralAt text at n end
 unfolding numeralFrom
-numeral-at text at n end e = go (isNumeral (digitCount rest) rest) refl e
+numeral-at text at n end e = go (isNumeral 5 (digitCount rest) rest) refl e
   where
     rest : List ℕ
     rest = drop at text
 
-    go : (t : Bool) → isNumeral (digitCount rest) rest ≡ t
+    go : (t : Bool) → isNumeral 5 (digitCount rest) rest ≡ t
         → cond t (Value (valueFrom 0 (take (digitCount rest) rest)) (at + digitCount rest)) Refused ≡ Value n end → NumeralAt text at n end
     go true f g =
         let value : valueFrom 0 (take (digitCount rest) rest) ≡ n = cc in
         let place : at + digitCount rest ≡ end = cc in
-        let r : NumeralRead rest n = rw value at (numeral-read rest f) in
+        let r : NumeralRead 5 rest n = rw value at (numeral-read 5 rest f) in
         record {
           below = r .below;
           here = r .here ∙ ap (λ (l : List ℕ). decimal n ++ l) (drop-drop (digitCount rest) at text ∙ ap (λ (m : ℕ). drop m text) place);
@@ -170,9 +170,9 @@ list-read text at numbers e = go (endsAt text at) refl e
 
 -- ---- the whole input
 
-module _ (text : List ℕ) (a : Asked) (short : length text ≤ mostInput) (r : LinesRead text (catalogueLines text)) where
-  key-read : (wanted next : ℕ) → LineRead wantedName text (catalogueLines text .next) wanted next → (o : Option (List ℕ)) → keyLine text next ≡ o
-      → onKey o (asked (catalogueLines text .catalogue) wanted) ≡ some a → InForm text a
+module _ (text : List ℕ) (a : Asked) (short : length text ≤ mostInput) (ns : List ℕ) (r : LinesRead text (catalogueLines text) ns) where
+  key-read : (wanted next : ℕ) → LineRead 5 wantedName text (catalogueLines text .next) wanted next → (o : Option (List ℕ)) → keyLine text next ≡ o
+      → onKey o (asked (catalogueLines text .catalogue) wanted) ≡ some a → InForm text a ns
   unfolding keyLine inputOf
   key-read wanted next w none f e = none-some e
   key-read wanted next w (some key) f e = go (begins keyName (drop next text)) refl f
@@ -180,7 +180,7 @@ module _ (text : List ℕ) (a : Asked) (short : length text ≤ mostInput) (r : 
       same : asked (catalogueLines text .catalogue) wanted key ≡ a
       same = cc
 
-      go : (t : Bool) → begins keyName (drop next text) ≡ t → cond t (numbersAt text (next + length keyName)) none ≡ some key → InForm text a
+      go : (t : Bool) → begins keyName (drop next text) ≡ t → cond t (numbersAt text (next + length keyName)) none ≡ some key → InForm text a ns
       go true named g =
           let k = list-read text (next + length keyName) key g in
           let rest : drop next text ≡ keyName ++ (spaced key ++ (10 ∷ [])) =
@@ -191,39 +191,40 @@ module _ (text : List ℕ) (a : Asked) (short : length text ≤ mostInput) (r : 
             wanted-digits = w .below;
             key-digits = k .below;
             text-is = r .here
-                ∙ ap (λ (l : List ℕ). textOf (catalogueLines text .catalogue) ++ l) (w .here ∙ ap (λ (l : List ℕ). numberText wantedName wanted ++ l) rest);
+                ∙ ap (λ (l : List ℕ). textWith (catalogueLines text .catalogue) ns ++ l)
+                (w .here ∙ ap (λ (l : List ℕ). numberText wantedName wanted ++ l) rest);
           })
       go false named g = none-some g
 
-  wanted-read : (line : Line) → numberLine wantedName text (catalogueLines text .next) ≡ line
-      → onNumber line (λ wanted next. onKey (keyLine text next) (asked (catalogueLines text .catalogue) wanted)) ≡ some a → InForm text a
+  wanted-read : (line : Line) → numberLine 5 wantedName text (catalogueLines text .next) ≡ line
+      → onNumber line (λ wanted next. onKey (keyLine text next) (asked (catalogueLines text .catalogue) wanted)) ≡ some a → InForm text a ns
   wanted-read (Value wanted next) f e =
-      key-read wanted next (line-read wantedName text (catalogueLines text .next) wanted next f) (keyLine text next) refl e
+      key-read wanted next (line-read 5 wantedName text (catalogueLines text .next) wanted next f) (keyLine text next) refl e
   wanted-read Refused f e = none-some e
 
-pub input-in-form : (text : List ℕ) (a : Asked) → inputAsks text ≡ some a → InForm text a
+pub input-in-form : (text : List ℕ) (a : Asked) → inputAsks text ≡ some a → (ns : List ℕ) × InForm text a ns
 unfolding inputAsks linesAsk
 input-in-form text a e = go (ltb mostInput (length text)) refl e
   where
-    lines : length text ≤ mostInput → linesAsk text ≡ some a → InForm text a
+    lines : length text ≤ mostInput → linesAsk text ≡ some a → (ns : List ℕ) × InForm text a ns
     lines short f =
         ⊎-elim (λ refused. none-some (rw refused at f))
-        (λ r. wanted-read text a short r (numberLine wantedName text (catalogueLines text .next)) refl (rw (r .accepted) at f))
+        (λ r. (r .0, wanted-read text a short (r .0) (r .1) (numberLine 5 wantedName text (catalogueLines text .next)) refl (rw (r .1 .accepted) at f)))
         (lines-cases text)
 
-    go : (t : Bool) → ltb mostInput (length text) ≡ t → cond t none (linesAsk text) ≡ some a → InForm text a
+    go : (t : Bool) → ltb mostInput (length text) ≡ t → cond t none (linesAsk text) ≡ some a → (ns : List ℕ) × InForm text a ns
     go true long f = none-some f
     go false fits f = lines (ltb-false mostInput (length text) fits) f
 
 -- refused 1 exactly if the text is no input's
-pub refused-input : (text : List ℕ) → (inputAsks text ≡ none) ↔ ((a : Asked) → InForm text a → ⊥)
-refused-input text = (λ e a f. none-some (sym e ∙ read a f), λ never. go (inputAsks text) refl never)
+pub refused-input : (text : List ℕ) → (inputAsks text ≡ none) ↔ ((a : Asked) (ns : List ℕ) → InForm text a ns → ⊥)
+refused-input text = (λ e a ns f. none-some (sym e ∙ read a ns f), λ never. go (inputAsks text) refl never)
   where
-    read : (a : Asked) → InForm text a → inputAsks text ≡ some a
-    read a f =
+    read : (a : Asked) (ns : List ℕ) → InForm text a ns → inputAsks text ≡ some a
+    read a ns f =
         ap inputAsks (f .text-is)
-        ∙ input-reads-back a (f .catalogue-writable) (f .wanted-digits) (f .key-digits) (rw (f .text-is) at (f .short))
+        ∙ input-reads-back a ns (f .catalogue-writable) (f .wanted-digits) (f .key-digits) (rw (f .text-is) at (f .short))
 
-    go : (o : Option Asked) → inputAsks text ≡ o → ((a : Asked) → InForm text a → ⊥) → inputAsks text ≡ none
+    go : (o : Option Asked) → inputAsks text ≡ o → ((a : Asked) (ns : List ℕ) → InForm text a ns → ⊥) → inputAsks text ≡ none
     go none e never = e
-    go (some a) e never = absurd (never a (input-in-form text a e))
+    go (some a) e never = let f = input-in-form text a e in absurd (never a (f .0) (f .1))

@@ -1,4 +1,4 @@
--- What is written as an input reads back (`input-reads-back`): a catalogue, a wanted message and a key's numbers of at most five digits each
+-- What is written as an input reads back (`input-reads-back`): a catalogue, its lengths, a wanted message and a key's numbers of at most five digits each
 -- are exactly what the input made of them asks for. Rests on the catalogue's text and its lines reading back.
 use mathlib.Core.Path.{_≡_, refl, sym, ap, _∙_}
 use mathlib.Core.Bool.{true, false}
@@ -24,8 +24,9 @@ use Rattle.text_lines.proofs.Numerals.{no-leading-zero}
 use Rattle.text_lines.proofs.RoundTrip.{line-written}
 use Rattle.catalogue.specs.declared.Catalogue.{Catalogue}
 use Rattle.season_text.specs.SeasonLines.{dateBegins}
-use Rattle.catalogue_text.specs.Text.{textOf, Ends, Writable}
-use Rattle.catalogue_text.proofs.CatalogueLines.{other-ends, lines-written}
+use Rattle.catalogue_text.specs.Text.{textWith, Ends, Writable}
+use Rattle.catalogue_text.proofs.Ends.{other-ends}
+use Rattle.catalogue_text.proofs.CatalogueLines.{lines-written}
 use Rattle.number_lists.specs.NumberLists.{afterSpaces, spaced, numeralFrom, numeralAt, endsAt, numbersFrom, numbersAt}
 use Rattle.printing.specs.Input.{Asked, wantedName, keyName, mostInput, keyLine, linesAsk, inputAsks, inputOf}
 use Rattle.number_lists.proofs.Reading.{at-last, at-more}
@@ -113,19 +114,19 @@ list-written text (n ∷ numbers) at b e =
 -- ---- the whole input
 
 -- the line of the wanted message goes on with no catalogue
-wanted-ends : (c : Catalogue) (wanted : ℕ) (rest : List ℕ) → Ends c (numberText wantedName wanted ++ rest)
+wanted-ends : (c : Catalogue) (ns : List ℕ) (wanted : ℕ) (rest : List ℕ) → Ends c ns (numberText wantedName wanted ++ rest)
 unfolding begins dateBegins
-wanted-ends c wanted rest = other-ends c (numberText wantedName wanted ++ rest) refl refl
+wanted-ends c ns wanted rest = other-ends c ns (numberText wantedName wanted ++ rest) refl refl refl
 
-pub input-reads-back : (a : Asked) → Writable (a .catalogue) → a .wanted < 100000 → Below 100000 (a .key) → length (inputOf a) ≤ mostInput
-    → inputAsks (inputOf a) ≡ some a
+pub input-reads-back : (a : Asked) (ns : List ℕ) → Writable (a .catalogue) ns → a .wanted < 100000 → Below 100000 (a .key)
+    → length (inputOf a ns) ≤ mostInput → inputAsks (inputOf a ns) ≡ some a
 unfolding inputAsks linesAsk keyLine inputOf
-input-reads-back a small wanted-small key-small fits =
-    let text = inputOf a in
-    let c = textOf (a .catalogue) in
+input-reads-back a ns small wanted-small key-small fits =
+    let text = inputOf a ns in
+    let c = textWith (a .catalogue) ns in
     let w = numberText wantedName (a .wanted) in
     let k = spaced (a .key) ++ ascii "\n" in
-    let lines = lines-written (a .catalogue) (w ++ (keyName ++ k)) small (wanted-ends (a .catalogue) (a .wanted) (keyName ++ k)) in
+    let lines = lines-written (a .catalogue) ns (w ++ (keyName ++ k)) small (wanted-ends (a .catalogue) ns (a .wanted) (keyName ++ k)) in
     let at-wanted : drop (length c) text ≡ w ++ (keyName ++ k) = drop-append-seam c (w ++ (keyName ++ k)) in
     let at-key : drop (length c + length w) text ≡ keyName ++ k = drop-after text w (keyName ++ k) (length c) at-wanted in
     let at-numbers : drop (length c + length w + length keyName) text ≡ k = drop-after text keyName k (length c + length w) at-key in
@@ -133,7 +134,7 @@ input-reads-back a small wanted-small key-small fits =
     simp (
       le-ltb mostInput (length text) fits,
       lines,
-      line-written wantedName text (keyName ++ k) (length c) (a .wanted) wanted-small at-wanted,
+      line-written 5 wantedName text (keyName ++ k) (length c) (a .wanted) (omega arith) wanted-small at-wanted,
       starts,
       list-written text (a .key) (length c + length w + length keyName) key-small at-numbers,
     )

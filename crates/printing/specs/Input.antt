@@ -11,7 +11,7 @@ use Rattle.refusal.specs.declared.Verdict.{Verdict}
 use Rattle.refusal.specs.declared.Verdict.the-variants.{Accepted, Refused}
 use Rattle.catalogue.specs.declared.Catalogue.{Catalogue}
 use Rattle.text_lines.specs.Lines.{begins, numberText, numberLine}
-use Rattle.catalogue_text.specs.Text.{textOf}
+use Rattle.catalogue_text.specs.Text.{textWith}
 use Rattle.catalogue_text.specs.Parsing.{catalogueLines}
 use Rattle.number_lists.specs.NumberLists.{onNumber, numbersAt, spaced}
 
@@ -52,12 +52,12 @@ unfoldable pub linesAsk : List ℕ → Option Asked
 linesAsk text =
     let found = catalogueLines text in
     onCatalogue (found .verdict)
-    (onNumber (numberLine wantedName text (found .next)) λ wanted next.
+    (onNumber (numberLine 5 wantedName text (found .next)) λ wanted next.
     onKey (keyLine text next) (asked (found .catalogue) wanted))
 
 unfoldable pub inputAsks : List ℕ → Option Asked
 inputAsks text = cond (ltb mostInput (length text)) none (linesAsk text)
 
--- The input that asks for this
-unfoldable pub inputOf : Asked → List ℕ
-inputOf a = textOf (a .catalogue) ++ (numberText wantedName (a .wanted) ++ (keyName ++ (spaced (a .key) ++ ascii "\n")))
+-- The input that asks for this, and says these lengths, of which the catalogue has what it can keep
+unfoldable pub inputOf : Asked → List ℕ → List ℕ
+inputOf a ns = textWith (a .catalogue) ns ++ (numberText wantedName (a .wanted) ++ (keyName ++ (spaced (a .key) ++ ascii "\n")))

@@ -183,7 +183,7 @@ fn put_page(input: &[u8], out: &mut [u8]) -> usize
     let Line::Value {
         value: wanted,
         next: at,
-    } = text_lines::number_line(b"wanted=", input, found.next)
+    } = text_lines::number_line(5, b"wanted=", input, found.next)
     else {
         return put_refusal(out, Refusal::Text);
     };

@@ -17,7 +17,7 @@ use Rattle.scheme.specs.Scheme.{Scheme}
 use Rattle.catalogue.specs.declared.Catalogue.{Catalogue}
 use Rattle.session.specs.declared.Session.{Session}
 use Rattle.session_parts.specs.Marks.{allTaken}
-use Rattle.session.specs.Calls.{codeOf, slotsOf, ownFaults, recoveredMessage, recoverVerdict, recoverBy, recover}
+use Rattle.session.specs.Calls.{slotsOf, ownFaults, wantedLength, recoveredMessage, recoverVerdict, recoverBy, recover}
 use Rattle.session_checks.proofs.Links.{session-passed, session-accepted}
 use Rattle.session.proofs.Sound.{Sound, holds-sound, sound-holds}
 use Rattle.session.proofs.Goes.{Goes, goes}
@@ -27,7 +27,7 @@ module _ (schemeOf : Catalogue → Scheme) (s : Session) where
   pub record Recovers (answersRoom room : ℕ) : Type 0 where
     pub sound : Sound schemeOf s
     pub slots-fit : slotsOf schemeOf (s .catalogue) ≤ answersRoom
-    pub roomy : codeOf schemeOf s .sizes .message ≤ room
+    pub roomy : wantedLength schemeOf s ≤ room
     pub all-taken : allTaken (s .catalogue .servers) (s .taken) ≡ true
 
   pub recover-passed : (answersRoom room : ℕ) → recoverVerdict schemeOf s answersRoom room ≡ Accepted → Recovers answersRoom room
@@ -38,7 +38,7 @@ module _ (schemeOf : Catalogue → Scheme) (s : Session) where
       record {
         sound = holds-sound schemeOf s (session-passed schemeOf (s .catalogue) (s .wanted) (s .key) (p .0)) (not-false _ (n .1 .1 .0));
         slots-fit = ltb-false answersRoom (slotsOf schemeOf (s .catalogue)) (n .0);
-        roomy = ltb-false room (codeOf schemeOf s .sizes .message) (n .1 .0);
+        roomy = ltb-false room (wantedLength schemeOf s) (n .1 .0);
         all-taken = not-false _ (n .1 .1 .1 .0);
       }
 
@@ -46,7 +46,7 @@ module _ (schemeOf : Catalogue → Scheme) (s : Session) where
   pub recover-verdict : Sound schemeOf s → (answersRoom room : ℕ)
       → recoverVerdict schemeOf s answersRoom room
       ≡ refuseIf (ltb answersRoom (slotsOf schemeOf (s .catalogue))) 9
-      (refuseIf (ltb room (codeOf schemeOf s .sizes .message)) 9 (refuseIf (not (allTaken (s .catalogue .servers) (s .taken))) 12 Accepted))
+      (refuseIf (ltb room (wantedLength schemeOf s)) 9 (refuseIf (not (allTaken (s .catalogue .servers) (s .taken))) 12 Accepted))
   unfolding recoverVerdict
   recover-verdict sound answersRoom room =
       let own = session-accepted schemeOf (s .catalogue) (s .wanted) (s .key) (sound-holds schemeOf s sound) in

@@ -7,7 +7,7 @@ use Prim.Native.Nat.{ℕ, _+_, _*_, _≤_, _<_}
 use native.Mathlib.Omega.{arith}
 use borrow.Author.Tests.{ltb-true, ltb-false}
 use lib.Dec.{ltb}
-use lib.ListN.{length, take-append-drop}
+use lib.ListN.{length, take, take-append-drop}
 use Rattle.lists.specs.Parts.{cut}
 use Rattle.lists.proofs.Puts.{put-length}
 use Rattle.lists.proofs.Cuts.{slot-end}
@@ -18,7 +18,7 @@ use Rattle.refusal.specs.declared.Verdict.the-variants.{Accepted, Refused}
 use Rattle.scheme.specs.Scheme.{Scheme, answersIn}
 use Rattle.catalogue.specs.declared.Catalogue.{Catalogue}
 use Rattle.session.specs.declared.Session.{Session}
-use Rattle.session.specs.Calls.{codeOf, keyOf, queryOf, takeVerdict, takeBy, takeAnswer, recoveredMessage}
+use Rattle.session.specs.Calls.{codeOf, keyOf, queryOf, takeVerdict, takeBy, takeAnswer, wantedLength, recoveredMessage}
 use Rattle.session.proofs.Take.{Takes, take-by}
 
 module _ (schemeOf : Catalogue → Scheme) (s : Session) where
@@ -64,5 +64,5 @@ module _ (schemeOf : Catalogue → Scheme) (s : Session) where
       → recoveredMessage schemeOf s answers ≡ recoveredMessage schemeOf s others
   unfolding answersIn
   recover-reads answers others same =
-      ap (codeOf schemeOf s .recover (s .wanted) (keyOf schemeOf s))
+      ap (λ (given : List (List ℕ)). take (wantedLength schemeOf s) (codeOf schemeOf s .recover (s .wanted) (keyOf schemeOf s) given))
       (map-range 0 (s .catalogue .servers) _ _ (λ server l u. let h : server < s .catalogue .servers = omega arith in same server h))

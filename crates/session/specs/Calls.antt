@@ -1,6 +1,6 @@
--- The calls of a session, over the code of each catalogue (document 01, 'Session' and 'Numbers a call can give'; the day of an issue: document 02, item
--- 1): the whole result, and the final bytes of the buffer that the call may write, for every input. A call goes by its verdict, the foremost of its
--- faults; refused, it changes nothing.
+-- The calls of a session, over the code of each catalogue (document 01, 'Session' and 'Numbers a call can give'; the day of an issue, and where a message
+-- ends: document 02, items 1 and 6): the whole result, and the final bytes of the buffer that the call may write, for every input. A call goes by its
+-- verdict, the foremost of its faults; refused, it changes nothing.
 use mathlib.Core.Path.{_≡_}
 use mathlib.Core.Bool.{not}
 use mathlib.Core.List.{List, [], _∷_, _++_}
@@ -13,10 +13,11 @@ use Rattle.refusal.specs.declared.Verdict.the-variants.{Accepted, Refused}
 use Rattle.refusal.specs.declared.Outcome.{Outcome}
 use Rattle.refusal.specs.declared.Outcome.the-variants.{Value, Refused as NoValue}
 use Rattle.refusal.specs.Foremost.{Fault, fault, foremost}
-use Rattle.scheme.specs.Scheme.{Scheme, recoverIn}
+use Rattle.scheme.specs.Scheme.{Scheme}
 use Rattle.calendar.specs.declared.Day.{Day}
 use Rattle.catalogue.specs.declared.Catalogue.{Catalogue}
 use Rattle.catalogue.specs.Catalogue.{catalogueFaults, catalogueVerdict}
+use Rattle.codes.specs.Messages.{messageLength, recoveredIn}
 use Rattle.session.specs.declared.Session.{Session}
 use Rattle.session.specs.declared.Handed.{Handed}
 use Rattle.session_checks.specs.Checks.{usedPlaces, sessionFaults, serverFaults, servedFaults, marksFault, dueFaults, missingFault}
@@ -119,12 +120,17 @@ module _ (schemeOf : Catalogue → Scheme) where
   unfoldable pub takeAnswer : Session → ℕ → List ℕ → List ℕ → Out
   takeAnswer s server answer buffer = takeBy s server answer buffer (takeVerdict s server (length answer) (length buffer))
 
-  -- recover session answers buffer, on any day: the message, at the start of the buffer, from the answers in their slots; the session as it was
+  -- the bytes of the session's message
+  abbrev pub wantedLength : Session → ℕ
+  wantedLength s = messageLength schemeOf (s .catalogue) (s .wanted)
+
+  -- recover session answers buffer, on any day: the message, at the start of the buffer, from the answers in their slots; the session as it was. Only the
+  -- message's bytes are written, and 9 goes by their number
   abbrev pub recoverFaults : Session → ℕ → ℕ → List Fault
   recoverFaults s answersRoom room =
       ownFaults s
       ++ (fault 9 (ltb answersRoom (slotsOf (s .catalogue)))
-      ∷ fault 9 (ltb room (codeOf s .sizes .message))
+      ∷ fault 9 (ltb room (wantedLength s))
       ∷ marksFault (s .catalogue .servers) (s .issued) (s .taken)
       ∷ missingFault (s .catalogue .servers) (s .taken)
       ∷ [])
@@ -134,7 +140,7 @@ module _ (schemeOf : Catalogue → Scheme) where
 
   -- the message that the answers in a buffer give
   abbrev pub recoveredMessage : Session → List ℕ → List ℕ
-  recoveredMessage s answers = recoverIn (codeOf s) (s .catalogue .servers) (s .wanted) (keyOf s) answers
+  recoveredMessage s answers = recoveredIn schemeOf (s .catalogue) (s .wanted) (keyOf s) answers
 
   abbrev pub recoverBy : Session → List ℕ → List ℕ → Verdict → Out
   recoverBy s answers buffer = callBy s buffer s (put 0 (recoveredMessage s answers) buffer)

@@ -89,7 +89,7 @@ pub fn recover_verdict(s: Session, answers: usize, message: usize) -> Verdict
     if answers < s.catalogue.servers * sizes.slot {
         return Verdict::Refused(Refusal::Room);
     }
-    if message < sizes.message {
+    if message < keyed::message_length(s.catalogue, s.wanted) {
         return Verdict::Refused(Refusal::Room);
     }
     session_checks::missing_verdict(s.catalogue.servers, &s.issued, &s.taken)

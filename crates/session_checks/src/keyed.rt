@@ -4,9 +4,9 @@ ghost use mathlib.Core.Bool.{true};
 ghost use Prim.Native.Nat.{_*_, _≤_, _<_};
 ghost use lib.ListN.{length};
 ghost use Rattle.lists.specs.Parts.{put};
-ghost use Rattle.scheme.specs.Scheme.{recoverIn};
 ghost use Rattle.catalogue.specs.Catalogue.{Admitted};
 ghost use Rattle.codes.specs.Codes.{schemeOf};
+ghost use Rattle.codes.specs.Messages.{messageLength, recoveredIn};
 ghost use Rattle.session_checks.specs.Checks.{usedPlaces};
 use catalogue::Catalogue;
 use catalogue::Measured;
@@ -68,18 +68,28 @@ pub fn answer_length(c: Catalogue, wanted: usize, places: &[u8], server: usize) 
     codes::expected_length(c, wanted, server, &places[..size])
 }
 
-// Writes the message that the answers in their slots give at the start of `message`.
+// The bytes of the wanted message.
+pub fn message_length(c: Catalogue, wanted: usize) -> usize
+    requires { ⌜ Admitted c ⌝ }
+    ensures { λ r. ⌜ r ≡ messageLength schemeOf c wanted ⌝ }
+{
+    let sizes = sizes_of(c);
+    lengths::length_of(c.lengths, sizes.message, wanted)
+}
+
+// Writes the message that the answers in their slots give at the start of `message`. The code is lent no more of it than the message's bytes.
 pub fn write_message(c: Catalogue, wanted: usize, places: &[u8], answers: &[u8], message: &mut [u8])
     requires { ⌜ Admitted c ⌝ }
     requires { ⌜ length (now places) ≡ 2048 ⌝ }
     requires { ⌜ wanted < c .messages ⌝ }
     requires { ⌜ schemeOf c .keyGood (usedPlaces schemeOf c (now places)) ≡ true ⌝ }
     requires { ⌜ c .servers * schemeOf c .sizes .slot ≤ length (now answers) ⌝ }
-    requires { ⌜ schemeOf c .sizes .message ≤ length (now message) ⌝ }
+    requires { ⌜ messageLength schemeOf c wanted ≤ length (now message) ⌝ }
     ensures { λ _. ⌜ now (message .exit)
-        ≡ put 0 (recoverIn (schemeOf c) (c .servers) wanted (usedPlaces schemeOf c (now (places .entry))) (now (answers .entry))) (now (message .entry)) ⌝ }
+        ≡ put 0 (recoveredIn schemeOf c wanted (usedPlaces schemeOf c (now (places .entry))) (now (answers .entry))) (now (message .entry)) ⌝ }
 {
     let sizes = sizes_of(c);
     let size = sizes.key;
-    codes::recover(c, wanted, &places[..size], answers, message);
+    let length = message_length(c, wanted);
+    codes::recover(c, wanted, &places[..size], answers, &mut message[..length]);
 }

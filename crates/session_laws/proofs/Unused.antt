@@ -6,9 +6,10 @@ use lib.ListN.{length, take}
 use Rattle.lists.specs.Parts.{put}
 use Rattle.refusal.specs.declared.Verdict.{Verdict}
 use Rattle.refusal.specs.declared.Verdict.the-variants.{Accepted, Refused}
-use Rattle.scheme.specs.Scheme.{Scheme, recoverIn}
+use Rattle.scheme.specs.Scheme.{Scheme}
 use Rattle.calendar.specs.declared.Day.{Day}
 use Rattle.catalogue.specs.declared.Catalogue.{Catalogue}
+use Rattle.codes.specs.Messages.{recoveredIn}
 use Rattle.session.specs.declared.Session.{Session}
 use Rattle.session.specs.Fields.{markIssued}
 use Rattle.session.specs.Calls.{out, codeOf, keyOf, queryOf, recoveredMessage, issueVerdict, issue, takeVerdict, takeAnswer, recoverVerdict, recover}
@@ -26,7 +27,7 @@ module _ (schemeOf : Catalogue → Scheme) (s : Session) (places : List ℕ) (sa
 
   message-same : (answers : List ℕ) → recoveredMessage schemeOf t answers ≡ recoveredMessage schemeOf s answers
   message-same answers =
-      ap (λ (key : List ℕ). recoverIn (codeOf schemeOf s) (s .catalogue .servers) (s .wanted) key answers) same
+      ap (λ (key : List ℕ). recoveredIn schemeOf (s .catalogue) (s .wanted) key answers) same
 
   issue-same : (day : Day) (server : ℕ) (buffer : List ℕ) (v : Verdict) → v ≡ issueVerdict schemeOf s day server (length buffer)
       → issue schemeOf t day server buffer ≡ handedWith places (issue schemeOf s day server buffer)

@@ -8,7 +8,7 @@ ghost use mathlib.Core.Path.{_≡_};
 ghost use mathlib.Core.Bool.{true};
 ghost use Prim.Native.Nat.{_*_, _≤_, _<_};
 ghost use lib.ListN.{length, getD};
-ghost use Rattle.lists.specs.Parts.{put};
+ghost use Rattle.lists.specs.Parts.{put, lay};
 ghost use Rattle.lists.specs.Below.{allBelow};
 ghost use Rattle.lists.specs.Inserts.{insertAt};
 ghost use Rattle.parameters.specs.Bounds.{shortFits};
@@ -130,7 +130,8 @@ pub fn answer(
     answering::answer(op, 0, n - 1, s, store, query, out);
 }
 
-// Writes the wanted message, from the slots of the answer buffer. The key is enough: k and `wanted` say which fetch it is.
+// Writes as much of the wanted message as `message` has room for, from the slots of the answer buffer. The key is enough: k and `wanted`
+// say which fetch it is.
 pub fn recover(
     op: Operation,
     n: usize,
@@ -144,9 +145,8 @@ pub fn recover(
     requires { ⌜ shortFits n k s ≡ true ⌝ }
     requires { ⌜ Valid (shortScheme (sumOf op) n k s) (now key) ⌝ }
     requires { ⌜ n * shortSizes n k s .slot ≤ length (now answers) ⌝ }
-    requires { ⌜ shortSizes n k s .message ≤ length (now message) ⌝ }
     ensures { λ _. ⌜ now (message .exit)
-        ≡ put 0 (recoverIn (shortScheme (sumOf op) n k s) n wanted (now (key .entry)) (now (answers .entry))) (now (message .entry)) ⌝ }
+        ≡ lay 0 (recoverIn (shortScheme (sumOf op) n k s) n wanted (now (key .entry)) (now (answers .entry))) (now (message .entry)) ⌝ }
 {
     let starts = recovering::slot_starts(s);
     let t = digits::digit_sum(n, key);

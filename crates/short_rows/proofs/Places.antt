@@ -4,38 +4,27 @@ use mathlib.Core.Path.{_≡_, refl, sym, ap, ap₂, _∙_}
 use mathlib.Core.Bool.{Bool, true, false, cond}
 use mathlib.Core.List.{List, [], flatMap}
 use Prim.Native.Nat.{ℕ, suc, _+_, _-_, _*_, _%_, _≤_, _<_}
-use native.Mathlib.Nat.{mod-lt, suc-mul, add-sub-cancel-left}
+use native.Mathlib.Nat.{mod-lt, suc-mul}
 use native.Mathlib.Numerals.{add-one}
 use native.Mathlib.Omega.{arith}
 use borrow.Author.Tests.{eqb-true, eqb-false}
 use lib.Dec.{eqb}
-use lib.ListN.{length, getD, set, take, drop}
+use lib.ListN.{length, getD, set, drop}
 use lib.Seq.{ext-getD, getD-set-same, getD-set-other}
-use Rattle.lists.specs.Parts.{cut, put}
+use Rattle.lists.specs.Parts.{cut, lay}
 use Rattle.lists.specs.Ranges.{range}
 use Rattle.lists.specs.Below.{Below}
 use Rattle.lists.proofs.Below.{below-take, below-drop}
 use Rattle.lists.proofs.Cuts.{cut-length, slot-end}
-use Rattle.lists.proofs.Puts.{put-put, put-nil}
+use Rattle.lists.proofs.Laid.{lay-nil, lay-next}
 use Rattle.lists.proofs.Mapped.{mapped-at, mapped-length}
-use Rattle.symbol.specs.Sum.{Sum}
-use Rattle.symbol.specs.Group.{KeepsLength, AbelianGroup}
+use Rattle.symbol.specs.Sum.{Sum, less}
+use Rattle.symbol.specs.Group.{AbelianGroup}
+use Rattle.symbol.proofs.Less.{less-length}
 use Rattle.symbol.proofs.Totals.{minus-zeros}
 use Rattle.short_scheme.specs.Short.{orZeros, recovered}
 use Rattle.short_scheme.proofs.Answers.{or-zeros-some}
-use Rattle.short_rows.specs.Steps.{Placed, slotStarts, difference, fromPlaces}
-
--- a symbol that was copied from its part of the buffer
-pub copied : (from S : ℕ) (answers : List ℕ) {last : List ℕ} → last ≡ take (from + S - from) (drop from answers) → last ≡ cut from S answers
-copied from S answers made = made ∙ ap (λ (n : ℕ). take n (drop from answers)) (add-sub-cancel-left from S)
-
--- the difference of two symbols is as long as they are
-pub difference-length : (sum : Sum) (S : ℕ) → KeepsLength (sum .minus) S → (empty : Bool) (answers : List ℕ) (from other : ℕ)
-    → from + S ≤ length answers → other + S ≤ length answers → length (difference sum S empty answers from other) ≡ S
-unfolding difference
-difference-length sum S keeps true answers from other h k = cut-length from S answers h
-difference-length sum S keeps false answers from other h k =
-    keeps (cut from S answers) (cut other S answers) (cut-length from S answers h) (cut-length other S answers k)
+use Rattle.short_rows.specs.Steps.{Placed, slotStarts, fromPlaces}
 
 module _ (sum : Sum) (N S T : ℕ) (group : AbelianGroup sum S) (starts answers : List ℕ) (placed : Placed N S starts answers) (known : T < N) where
   turned : (d : ℕ) → (d + T) % N < N
@@ -43,14 +32,16 @@ module _ (sum : Sum) (N S T : ℕ) (group : AbelianGroup sum S) (starts answers 
 
   pub from-length : (empty : Bool) (d : ℕ) → length (fromPlaces sum N S T empty starts answers d) ≡ S
   from-length empty d =
-      difference-length sum S (group .minus-length) empty answers (getD starts ((d + T) % N) 0) (getD starts T 0)
-      (placed .inside ((d + T) % N) (turned d)) (placed .inside T known)
+      let from = getD starts ((d + T) % N) 0 in
+      let other = getD starts T 0 in
+      less-length sum S (group .minus-length) empty (cut from S answers) (cut other S answers)
+      (cut-length from S answers (placed .inside ((d + T) % N) (turned d))) (cut-length other S answers (placed .inside T known))
 
   -- an empty answer of server T counts as zeros
   taken-away : Below 256 answers → (empty : Bool) (from : ℕ) → length (cut from S answers) ≡ S
       → sum .minus (cut from S answers) (orZeros S (cut (getD starts T 0) (cond empty 0 S) answers))
-      ≡ difference sum S empty answers from (getD starts T 0)
-  unfolding difference orZeros
+      ≡ less sum empty (cut from S answers) (cut (getD starts T 0) S answers)
+  unfolding less orZeros
   taken-away bytes true from long =
       minus-zeros sum S group (record { long = long; bytes = below-take 256 S (drop from answers) (below-drop 256 from answers bytes) })
   taken-away bytes false from long =
@@ -92,34 +83,33 @@ slots-more S i starts h w = record { at-slot = λ j k. go j k (eqb j i) refl }
     go j k false e = getD-set-other starts i j (i * S) 0 (λ q. eqb-false j i e q) ∙ w .at-slot j (let n : j ≡ i → ⊥ = eqb-false j i e in omega arith)
 
 -- starts of slots that all lie in the answer buffer
-pub slots-placed : (N S : ℕ) (starts answers : List ℕ) → N ≤ 16 → 0 < S → length starts ≡ 16 → InSlots N S starts → N * S ≤ length answers
+pub slots-placed : (N S : ℕ) (starts answers : List ℕ) → N ≤ 16 → 0 < S → S ≤ 1048576 → length starts ≡ 16 → InSlots N S starts → N * S ≤ length answers
     → Placed N S starts answers
-slots-placed N S starts answers few some long slots room = record {
+slots-placed N S starts answers few some small long slots room = record {
   few = few;
   some = some;
+  small = small;
   known = omega arith;
   inside = λ i h. omega (arith, slots .at-slot i h, slot-end i N S h);
 }
 
 -- nothing is left to write
-pub write-done : (f : ℕ → List ℕ) (N S d : ℕ) (message : List ℕ) → N ≤ d → put ((d - 1) * S) (flatMap f (range d (N - d))) message ≡ message
+pub write-done : (f : ℕ → List ℕ) (N S d : ℕ) (message : List ℕ) → N ≤ d → lay ((d - 1) * S) (flatMap f (range d (N - d))) message ≡ message
 unfolding range flatMap
 write-done f N S d message h =
-    ap (λ (n : ℕ). put ((d - 1) * S) (flatMap f (range d n)) message) (let e : N - d ≡ 0 = omega arith in e) ∙ put-nil ((d - 1) * S) message
+    ap (λ (n : ℕ). lay ((d - 1) * S) (flatMap f (range d n)) message) (let e : N - d ≡ 0 = omega arith in e) ∙ lay-nil ((d - 1) * S) message
 
 -- a turn of the loop: one symbol more is written, and the symbols left give the whole as before
-pub write-more : (f : ℕ → List ℕ) (N S d : ℕ) (message : List ℕ) {message′ whole : List ℕ} → 0 < d → d < N → length (f d) ≡ S → d * S ≤ length message
-    → message′ ≡ put ((d - 1) * S) (f d) message → put ((d - 1) * S) (flatMap f (range d (N - d))) message ≡ whole
-    → put ((d + 1 - 1) * S) (flatMap f (range (d + 1) (N - (d + 1)))) message′ ≡ whole
+pub write-more : (f : ℕ → List ℕ) (N S d : ℕ) (message : List ℕ) {message′ whole : List ℕ} → 0 < d → d < N → length (f d) ≡ S
+    → message′ ≡ lay ((d - 1) * S) (f d) message → lay ((d - 1) * S) (flatMap f (range d (N - d))) message ≡ whole
+    → lay ((d + 1 - 1) * S) (flatMap f (range (d + 1) (N - (d + 1)))) message′ ≡ whole
 unfolding range flatMap
-write-more f N S d message {message′} low h long room written e =
+write-more f N S d message {message′} low h long written e =
     let rest = flatMap f (range (suc d) (N - suc d)) in
-    let within = slot-end (d - 1) d S (omega arith) in
     let count : suc (N - suc d) ≡ N - d = omega arith in
     let place : (d + 1 - 1) * S ≡ (d - 1) * S + length (f d) =
     ap (λ (n : ℕ). n * S) (let e : d + 1 - 1 ≡ suc (d - 1) = omega arith in e) ∙ suc-mul (d - 1) S ∙ ap (λ (n : ℕ). (d - 1) * S + n) (sym long) in
-    ap₂ (λ (n m : ℕ). put n (flatMap f (range m (N - m))) message′) place (add-one d)
-    ∙ ap (put ((d - 1) * S + length (f d)) rest) written
-    ∙ put-put ((d - 1) * S) (f d) rest message (omega arith)
-    ∙ ap (λ (n : ℕ). put ((d - 1) * S) (flatMap f (range d n)) message) count
+    ap (λ (m : ℕ). lay ((d + 1 - 1) * S) (flatMap f (range m (N - m))) message′) (add-one d)
+    ∙ lay-next ((d - 1) * S) ((d + 1 - 1) * S) (f d) rest message message′ place written
+    ∙ ap (λ (n : ℕ). lay ((d - 1) * S) (flatMap f (range d n)) message) count
     ∙ e

@@ -1,11 +1,11 @@
 -- What the steps are given and what they leave behind, where the rule of short_scheme/specs/Short.antt has no name for it.
-use mathlib.Core.Bool.{Bool, true, false, cond}
+use mathlib.Core.Bool.{Bool, true, false}
 use mathlib.Core.List.{List, [], _∷_, map}
 use Prim.Native.Nat.{ℕ, zero, suc, _+_, _*_, _%_, _≤_, _<_}
 use lib.ListN.{length, getD}
 use Rattle.lists.specs.Parts.{cut}
 use Rattle.lists.specs.Ranges.{range}
-use Rattle.symbol.specs.Sum.{Sum, totalFrom}
+use Rattle.symbol.specs.Sum.{Sum, totalFrom, less}
 
 -- `out` after the symbols are gathered in it: the first is copied, unless one has `begun` it, and the others are combined with it
 unfoldable pub gathered : Sum → Bool → List ℕ → List (List ℕ) → List ℕ
@@ -22,6 +22,7 @@ begunBy begun (suc d) = true
 pub record Placed (N S : ℕ) (starts answers : List ℕ) : Type 0 where
   pub few : N ≤ 16
   pub some : 0 < S
+  pub small : S ≤ 1048576
   pub known : N ≤ length starts
   pub inside : (i : ℕ) → i < N → getD starts i 0 + S ≤ length answers
 
@@ -29,10 +30,6 @@ pub record Placed (N S : ℕ) (starts answers : List ℕ) : Type 0 where
 abbrev pub slotStarts : ℕ → List ℕ
 slotStarts S = map (λ i. i * S) (range 0 16)
 
--- the symbol at one place of the answer buffer, less that at another; `empty`: nothing is taken away
-unfoldable pub difference : Sum → ℕ → Bool → List ℕ → ℕ → ℕ → List ℕ
-difference sum S empty answers from other = cond empty (cut from S answers) (sum .minus (cut from S answers) (cut other S answers))
-
--- the symbol that digit d names, from the answer buffer; `empty`: server T's answer is
+-- the symbol that digit d names, from the answer buffer: that of one server, less that of server T; `empty`: server T's answer is
 abbrev pub fromPlaces : Sum → ℕ → ℕ → ℕ → Bool → List ℕ → List ℕ → ℕ → List ℕ
-fromPlaces sum N S T empty starts answers d = difference sum S empty answers (getD starts ((d + T) % N) 0) (getD starts T 0)
+fromPlaces sum N S T empty starts answers d = less sum empty (cut (getD starts ((d + T) % N) 0) S answers) (cut (getD starts T 0) S answers)

@@ -3,12 +3,13 @@
 use symbol::Operation;
 ghost use mathlib.Core.Path.{_≡_};
 ghost use mathlib.Core.List.{flatMap};
-ghost use Prim.Native.Nat.{_+_, _-_, _*_, _≤_, _<_};
+ghost use Prim.Native.Nat.{_+_, _-_, _≤_, _<_};
 ghost use lib.ListN.{length};
-ghost use Rattle.lists.specs.Parts.{put};
+ghost use Rattle.lists.specs.Parts.{cut, lay};
 ghost use Rattle.lists.specs.Ranges.{range};
+ghost use Rattle.symbol.specs.Sum.{less};
 ghost use Rattle.symbol.specs.Operations.{sumOf};
-ghost use Rattle.short_rows.specs.Steps.{Placed, slotStarts, difference, fromPlaces};
+ghost use Rattle.short_rows.specs.Steps.{Placed, slotStarts, fromPlaces};
 
 // Where the slots of 16 servers begin, if each has s bytes.
 pub fn slot_starts(s: usize) -> [usize; 16]
@@ -24,7 +25,8 @@ pub fn slot_starts(s: usize) -> [usize; 16]
     starts
 }
 
-// Writes the symbol at byte `from` of the answers, less the one at `other`, at byte `at` of the message. `empty`: nothing is taken away.
+// Writes the symbol at byte `from` of the answers, less the one at `other`, from byte `at` of the message on, as far as it reaches.
+// `empty`: nothing is taken away.
 fn recover_symbol(
     op: Operation,
     s: usize,
@@ -37,20 +39,23 @@ fn recover_symbol(
 )
     requires { ⌜ from + s ≤ length (now answers) ⌝ }
     requires { ⌜ other + s ≤ length (now answers) ⌝ }
-    requires { ⌜ at + s ≤ length (now message) ⌝ }
-    ensures { λ _. ⌜ now (message .exit) ≡ put at (difference (sumOf op) s empty (now (answers .entry)) from other) (now (message .entry)) ⌝ }
+    ensures { λ _. ⌜ now (message .exit)
+        ≡ lay at (less (sumOf op) empty (cut from s (now (answers .entry))) (cut other s (now (answers .entry)))) (now (message .entry)) ⌝ }
 {
-    let end = at + s;
     let from_end = from + s;
-    symbol::copy(&mut message[at..end], &answers[from..from_end]);
-    if empty {
-        return;
-    }
     let other_end = other + s;
-    symbol::subtract(op, &mut message[at..end], &answers[other..other_end]);
+    symbol::write_difference(
+        op,
+        empty,
+        &answers[from..from_end],
+        &answers[other..other_end],
+        at,
+        message,
+    );
 }
 
-// Writes the symbols of digits 1 to n - 1 at the start of `message`. `starts`: where the servers' answers begin; `empty`: server t's is.
+// Writes the symbols of digits 1 to n - 1 from the start of `message` on, as far as it reaches. `starts`: where the servers' answers
+// begin; `empty`: server t's is.
 pub fn recover_row(
     op: Operation,
     n: usize,
@@ -63,9 +68,8 @@ pub fn recover_row(
 )
     requires { ⌜ t < n ⌝ }
     requires { ⌜ Placed n s (now starts) (now answers) ⌝ }
-    requires { ⌜ (n - 1) * s ≤ length (now message) ⌝ }
     ensures { λ _. ⌜ now (message .exit)
-        ≡ put 0 (flatMap (fromPlaces (sumOf op) n s t empty (now (starts .entry)) (now (answers .entry))) (range 1 (n - 1))) (now (message .entry)) ⌝ }
+        ≡ lay 0 (flatMap (fromPlaces (sumOf op) n s t empty (now (starts .entry)) (now (answers .entry))) (range 1 (n - 1))) (now (message .entry)) ⌝ }
 {
     let other = starts[t];
     let mut d = 1;

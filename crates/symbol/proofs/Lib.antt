@@ -6,4 +6,5 @@ pub mod AddWords
 pub mod WordSteps
 pub mod WordsGroup
 pub mod Operations
+pub mod Less
 pub mod Totals

@@ -1,7 +1,10 @@
-// Symbols of bytes (01: pieces): copied, combined and taken away again. All combining of the codes goes through `combine` and
-// `subtract`, which are told the operation; no code asks which it is.
+// Symbols of bytes (01: pieces): copied, combined and taken away again. All combining of the codes goes through `combine`, `subtract`
+// and `write_difference`, which are told the operation; no code asks which it is.
 ghost use mathlib.Core.Path.{_≡_};
+ghost use Prim.Native.Nat.{min};
 ghost use lib.ListN.{length};
+ghost use Rattle.lists.specs.Parts.{lay};
+ghost use Rattle.symbol.specs.Sum.{less};
 ghost use Rattle.symbol.specs.Xor.{xorBytes};
 ghost use Rattle.symbol.specs.Operations.{sumOf};
 
@@ -60,4 +63,55 @@ pub fn copy(dst: &mut [u8], src: &[u8])
         dst[i] = src[i];
         i += 1;
     }
+}
+
+// Copies `first` over `part` and takes `other` away from it. `alone`: nothing is taken away.
+fn difference(op: Operation, alone: bool, first: &[u8], other: &[u8], part: &mut [u8])
+    requires { ⌜ length (now first) ≡ length (now part) ⌝ }
+    requires { ⌜ length (now other) ≡ length (now part) ⌝ }
+    ensures { λ _. ⌜ now (part .exit) ≡ less (sumOf op) alone (now (first .entry)) (now (other .entry)) ⌝ }
+{
+    copy(part, first);
+    if alone {
+        return;
+    }
+    subtract(op, part, other);
+}
+
+// The smaller of two numbers.
+fn smaller(a: usize, b: usize) -> usize
+    ensures { λ r. ⌜ r ≡ min a b ⌝ }
+{
+    if a <= b {
+        return a;
+    }
+    b
+}
+
+// Writes the symbol `first`, less `other`, from byte `at` of the message on: as much of it as the message has room for. `alone`: nothing
+// is taken away.
+pub fn write_difference(
+    op: Operation,
+    alone: bool,
+    first: &[u8],
+    other: &[u8],
+    at: usize,
+    message: &mut [u8],
+)
+    requires { ⌜ length (now other) ≡ length (now first) ⌝ }
+    ensures { λ _. ⌜ now (message .exit)
+        ≡ lay at (less (sumOf op) alone (now (first .entry)) (now (other .entry))) (now (message .entry)) ⌝ }
+{
+    if message.len() <= at {
+        return;
+    }
+    let size = smaller(first.len(), message.len() - at);
+    let end = at + size;
+    difference(
+        op,
+        alone,
+        &first[..size],
+        &other[..size],
+        &mut message[at..end],
+    );
 }

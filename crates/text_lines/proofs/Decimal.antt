@@ -80,6 +80,10 @@ length-most (suc places) n h = go (ltb n 10) refl (λ k. length-most places (n /
         let f = front below in
         omega arith
 
+pub length-within : (most n : ℕ) → 0 < most → n < 10 ^ most → length (decimal n) ≤ most
+length-within zero n some h = absurd (not-suc-le-zero some)
+length-within (suc places) n some h = length-most places n h
+
 -- a number is below the power of its digits
 pub below-power : (n : ℕ) → n < 10 ^ length (decimal n)
 below-power = by-digits (λ n. n < 10 ^ length (decimal n)) small large

@@ -12,10 +12,10 @@ use Rattle.text_lines.specs.Lines.{numberText, begins, isNumeral, number
 use Rattle.text_lines.proofs.Decimal.{length-most}
 use Rattle.text_lines.proofs.Begins.{begins-split}
 
-pub past-end : (name text : List ℕ) (at : ℕ) → length text < at → numberLine name text at ≡ Refused
+pub past-end : (most : ℕ) (name text : List ℕ) (at : ℕ) → length text < at → numberLine most name text at ≡ Refused
 unfolding numberLine begins numberAt digitCount isNumeral
-past-end [] text at h = simp (drop-of-length-le text {i = at + 0} (omega arith))
-past-end (x ∷ name) text at h = simp (drop-of-length-le text {i = at} (omega arith))
+past-end most [] text at h = simp (drop-of-length-le text {i = at + 0} (omega arith))
+past-end most (x ∷ name) text at h = simp (drop-of-length-le text {i = at} (omega arith))
 
 pub name-within : (name text : List ℕ) (at : ℕ) → at ≤ length text → begins name (drop at text) ≡ true → at + length name ≤ length text
 name-within name text at h e =

@@ -59,29 +59,30 @@ decimal-value (allCons {x = x} d (allCons {x = y} {xs = xs} f ds)) h e =
     let above : 48 < x = omega arith in
     after-front (0 * 10 + (x - 48)) (omega arith) (allCons f ds) ∙ ap (λ (l : List ℕ). l ++ (y ∷ xs)) (first-is x (r .0) (r .1))
 
--- ---- a text that begins with a number
+-- ---- a text that begins with a number of at most `most` digits
 
-pub record NumeralRead (text : List ℕ) (n : ℕ) : Type 0 where
-  pub below : n < 100000
+pub record NumeralRead (most : ℕ) (text : List ℕ) (n : ℕ) : Type 0 where
+  pub below : n < 10 ^ most
   pub many : length (decimal n) ≡ digitCount text
   pub here : text ≡ decimal n ++ drop (digitCount text) text
 
-pub numeral-read : (text : List ℕ) → isNumeral (digitCount text) text ≡ true → NumeralRead text (valueFrom 0 (take (digitCount text) text))
+pub numeral-read : (most : ℕ) (text : List ℕ) → isNumeral most (digitCount text) text ≡ true
+    → NumeralRead most text (valueFrom 0 (take (digitCount text) text))
 unfolding isNumeral
-numeral-read text e =
+numeral-read most text e =
     let count = digitCount text in
     let first = take count text in
     let n = valueFrom 0 first in
-    let r = both-true (leb 1 count) (leb count 5 && not (leadingZero count text)) e in
-    let s = both-true (leb count 5) (not (leadingZero count text)) (r .1) in
+    let r = both-true (leb 1 count) (leb count most && not (leadingZero count text)) e in
+    let s = both-true (leb count most) (not (leadingZero count text)) (r .1) in
     let some : 1 ≤ count = leb-true 1 count (r .0) in
-    let few : count ≤ 5 = leb-true count 5 (s .0) in
+    let few : count ≤ most = leb-true count most (s .0) in
     let long : length first ≡ count = length-take-le count text (count-within text) in
     let same-first : getD first 0 0 ≡ getD text 0 0 = getD-take count text 0 0 (omega arith) in
     let plain : leadingZero (length first) first ≡ false = rw (long, same-first) (not-true (leadingZero count text) (s .1)) in
     let written : decimal n ≡ first = decimal-value (digits-first text) (omega arith) plain in
     let many : length (decimal n) ≡ count = ap length written ∙ long in
-    let power : 10 ^ length (decimal n) ≤ 10 ^ 5 = pow-le-pow-right {n = 10} (omega arith) {i = length (decimal n)} {j = 5} (omega arith) in
+    let power : 10 ^ length (decimal n) ≤ 10 ^ most = pow-le-pow-right {n = 10} (omega arith) {i = length (decimal n)} {j = most} (omega arith) in
     let small = below-power n in
     record {
       below = omega arith;

@@ -48,9 +48,9 @@ pub fn digits(text: &[u8]) -> usize
     i
 }
 
-// The number of at most five digits.
+// The number of at most seven digits.
 pub fn value(text: &[u8]) -> usize
-    requires { ⌜ length (now text) ≤ 5 ⌝ }
+    requires { ⌜ length (now text) ≤ 7 ⌝ }
     requires { ⌜ digitCount (now text) ≡ length (now text) ⌝ }
     ensures { λ r. ⌜ r ≡ valueFrom 0 (now (text .entry)) ⌝ }
 {
@@ -64,14 +64,14 @@ pub fn value(text: &[u8]) -> usize
     n
 }
 
-// Whether the `count` digits at the start of the text are a number: one to five, without leading zero.
-pub fn is_numeral(count: usize, text: &[u8]) -> bool
-    ensures { λ r. ⌜ r ≡ isNumeral count (now (text .entry)) ⌝ }
+// Whether the `count` digits at the start of the text are a number: one to `most`, without leading zero.
+pub fn is_numeral(most: usize, count: usize, text: &[u8]) -> bool
+    ensures { λ r. ⌜ r ≡ isNumeral most count (now (text .entry)) ⌝ }
 {
     if count < 1 {
         return false;
     }
-    if 5 < count {
+    if most < count {
         return false;
     }
     if count <= 1 {
@@ -84,12 +84,13 @@ pub fn is_numeral(count: usize, text: &[u8]) -> bool
 }
 
 // A number and byte 10 at the start of the text, which begins at place `at`.
-fn number(text: &[u8], at: usize) -> Line
+fn number(most: usize, text: &[u8], at: usize) -> Line
+    requires { ⌜ most ≤ 7 ⌝ }
     requires { ⌜ at + length (now text) < 2 ^ 63 ⌝ }
-    ensures { λ r. ⌜ r ≡ numberAt at (now (text .entry)) ⌝ }
+    ensures { λ r. ⌜ r ≡ numberAt most at (now (text .entry)) ⌝ }
 {
     let count = digits(text);
-    if !is_numeral(count, text) {
+    if !is_numeral(most, count, text) {
         return Line::Refused;
     }
     if text.len() <= count {
@@ -105,9 +106,10 @@ fn number(text: &[u8], at: usize) -> Line
     }
 }
 
-// The line at place `at`: the name, a number of one to five digits without leading zero, and byte 10.
-pub fn number_line(name: &[u8], text: &[u8], at: usize) -> Line
-    ensures { λ r. ⌜ r ≡ numberLine (now (name .entry)) (now (text .entry)) at ⌝ }
+// The line at place `at`: the name, a number of one to `most` digits without leading zero, and byte 10.
+pub fn number_line(most: usize, name: &[u8], text: &[u8], at: usize) -> Line
+    requires { ⌜ most ≤ 7 ⌝ }
+    ensures { λ r. ⌜ r ≡ numberLine most (now (name .entry)) (now (text .entry)) at ⌝ }
 {
     if text.len() < at {
         return Line::Refused;
@@ -116,7 +118,7 @@ pub fn number_line(name: &[u8], text: &[u8], at: usize) -> Line
         return Line::Refused;
     }
     let start = at + name.len();
-    number(&text[start..], start)
+    number(most, &text[start..], start)
 }
 
 // How many digits n has.

@@ -1,4 +1,6 @@
-// Whole fetches: begin, then for each server issue, answer and take, then recover, all in buffers of exactly the length that they need.
+// Whole fetches: begin, then for each server issue, answer and take, then recover, all in buffers of exactly the length that they need, but for the
+// message's, which the line says.
+ghost use Prim.Native.Nat.{_≤_};
 use calendar::Day;
 use catalogue::Measured;
 use parameters::Sizes;
@@ -59,7 +61,7 @@ fn exchange(
     }
 }
 
-// The exchanges with all servers, in ascending order.
+// The exchanges with all servers, of which there are at most 16, in ascending order.
 fn exchanges(
     begun: Session,
     today: Day,
@@ -74,9 +76,9 @@ fn exchanges(
         answers: 0,
         received: 0,
     };
-    let c = begun.catalogue;
+    let servers = draw::at_most(begun.catalogue.servers, 16);
     let mut n: usize = 0;
-    while n < c.servers {
+    while n < servers {
         so_far = exchange(so_far, today, n, store, query, answer, answers);
         n += 1;
     }
@@ -110,11 +112,20 @@ fn rest(
     recovered(session, answers, message);
 }
 
-// The same in buffers of exactly the lengths that the catalogue calls for.
+// The bytes of all symbols of a message, less some; no more than there are.
+fn room_of(whole: usize, less: usize, most: usize) -> usize
+    ensures { λ r. ⌜ r ≤ most ⌝ }
+{
+    let all = draw::at_most(whole, most);
+    all - draw::at_most(less, all)
+}
+
+// The same in buffers of exactly the lengths that the catalogue calls for; the message's has `less` bytes less than all symbols of a message.
 fn exact(
     begun: Session,
     today: Day,
     sizes: Sizes,
+    less: usize,
     store: &[u8],
     query: &mut [u8],
     answer: &mut [u8],
@@ -124,7 +135,7 @@ fn exact(
     let asked = draw::at_most(sizes.query, query.len());
     let slot = draw::at_most(sizes.slot, answer.len());
     let slots = draw::at_most(value(session::bound(begun.catalogue)), answers.len());
-    let room = draw::at_most(sizes.message, message.len());
+    let room = room_of(sizes.message, less, message.len());
     rest(
         begun,
         today,
@@ -136,10 +147,11 @@ fn exact(
     );
 }
 
-// x WANTED: a whole fetch with the lent key and store, all of it today. Refused by begin, it ends there.
+// x WANTED LESS: a whole fetch with the lent key and store, all of it today. Refused by begin, it ends there.
 pub fn whole(
     s: State,
     wanted: usize,
+    less: usize,
     key: &[u8],
     store: &[u8],
     query: &mut [u8],
@@ -158,8 +170,9 @@ pub fn whole(
     };
     exact(
         session,
-        s.days.today,
+        s.given.today,
         sizes,
+        less,
         store,
         query,
         answer,

@@ -53,14 +53,15 @@ pub fn on_buffer(
     s
 }
 
-// Lines that set the catalogue, days, or a field of the session, without a call on a session.
+// Lines that set the catalogue, days, lengths, or a field of the session, without a call on a session.
 pub fn on_field(s: State, line: Line) -> State {
     let session = s.session;
     let letter = line.letter;
     match letter {
         b'c' => single::catalogue(s, line),
-        b'g' => s.with_session(fields::catalogue(session, single::catalogue_of(s.days, line))),
+        b'g' => s.with_session(fields::catalogue(session, single::catalogue_of(s.given, line))),
         b'f' | b'l' | b'n' => single::set_day(s, line),
+        b'p' | b'm' => single::set_lengths(s, line),
         b'v' => s.with_session(fields::wanted(session, line.a)),
         b'y' => s.with_session(fields::key(session, line.a, line.b)),
         b'u' => s.with_session(fields::issued(session, line.a, line.b)),

@@ -4,13 +4,14 @@ use calendar::Day;
 use catalogue::Catalogue;
 use catalogue::Code;
 use catalogue::Measured;
+use lengths::Lengths;
 use refusal::Outcome;
 use session::Handed;
 use symbol::Operation;
 use trials::draw;
 use trials::input::Line;
 use trials::show;
-use trials::state::Days;
+use trials::state::Given;
 use trials::state::State;
 
 // t: reads a catalogue's text, as a whole and as the start of a longer one; the catalogue handed back is the next calls'.
@@ -31,21 +32,23 @@ pub fn text(s: State, text: &[u8]) -> State {
     s.with_catalogue(c)
 }
 
-// The catalogue of five numbers: code (0 short, else even), N, K, S, and the sum (0 exclusive or, else addition); and of the dates set before.
-pub fn catalogue_of(days: Days, line: Line) -> Catalogue {
+// The catalogue of five numbers: code (0 short, else even), N, K, S, and the sum (0 exclusive or, else addition); and of the dates and lengths set before.
+pub fn catalogue_of(given: Given, line: Line) -> Catalogue {
     let code = if line.a == 0 { Code::Short } else { Code::Even };
     let sum = if line.e == 0 {
         Operation::ExclusiveOr
     } else {
         Operation::Addition
     };
-    let opening = days.opening;
-    let closing = days.closing;
+    let opening = given.opening;
+    let closing = given.closing;
+    let lengths = given.lengths;
     Catalogue {
         code: code,
         sum: sum,
         opening: opening,
         closing: closing,
+        lengths: lengths,
         servers: line.b,
         messages: line.c,
         symbol: line.d,
@@ -68,19 +71,46 @@ fn day_of(line: Line) -> Day {
 
 // f, l, n: the opening day and the closing day that later catalogues are given, and the day of later calls.
 pub fn set_day(s: State, line: Line) -> State {
-    let mut days = s.days;
+    let mut given = s.given;
     let letter = line.letter;
     match letter {
-        b'f' => days.opening = day_of(line),
-        b'l' => days.closing = day_of(line),
-        _ => days.today = day_of(line),
+        b'f' => given.opening = day_of(line),
+        b'l' => given.closing = day_of(line),
+        _ => given.today = day_of(line),
     }
-    s.with_days(days)
+    s.with_given(given)
+}
+
+// The lengths with another mark, and zeros in all places.
+fn marked(given: bool) -> Lengths {
+    let mut out = lengths::none();
+    out.given = given;
+    out
+}
+
+// The lengths with another number in a place, where there is such a place.
+fn with_length(l: Lengths, place: usize, n: u32) -> Lengths {
+    let mut out = l;
+    if place < 32 {
+        out.places[place] = n;
+    }
+    out
+}
+
+// p, m: whether later catalogues have lengths, all places 0; and what one of the places holds.
+pub fn set_lengths(s: State, line: Line) -> State {
+    let mut given = s.given;
+    if line.letter == b'p' {
+        given.lengths = marked(line.a != 0);
+    } else {
+        given.lengths = with_length(given.lengths, line.a, narrow(line.b));
+    }
+    s.with_given(given)
 }
 
 // c: a catalogue, its verdict, its sizes, or why it has none, and the bound on received bytes.
 pub fn catalogue(s: State, line: Line) -> State {
-    let c = catalogue_of(s.days, line);
+    let c = catalogue_of(s.given, line);
     show::letter(b'c');
     show::verdict(catalogue::verdict(c));
     match catalogue::sizes(c) {
@@ -135,7 +165,7 @@ fn shown(s: State, letter: u8, handed: Handed, buffer: &[u8]) -> State {
 // i SERVER ROOM: issues a query today.
 pub fn issue(s: State, n: usize, query: &mut [u8]) -> State {
     draw::fill(238, query);
-    let handed = s.session.issue(s.days.today, n, query);
+    let handed = s.session.issue(s.given.today, n, query);
     shown(s, b'i', handed, query)
 }
 
@@ -143,7 +173,7 @@ pub fn issue(s: State, n: usize, query: &mut [u8]) -> State {
 pub fn answer(s: State, n: usize, store: &[u8], query: &[u8], out: &mut [u8]) {
     draw::fill(221, out);
     show::letter(b'a');
-    show::outcome(server::answer(s.catalogue, s.days.today, n, store, query, out));
+    show::outcome(server::answer(s.catalogue, s.given.today, n, store, query, out));
     show::bytes(out);
     show::end();
 }

@@ -3,6 +3,7 @@
 use calendar::Day;
 use catalogue::Catalogue;
 use catalogue::Code;
+use lengths::Lengths;
 use libc::STDOUT_FILENO;
 use refusal::Outcome;
 use refusal::Verdict;
@@ -116,7 +117,35 @@ fn day(d: Day) {
     number(d.day as usize);
 }
 
-// Prints a catalogue: its code, N, K, S, its sum and its dates.
+// How many places there are up to the last one that does not hold 0.
+fn used(places: &[u32; 32]) -> usize {
+    let mut count: usize = 0;
+    let mut i: usize = 0;
+    while i < 32 {
+        if places[i] != 0 {
+            count = i + 1;
+        }
+        i += 1;
+    }
+    count
+}
+
+// Prints lengths: whether there are lines, and the places up to the last one that does not hold 0, their count first.
+fn ends(l: Lengths) {
+    number(if l.given { 1 } else { 0 });
+    let places = l.places;
+    let count = used(&places);
+    number(count);
+    let mut i: usize = 0;
+    while i < 32 {
+        if i < count {
+            number(places[i] as usize);
+        }
+        i += 1;
+    }
+}
+
+// Prints a catalogue: its code, N, K, S, its sum, its dates and its lengths.
 pub fn catalogue(c: Catalogue) {
     let code = c.code;
     number(code_number(code));
@@ -127,6 +156,7 @@ pub fn catalogue(c: Catalogue) {
     number(sum_number(sum));
     day(c.opening);
     day(c.closing);
+    ends(c.lengths);
 }
 
 // Marks as a number, the first one the most.

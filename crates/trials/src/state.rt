@@ -1,12 +1,14 @@
 // What stands between two calls, beside the lent buffers, which main holds.
 use calendar::Day;
 use catalogue::Catalogue;
+use lengths::Lengths;
 use session::Session;
 
-// The dates that a catalogue of numbers is given, and the day of the calls.
-pub struct Days {
+// The dates and lengths that a catalogue of numbers is given, and the day of the calls.
+pub struct Given {
     pub opening: Day,
     pub closing: Day,
+    pub lengths: Lengths,
     pub today: Day,
 }
 
@@ -16,7 +18,7 @@ pub struct State {
     // Bytes of the key, and of the store, that are lent.
     pub key: usize,
     pub store: usize,
-    pub days: Days,
+    pub given: Given,
 }
 
 // Before the first call.
@@ -26,9 +28,10 @@ pub fn first() -> State {
         session: Session::blank(),
         key: 0,
         store: 0,
-        days: Days {
+        given: Given {
             opening: calendar::none(),
             closing: calendar::none(),
+            lengths: lengths::none(),
             today: calendar::none(),
         },
     }
@@ -37,42 +40,42 @@ pub fn first() -> State {
 impl State {
     pub fn with_catalogue(self, c: Catalogue) -> State {
         let session = self.session;
-        let days = self.days;
+        let given = self.given;
         State {
             catalogue: c,
             session: session,
             key: self.key,
             store: self.store,
-            days: days,
+            given: given,
         }
     }
 
     pub fn with_session(self, s: Session) -> State {
         let catalogue = self.catalogue;
-        let days = self.days;
+        let given = self.given;
         State {
             catalogue: catalogue,
             session: s,
             key: self.key,
             store: self.store,
-            days: days,
+            given: given,
         }
     }
 
     pub fn with_lengths(self, key: usize, store: usize) -> State {
         let catalogue = self.catalogue;
         let session = self.session;
-        let days = self.days;
+        let given = self.given;
         State {
             catalogue: catalogue,
             session: session,
             key: key,
             store: store,
-            days: days,
+            given: given,
         }
     }
 
-    pub fn with_days(self, days: Days) -> State {
+    pub fn with_given(self, given: Given) -> State {
         let catalogue = self.catalogue;
         let session = self.session;
         State {
@@ -80,7 +83,7 @@ impl State {
             session: session,
             key: self.key,
             store: self.store,
-            days: days,
+            given: given,
         }
     }
 }

@@ -12,10 +12,12 @@ use Rattle.symbol.specs.Sum.{totalFrom, total}
 use Rattle.symbol.specs.Xor.{xorBytes}
 use Rattle.scheme.specs.Scheme.{honestAnswers}
 use Rattle.calendar.specs.Calendar.{isNone, undated}
-use Rattle.catalogue.specs.Catalogue.{datesFit, catalogueVerdict}
+use Rattle.lengths.specs.Lengths.{noLengths, lengthsFit}
+use Rattle.catalogue.specs.Catalogue.{datesFit, sizesOf, catalogueVerdict}
 use Rattle.text_lines.specs.Decimal.{decimalIn, decimal, digitCount, valueFrom}
 use Rattle.text_lines.specs.Lines.{begins, isNumeral, numberAt, numberLine}
 use Rattle.season_text.specs.SeasonLines.{dateBegins, seasonLines}
+use Rattle.length_text.specs.LengthLines.{lengthLines}
 use Rattle.catalogue_text.specs.Parsing.{codeLine, sumLine, firstLines, catalogueLines}
 use Rattle.short_scheme.specs.Short.{digitSum, shortQuery, shortAdmits, shortAnswerLength, named, shortAnswer, orZeros, recovered, shortRecover}
 use Rattle.even_places.specs.Rule.{sets, queryCells, layout}
@@ -30,8 +32,9 @@ use Rattle.worked_examples.specs.Cards.{Holds, cards}
 
 pub cards-hold : All Holds cards
 unfolding Holds cards flatMap allBelow distinct isPermutation stands range every
-    foremost shortFits evenFits shortSizes evenRows evenSizes totalFrom total xorBytes honestAnswers isNone undated datesFit catalogueVerdict
-    decimalIn decimal digitCount valueFrom begins isNumeral numberAt numberLine codeLine sumLine dateBegins seasonLines firstLines catalogueLines
+    foremost shortFits evenFits shortSizes evenRows evenSizes totalFrom total xorBytes honestAnswers isNone undated datesFit noLengths lengthsFit sizesOf
+    catalogueVerdict decimalIn decimal digitCount valueFrom begins isNumeral numberAt numberLine codeLine sumLine dateBegins seasonLines firstLines lengthLines
+    catalogueLines
     digitSum shortQuery shortAdmits shortAnswerLength named shortAnswer orZeros recovered shortRecover
     queryCells sets layout permutation entryAt evenKeyGood evenQuery schemeOf answerVerdict answering beginVerdict
     afterSpaces spaced numeralFrom numbersFrom numbersAt keyLine linesAsk inputAsks

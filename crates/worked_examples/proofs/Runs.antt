@@ -1,11 +1,14 @@
 -- Whole fetches run by computation, through the functions that the claim is about: bench cards B2 and B3 of document 01 (`b2`, `b3`), a fetch
--- from servers that add (`added`), and B2 in a season and out of it (`in-season`, `out-of-season`). Each server is shown its query and writes its
--- answer; the message that is wanted stands in the buffer at the end, but out of season.
+-- from servers that add (`added`), B2 in a season and out of it (`in-season`, `out-of-season`), and that from servers that add of a message which ends
+-- inside a word (`cut-short`). Each server is shown its query and writes its answer; the message that is wanted stands in the buffer at the end, but out
+-- of season.
 use mathlib.Core.Path.{_≡_, refl}
+use mathlib.Core.Bool.{true}
 use mathlib.Core.List.{List, [], _∷_, map, flatMap}
 use Prim.Native.Nat.{ℕ}
 use Rattle.lists.specs.Below.{allBelow}
 use Rattle.lists.specs.Distinct.{stands}
+use Rattle.lists.specs.Padded.{padded}
 use Rattle.lists.specs.Ranges.{range, every}
 use Rattle.refusal.specs.declared.Outcome.the-variants.{Value, Refused as NoValue}
 use Rattle.refusal.specs.Numbers.{refusalOf}
@@ -19,9 +22,10 @@ use Rattle.symbol.specs.declared.Operation.the-variants.{ExclusiveOr, Addition}
 use Rattle.calendar.specs.declared.Day.{Day}
 use Rattle.calendar.specs.Calendar.{leapYear, daysIn, realDay, before, inSeason, noDay, isNone, undated}
 use Rattle.scheme.specs.Scheme.{answersIn}
+use Rattle.lengths.specs.Lengths.{lengthPlaces, noLengths, lengthsFit, lengthOf}
 use Rattle.catalogue.specs.declared.Catalogue.{Catalogue}
 use Rattle.catalogue.specs.declared.Code.the-variants.{Short}
-use Rattle.catalogue.specs.Catalogue.{datesFit, catalogueVerdict}
+use Rattle.catalogue.specs.Catalogue.{datesFit, sizesOf, catalogueVerdict}
 use Rattle.short_scheme.specs.Short.{digitSum, shortQuery, shortAdmits, shortAnswerLength, named, shortAnswer, orZeros, recovered, shortRecover}
 use Rattle.codes.specs.Codes.{schemeOf}
 use Rattle.server.specs.Answering.{answerVerdict, answering}
@@ -32,7 +36,7 @@ use Rattle.fetches.specs.Shown.{Shown, refused, asked, shownTo}
 
 -- two servers, two messages of one symbol of one byte: 5A and C3 (hex)
 abbrev small : Catalogue
-small = record { code = Short; sum = ExclusiveOr; opening = noDay; closing = noDay; servers = 2; messages = 2; symbol = 1 }
+small = record { code = Short; sum = ExclusiveOr; opening = noDay; closing = noDay; lengths = noLengths; servers = 2; messages = 2; symbol = 1 }
 
 abbrev store : List ℕ
 store = 90 ∷ 195 ∷ []
@@ -63,7 +67,7 @@ pub b2 : Run small store (anyDay 1 (153 ∷ []) (195 ∷ []))
     (asked (0 ∷ 1 ∷ []) (Value 1) (195 ∷ []) ∷ [])
     ((1 ∷ 1 ∷ []) ∷ (0 ∷ 1 ∷ []) ∷ [] ∷ [] ∷ (90 ∷ 9 ∷ []) ∷ [])
 unfolding foremost allBelow range every shortFits shortSizes
-    total totalFrom xorBytes answersIn isNone undated datesFit catalogueVerdict digitSum shortQuery
+    total totalFrom xorBytes answersIn isNone undated datesFit noLengths lengthsFit lengthOf sizesOf catalogueVerdict digitSum shortQuery
     shortAdmits shortAnswerLength named shortAnswer orZeros recovered shortRecover schemeOf
     answerVerdict answering beginVerdict begin issueVerdict issue takeVerdict takeAnswer recoverVerdict recover noMarks marksGood allTaken flatMap
 b2 = record { server-0 = refl; server-1 = refl; buffers = refl }
@@ -74,14 +78,14 @@ pub b3 : Run small store (anyDay 0 [] (90 ∷ []))
     (asked (1 ∷ 0 ∷ []) (Value 1) (90 ∷ []) ∷ [])
     ((0 ∷ 0 ∷ []) ∷ (1 ∷ 0 ∷ []) ∷ [] ∷ [] ∷ (90 ∷ 9 ∷ []) ∷ [])
 unfolding foremost allBelow range every shortFits shortSizes
-    total totalFrom xorBytes answersIn isNone undated datesFit catalogueVerdict digitSum shortQuery
+    total totalFrom xorBytes answersIn isNone undated datesFit noLengths lengthsFit lengthOf sizesOf catalogueVerdict digitSum shortQuery
     shortAdmits shortAnswerLength named shortAnswer orZeros recovered shortRecover schemeOf
     answerVerdict answering beginVerdict begin issueVerdict issue takeVerdict takeAnswer recoverVerdict recover noMarks marksGood allTaken flatMap
 b3 = record { server-0 = refl; server-1 = refl; buffers = refl }
 
 -- two servers that add, two messages of one symbol of two bytes: the words 255 and 1
 abbrev adding : Catalogue
-adding = record { code = Short; sum = Addition; opening = noDay; closing = noDay; servers = 2; messages = 2; symbol = 2 }
+adding = record { code = Short; sum = Addition; opening = noDay; closing = noDay; lengths = noLengths; servers = 2; messages = 2; symbol = 2 }
 
 abbrev words : List ℕ
 words = 255 ∷ 0 ∷ 1 ∷ 0 ∷ []
@@ -98,7 +102,7 @@ pub added : Run adding words (record {
     (asked (0 ∷ 1 ∷ []) (Value 2) (1 ∷ 0 ∷ []) ∷ [])
     ((1 ∷ 1 ∷ []) ∷ (0 ∷ 1 ∷ []) ∷ [] ∷ [] ∷ (255 ∷ 0 ∷ 9 ∷ []) ∷ [])
 unfolding foremost allBelow range every shortFits shortSizes
-    total totalFrom onWords answersIn isNone undated datesFit catalogueVerdict digitSum shortQuery
+    total totalFrom onWords answersIn isNone undated datesFit noLengths lengthsFit lengthOf sizesOf catalogueVerdict digitSum shortQuery
     shortAdmits shortAnswerLength named shortAnswer orZeros recovered shortRecover schemeOf
     answerVerdict answering beginVerdict begin issueVerdict issue takeVerdict takeAnswer recoverVerdict recover noMarks marksGood allTaken flatMap
 added = record { server-0 = refl; server-1 = refl; buffers = refl }
@@ -109,7 +113,16 @@ abbrev on : ℕ → ℕ → ℕ → Day
 on year month day = record { year = year; month = month; day = day }
 
 abbrev seasonal : Catalogue
-seasonal = record { code = Short; sum = ExclusiveOr; opening = on 2096 2 29; closing = on 2096 3 2; servers = 2; messages = 2; symbol = 1 }
+seasonal = record {
+  code = Short;
+  sum = ExclusiveOr;
+  opening = on 2096 2 29;
+  closing = on 2096 3 2;
+  lengths = noLengths;
+  servers = 2;
+  messages = 2;
+  symbol = 1;
+}
 
 -- B2 in season: server 0 is asked on the opening day and answers on the last day, server 1 the other way round
 pub in-season : Run seasonal store (fetch (on 2096 2 29) (on 2096 3 1) (on 2096 3 1) (on 2096 2 29) 1 (153 ∷ []) (195 ∷ []))
@@ -117,7 +130,8 @@ pub in-season : Run seasonal store (fetch (on 2096 2 29) (on 2096 3 1) (on 2096 
     (asked (0 ∷ 1 ∷ []) (Value 1) (195 ∷ []) ∷ [])
     ((1 ∷ 1 ∷ []) ∷ (0 ∷ 1 ∷ []) ∷ [] ∷ [] ∷ (90 ∷ 9 ∷ []) ∷ [])
 unfolding stands foremost allBelow range every shortFits shortSizes
-    total totalFrom xorBytes answersIn leapYear daysIn realDay before inSeason isNone undated datesFit catalogueVerdict digitSum shortQuery
+    total totalFrom xorBytes answersIn leapYear daysIn realDay before inSeason isNone undated datesFit
+    noLengths lengthsFit lengthOf sizesOf catalogueVerdict digitSum shortQuery
     shortAdmits shortAnswerLength named shortAnswer orZeros recovered shortRecover schemeOf
     answerVerdict answering beginVerdict begin issueVerdict issue takeVerdict takeAnswer recoverVerdict recover noMarks marksGood allTaken flatMap
 in-season = record { server-0 = refl; server-1 = refl; buffers = refl }
@@ -129,7 +143,40 @@ pub out-of-season : Run seasonal store (fetch (on 2096 3 1) (on 2096 3 2) (on 20
     (refused (refusalOf 13) ∷ [])
     ((1 ∷ 1 ∷ []) ∷ (0 ∷ 0 ∷ []) ∷ [] ∷ [] ∷ (9 ∷ 9 ∷ []) ∷ [])
 unfolding stands foremost allBelow range every shortFits shortSizes
-    total totalFrom xorBytes answersIn leapYear daysIn realDay before inSeason isNone undated datesFit catalogueVerdict digitSum shortQuery
+    total totalFrom xorBytes answersIn leapYear daysIn realDay before inSeason isNone undated datesFit
+    noLengths lengthsFit lengthOf sizesOf catalogueVerdict digitSum shortQuery
     shortAdmits shortAnswerLength named shortAnswer orZeros recovered shortRecover schemeOf
     answerVerdict answering beginVerdict begin issueVerdict issue takeVerdict takeAnswer recoverVerdict recover noMarks marksGood allTaken flatMap
 out-of-season = record { server-0 = refl; server-1 = refl; buffers = refl }
+
+-- ---- where a message ends
+
+-- the words 255 and 1 again: of the first message one byte counts, of the second both
+abbrev measured : Catalogue
+measured = record {
+  code = Short;
+  sum = Addition;
+  opening = noDay;
+  closing = noDay;
+  lengths = record { given = true; places = padded lengthPlaces (1 ∷ 2 ∷ []) };
+  servers = 2;
+  messages = 2;
+  symbol = 2;
+}
+
+-- the servers are shown and send what they are without lengths; the message is recovered into a buffer of one byte, and a longer one stays past it
+pub cut-short : Run measured words (record {
+  wanted = 0;
+  key = 1 ∷ [];
+  answers = 7 ∷ 7 ∷ 7 ∷ 7 ∷ [];
+  calls = issuing 0 noDay (0 ∷ 0 ∷ []) noDay (0 ∷ 0 ∷ []) ∷ issuing 1 noDay (0 ∷ 0 ∷ []) noDay (0 ∷ 0 ∷ []) ∷ taking 0 (0 ∷ 1 ∷ []) ∷ taking 1 (1 ∷ 0 ∷ [])
+      ∷ recovering (9 ∷ []) ∷ recovering (9 ∷ 9 ∷ 9 ∷ []) ∷ [];
+})
+    (asked (1 ∷ 1 ∷ []) (Value 2) (0 ∷ 1 ∷ []) ∷ [])
+    (asked (0 ∷ 1 ∷ []) (Value 2) (1 ∷ 0 ∷ []) ∷ [])
+    ((1 ∷ 1 ∷ []) ∷ (0 ∷ 1 ∷ []) ∷ [] ∷ [] ∷ (255 ∷ []) ∷ (255 ∷ 9 ∷ 9 ∷ []) ∷ [])
+unfolding foremost allBelow range every shortFits shortSizes
+    total totalFrom onWords answersIn isNone undated datesFit lengthsFit lengthOf sizesOf catalogueVerdict digitSum shortQuery
+    shortAdmits shortAnswerLength named shortAnswer orZeros recovered shortRecover schemeOf
+    answerVerdict answering beginVerdict begin issueVerdict issue takeVerdict takeAnswer recoverVerdict recover noMarks marksGood allTaken flatMap
+cut-short = record { server-0 = refl; server-1 = refl; buffers = refl }

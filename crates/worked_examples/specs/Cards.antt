@@ -15,6 +15,7 @@ use Rattle.refusal.specs.Chain.{refused}
 use Rattle.parameters.specs.Measures.{evenRows}
 use Rattle.scheme.specs.Scheme.{honestAnswers}
 use Rattle.calendar.specs.Calendar.{noDay}
+use Rattle.lengths.specs.Lengths.{noLengths}
 use Rattle.symbol.specs.declared.Operation.the-variants.{ExclusiveOr}
 use Rattle.catalogue.specs.declared.Catalogue.{Catalogue}
 use Rattle.catalogue.specs.declared.Code.{Code}
@@ -57,9 +58,9 @@ Holds (rows N K many) = evenRows N K ∷ length (layout N K) ∷ [] ≡ many ∷
 Holds (judges c verdict) = catalogueVerdict c ≡ verdict
 Holds (begins c wanted key verdict) = beginVerdict schemeOf c wanted key ≡ verdict
 
--- a catalogue of exclusive or without dates: code, servers, messages, symbol. No day is looked at under it, so the cards answer on none
+-- a catalogue of exclusive or without dates and lengths: code, servers, messages, symbol. No day is looked at under it, so the cards answer on none
 abbrev pub cat : Code → ℕ → ℕ → ℕ → Catalogue
-cat code N K S = record { code = code; sum = ExclusiveOr; opening = noDay; closing = noDay; servers = N; messages = K; symbol = S }
+cat code N K S = record { code = code; sum = ExclusiveOr; opening = noDay; closing = noDay; lengths = noLengths; servers = N; messages = K; symbol = S }
 
 -- the messages 5A and C3 (hex) of B2 and B3
 abbrev pair : List ℕ

@@ -2,6 +2,7 @@
 use mathlib.Core.Path.{sym, _∙_}
 use Rattle.catalogue_text.specs.Parsing.{catalogueLines}
 use borrow.Author.Needs.{needs}
+use borrow.Author.Tests.{not-true, not-false}
 use Rattle.catalogue_text.proofs.catalogue_lines.Statement.{statement}
 use Rattle.catalogue_text.proofs.catalogue_lines.Tie as tie
 
@@ -67,19 +68,44 @@ returns-3 c =
       sym (c .before .before .before .sum-line .ensures) ∙ c .before .enum-told3 .given .1,
     )
 
-catalogue-of-requires : tie.Need-catalogue-of-requires
-catalogue-of-requires c κs = search needs
+length-lines-requires : tie.Need-length-lines-requires
+length-lines-requires c κs = search needs
+
+refused-requires-4 : tie.Need-refused-requires-4
+refused-requires-4 c κs = search needs
 
 returns-4 : tie.Need-returns-4
 unfolding catalogueLines
 returns-4 c =
-    let sum = c .before .before in
+    let lengths = c .before .before .before in
+    let sum = lengths .before .before in
+    let dates = sum .before .before .before .before in
+    let first = dates .before .before .before .before in
+    c .refused4 .ensures
+    ∙ simp (
+      sym (first .before .before .first-lines .ensures) ∙ first .code .given .1,
+      sym (dates .before .before .season-lines .ensures) ∙ dates .opening .given .1,
+      sym (sum .before .before .sum-line .ensures) ∙ sum .sum .given .1,
+      sym (lengths .length-lines .ensures),
+      not-true (lengths .length-lines .result .formed) (c .before .if1 .taken),
+    )
+
+catalogue-of-requires : tie.Need-catalogue-of-requires
+catalogue-of-requires c κs = search needs
+
+returns-5 : tie.Need-returns-5
+unfolding catalogueLines
+returns-5 c =
+    let lengths = c .before .before .before .before in
+    let sum = lengths .before .before in
     let dates = sum .before .before .before .before in
     let first = dates .before .before .before .before in
     simp (
       sym (first .before .before .first-lines .ensures) ∙ first .code .given .1,
       sym (dates .before .before .season-lines .ensures) ∙ dates .opening .given .1,
       sym (sum .before .before .sum-line .ensures) ∙ sum .sum .given .1,
+      sym (lengths .length-lines .ensures),
+      not-false (lengths .length-lines .result .formed) (c .before .before .if1 .left),
       c .catalogue-of .ensures,
     )
 
@@ -102,5 +128,8 @@ catalogue-lines-spec =
     enum-told-3
     refused-requires-3
     returns-3
+    length-lines-requires
+    refused-requires-4
+    returns-4
     catalogue-of-requires
-    returns-4)
+    returns-5)

@@ -1,9 +1,4 @@
--- `codes::recover` meets its contract: what the catalogue's code recovers stands at the start of the message.
-use mathlib.Core.Path.{_∙_}
-use Rattle.parameters.specs.Measures.{evenSizes}
-use Rattle.symbol.specs.Operations.{sumOf}
-use Rattle.symbol.proofs.Operations.{group-of}
-use Rattle.even_scheme.proofs.Promises.{even-written}
+-- `codes::recover` meets its contract: what the catalogue's code recovers stands at the start of the message, as far as that reaches.
 use Rattle.codes.proofs.Promises.{admitted-short, admitted-even, scheme-short, scheme-even}
 use borrow.Author.Needs.{needs}
 use Rattle.codes.proofs.recover.Statement.{statement}
@@ -18,19 +13,18 @@ recover-requires c κs =
     let a = start .args in
     let e = c .before .enum-told .given .1 in
     let p = rw (scheme-short (a .c) e) at (start .pre) in
-    (admitted-short (a .c) (start .pre .0) e, (p .1 .1 .0, p .1 .1 .1))
+    (admitted-short (a .c) (start .pre .0) e, p .1 .1)
 
 enum-told-2 : tie.Need-enum-told-2
 enum-told-2 c = search needs
 
 recover-requires-2 : tie.Need-recover-requires-2
-unfolding evenSizes
 recover-requires-2 c κs =
     let start = c .before .before .before .before .before .before in
     let a = start .args in
     let e = c .before .enum-told2 .given .1 in
     let p = rw (scheme-even (a .c) e) at (start .pre) in
-    (admitted-even (a .c) (start .pre .0) e, (p .1 .0, ((p .1 .1 .0 .long, p .1 .1 .0 .good), p .1 .1 .1)))
+    (admitted-even (a .c) (start .pre .0) e, p .1)
 
 same-length : tie.Need-same-length
 same-length c = search needs
@@ -45,15 +39,8 @@ same-length-2 c = search needs
 
 returns-2 : tie.Need-returns-2
 returns-2 c =
-    let start = c .before .before .before .before .before .before .before .before .before in
-    let a = start .args in
-    let e = c .before .before .before .before .enum-told2 .given .1 in
-    let p = rw (scheme-even (a .c) e) at (start .pre) in
-    rw (scheme-even (a .c) e)
-    (c .before .before .recover2 .ensures
-    ∙ even-written (sumOf (a .c .sum)) (a .c .servers) (a .c .messages) (a .c .symbol) (group-of (a .c .sum) (a .c .symbol))
-    (admitted-even (a .c) (start .pre .0) e) (a .wanted) (p .1 .0) (a .key .now)
-    (p .1 .1 .0) (a .answers .now) (p .1 .1 .1 .0) (a .message .now) (p .1 .1 .1 .1))
+    rw (scheme-even (c .before .before .before .before .before .before .before .before .before .args .c)
+    (c .before .before .before .before .enum-told2 .given .1)) (c .before .before .recover2 .ensures)
 
 pub recover-spec : {M : Type 1} → statement M
 recover-spec =

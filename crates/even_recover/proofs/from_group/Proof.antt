@@ -5,10 +5,10 @@ use Prim.Native.Nat.{ℕ, _+_, _-_, _*_, _≤_}
 use native.Mathlib.Nat.{zero-mul, add-mul, one-mul}
 use native.Mathlib.Omega.{arith}
 use lib.ListN.{length, getD}
-use Rattle.lists.specs.Parts.{put}
+use Rattle.lists.specs.Parts.{lay}
 use Rattle.lists.specs.Ranges.{range}
 use Rattle.symbol.specs.Operations.{sumOf}
-use Rattle.lists.specs.Assembled.{assemble}
+use Rattle.lists.specs.Assembled.{layAll}
 use Rattle.even_recover.specs.Rows.{groupSymbol, groupPart, groupParts}
 use Rattle.lists.proofs.Assembled.{assemble-none, assemble-part}
 use Rattle.even_recover.proofs.from_group.Statement.{statement}
@@ -19,7 +19,7 @@ Inv-loop op here group query answers message₀ count cell₀ i₀ message cell 
     (i ≤ group .count)
     × (length message ≡ length message₀)
     × (cell ≡ group .cell + i * group .messages)
-    × (message ≡ assemble (map (groupPart (sumOf op) here group query answers) (range 0 i)) message₀)
+    × (message ≡ layAll (map (groupPart (sumOf op) here group query answers) (range 0 i)) message₀)
 
 abbrev μ-loop : tie.MeasureT-loop
 μ-loop op here group query answers message₀ count cell₀ i₀ message cell i = group .count - i
@@ -30,7 +30,7 @@ loop-holds c =
       omega arith,
       refl,
       omega (arith, zero-mul (at .group .messages)),
-      assemble-none (groupPart (sumOf (at .op)) (at .here) (at .group) (at .query .now) (at .answers .now)) (at .message .now),
+      assemble-none lay (groupPart (sumOf (at .op)) (at .here) (at .group) (at .query .now) (at .answers .now)) (at .message .now),
     )
 
 shared-slice-read-number : tie.Need-shared-slice-read-number Inv-loop μ-loop
@@ -45,7 +45,7 @@ from-row-requires : tie.Need-from-row-requires Inv-loop μ-loop
 from-row-requires c κs =
     let at = c .before .before .before in
     let pre = at .before .before .before .before .pre in
-    (pre .0, (pre .1 .0, (omega arith, rw (at .loop .inv .1, at .loop .inv .2) (pre .1 .1 .symbols (at .loop .i) (omega arith)))))
+    (pre .0, (pre .1 .0, (omega arith, omega (arith, c .before .shared-slice-known3 .given (at .loop .cell)))))
 
 add-cell : tie.Need-add-cell Inv-loop μ-loop
 add-cell c =
@@ -72,8 +72,8 @@ loop-again c =
       done .kept .1 .1 .1 .1 .1 .1 .0 ∙ turn .inv .1,
       omega (arith, turn .inv .2, add-mul (turn .i) 1 (at .group .messages), one-mul (at .group .messages)),
       done .ensures
-          ∙ ap₂ (λ (cell : ℕ) (l : List ℕ). put (getD (at .query .now) cell 0 * at .here .symbol) symbol l) (turn .inv .2) (turn .inv .3)
-          ∙ sym (assemble-part part (turn .i) (at .message .now)),
+          ∙ ap₂ (λ (cell : ℕ) (l : List ℕ). lay (getD (at .query .now) cell 0 * at .here .symbol) symbol l) (turn .inv .2) (turn .inv .3)
+          ∙ sym (assemble-part lay part (turn .i) (at .message .now)),
     )
 
 same-length : tie.Need-same-length Inv-loop μ-loop
@@ -85,7 +85,7 @@ returns c =
     let at = c .before .before .before .before .before .args in
     let done : c .before .loop .i ≡ at .group .count = omega arith in
     let part = groupPart (sumOf (at .op)) (at .here) (at .group) (at .query .now) (at .answers .now) in
-    c .before .loop .inv .3 ∙ ap (λ (i : ℕ). assemble (map part (range 0 i)) (at .message .now)) done
+    c .before .loop .inv .3 ∙ ap (λ (i : ℕ). layAll (map part (range 0 i)) (at .message .now)) done
 
 pub from-group-spec : {M : Type 1} → statement M
 from-group-spec =

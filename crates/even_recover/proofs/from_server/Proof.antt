@@ -34,7 +34,7 @@ query-requires c κs =
     let known = c .before .before .before .before .before .before .before .pre .1 .0 in
     let asks : Asks (at .n) (at .k) (at .wanted) (at .server) =
     record { bounds = layout-bounds bounds; servers-high = bounds .servers-high; message = known .0; server-low = known .1 } in
-    (asks, c .before .before .before .before .before .before .before .pre .1 .1 .0 .0, sized bounds (known .0) .query-high)
+    (asks, c .before .before .before .before .before .before .before .pre .1 .1 .0, sized bounds (known .0) .query-high)
 
 loop-holds : tie.Need-loop-holds Inv-loop μ-loop
 loop-holds c =
@@ -44,7 +44,7 @@ loop-holds c =
     fetched-none (at .n) (at .k) (at .s) (at .wanted) (at .server) (start .pre .0) (pre .0 .0) (pre .0 .1) (sumOf (at .op))
     (at .key .now) (at .sets .now) (at .firsts .now) (at .answers .now) (at .message .now)
     (c .before .before .before .server-rows-of .result) _ (replicate 1024 0)
-    (pre .1 .0 .1) (pre .1 .1 .0 .0) (pre .1 .1 .0 .1) (pre .1 .1 .1 .0) (pre .1 .1 .1 .1) (c .before .before .before .server-rows-of .ensures)
+    (pre .1 .1 .0 .0) (pre .1 .1 .0 .1) (pre .1 .1 .1) (c .before .before .before .server-rows-of .ensures)
     (c .before .query .ensures)
 
 shared-slice-read-set : tie.Need-shared-slice-read-set Inv-loop μ-loop

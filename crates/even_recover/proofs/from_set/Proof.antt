@@ -3,7 +3,7 @@ use mathlib.Core.Path.{ap, _∙_}
 use Prim.Native.Nat.{_/_, _%_}
 use borrow.Author.Tests.{eq-eqb, ne-eqb}
 use Rattle.symbol.specs.Operations.{sumOf}
-use Rattle.lists.specs.Assembled.{assemble}
+use Rattle.lists.specs.Assembled.{assembleBy, layAll}
 use Rattle.even_recover.specs.declared.Group.{Group}
 use Rattle.even_recover.specs.Rows.{groupParts, setParts}
 use borrow.Author.Needs.{needs}
@@ -30,12 +30,12 @@ unfolding setParts
 returns c =
     let at = c .before .before .before .before .before .before .before .before .before .before .before .args in
     c .before .before .from-group .ensures
-    ∙ ap (λ (g : Group). assemble (groupParts (sumOf (at .op)) (at .here) g (at .query .now) (at .answers .now)) (at .message .now))
+    ∙ ap (λ (g : Group). layAll (groupParts (sumOf (at .op)) (at .here) g (at .query .now) (at .answers .now)) (at .message .now))
     (c .before .before .before .before .group-of .ensures)
     ∙ rw (eq-eqb (at .set / at .here .bit % 2) 1 (c .before .before .before .before .before .if1 .taken))
 
 returns-2 : tie.Need-returns-2
-unfolding setParts assemble
+unfolding setParts assembleBy
 returns-2 c =
     let at = c .before .before .before .before .before .before .args in
     rw (ne-eqb (at .set / at .here .bit % 2) 1 (c .if1 .left))

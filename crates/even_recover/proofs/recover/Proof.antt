@@ -7,8 +7,11 @@ use native.Mathlib.Omega.{arith}
 use lib.ListN.{length}
 use lib.Seq.{length-take-le}
 use Rattle.parameters.proofs.Bounds.{even-bounds}
+use Rattle.parameters.specs.Measures.{evenSizes}
 use Rattle.symbol.specs.Operations.{sumOf}
-use Rattle.lists.specs.Assembled.{assemble}
+use Rattle.symbol.proofs.Operations.{group-of}
+use Rattle.lists.specs.Assembled.{layAll}
+use Rattle.even_scheme.proofs.Promises.{even-written}
 use Rattle.even_sets.proofs.Blocks.{subsets-few}
 use Rattle.even_sets.proofs.Fits.{layout-fits}
 use Rattle.even_layout.specs.Layout.{firstRows}
@@ -23,7 +26,7 @@ Inv-loop op n k s wanted key answers message₀ sets count firsts server₀ mess
     × (length message ≡ length message₀)
     × Front k count sets
     × (firsts ≡ firstRows n k)
-    × (message ≡ assemble (partsBefore (sumOf op) n k s wanted key answers server) message₀)
+    × (message ≡ layAll (partsBefore (sumOf op) n k s wanted key answers server) message₀)
 
 abbrev μ-loop : tie.MeasureT-loop
 μ-loop op n k s wanted key answers message₀ sets count firsts server₀ message server = n - server
@@ -73,12 +76,12 @@ slice-aggregate-from-server-2 c =
     sym (ap length (at .loop .inv .3) ∙ firsts-length (a .n) (a .k))
 
 from-server-requires : tie.Need-from-server-requires Inv-loop μ-loop
+unfolding evenSizes
 from-server-requires c κs =
     let test = c .before .before .before in
     let inv = test .before .loop .inv in
     let pre = test .before .before .before .before .before .before .before .before .pre in
-    let room = pre .1 .1 .1 in
-    (pre .0, ((pre .1 .0, test .loop-test .taken), (pre .1 .1 .0, ((inv .2 .is, inv .3), (room .0, omega (arith, room .1, inv .1))))))
+    (pre .0, ((pre .1 .0, test .loop-test .taken), (pre .1 .1 .0 .long, ((inv .2 .is, inv .3), pre .1 .1 .1))))
 
 add-server : tie.Need-add-server Inv-loop μ-loop
 add-server c =
@@ -108,11 +111,15 @@ same-length c = c .before .loop .inv .1
 
 returns : tie.Need-returns Inv-loop μ-loop
 returns c =
-    let at = c .before .before .before .before .before .before .before .before .args in
+    let start = c .before .before .before .before .before .before .before .before in
+    let at = start .args in
+    let pre = start .pre in
     let all : c .before .loop .server ≡ at .n = omega (arith, c .before .loop .inv .0, c .loop-test .left) in
     c .before .loop .inv .4
-    ∙ ap (λ (l : List (ℕ × List ℕ)). assemble l (at .message .now))
+    ∙ ap (λ (l : List (ℕ × List ℕ)). layAll l (at .message .now))
     (before-all (sumOf (at .op)) (at .n) (at .k) (at .s) (at .wanted) (at .key .now) (at .answers .now) (c .before .loop .server) all)
+    ∙ even-written (sumOf (at .op)) (at .n) (at .k) (at .s) (group-of (at .op) (at .s)) (pre .0) (at .wanted) (pre .1 .0) (at .key .now) (pre .1 .1 .0)
+    (at .answers .now) (pre .1 .1 .1) (at .message .now)
 
 pub recover-spec : {M : Type 1} → statement M
 recover-spec =

@@ -8,7 +8,7 @@ use native.Mathlib.Nat.{mod-lt}
 use native.Mathlib.Omega.{arith}
 use borrow.Author.Needs.{needs}
 use lib.ListN.{length}
-use Rattle.lists.specs.Parts.{put}
+use Rattle.lists.specs.Parts.{lay}
 use Rattle.lists.specs.Below.{Below}
 use Rattle.lists.specs.Ranges.{range}
 use Rattle.parameters.specs.Measures.{shortSizes}
@@ -52,21 +52,20 @@ placed c =
     let a = start .args in
     let b = short-bounds (a .n) (a .k) (a .s) (start .pre .0) in
     let long : length (c .slot-starts .result) ≡ 16 = search needs in
-    slots-placed (a .n) (a .s) (c .slot-starts .result) (a .answers .now) (b .servers-high) (b .symbol-low) long
-    (in-slots c) (start .pre .1 .1 .0)
+    slots-placed (a .n) (a .s) (c .slot-starts .result) (a .answers .now) (b .servers-high) (b .symbol-low) (omega (arith, b .symbol-high)) long
+    (in-slots c) (start .pre .1 .1)
 
 bytes : (c : tie.After-shared-slice-known2) → Below 256 (c .before .before .args .answers .now)
 bytes c i h = omega (arith, c .shared-slice-known2 .given i)
 
 recover-row-requires : tie.Need-recover-row-requires
-unfolding shortSizes
 recover-row-requires c κs =
     let at = c .before .before .before .before in
     let start = at .before .before .before .before in
     let a = start .args in
     let b = short-bounds (a .n) (a .k) (a .s) (start .pre .0) in
     let m : digitSum (a .key .now) % a .n < a .n = mod-lt (digitSum (a .key .now)) (omega arith) in
-    (omega (arith, c .before .before .before .digit-sum .ensures), (placed at, start .pre .1 .1 .1))
+    (omega (arith, c .before .before .before .digit-sum .ensures), placed at)
 
 same-length : tie.Need-same-length
 same-length c = search needs
@@ -81,9 +80,9 @@ returns c =
     let a = start .args in
     let f : ℕ → Bool → ℕ → List ℕ = λ t empty. fromPlaces (sumOf (a .op)) (a .n) (a .s) t empty (at .slot-starts .result) (a .answers .now) in
     g .recover-row .ensures
-    ∙ ap₂ (λ (t : ℕ) (empty : Bool). put 0 (flatMap (f t empty) (range 1 (a .n - 1))) (a .message .now)) (sum .digit-sum .ensures)
+    ∙ ap₂ (λ (t : ℕ) (empty : Bool). lay 0 (flatMap (f t empty) (range 1 (a .n - 1))) (a .message .now)) (sum .digit-sum .ensures)
     (g .before .before .before .all-below .ensures)
-    ∙ ap (λ (l : List ℕ). put 0 l (a .message .now))
+    ∙ ap (λ (l : List ℕ). lay 0 l (a .message .now))
     (sym (recover-slots (sumOf (a .op)) (a .n) (a .k) (a .s) (a .wanted) (group-of (a .op) (a .s)) (a .key .now) (at .slot-starts .result)
     (a .answers .now) (placed at) (in-slots at) (bytes (at .before .before))))
 

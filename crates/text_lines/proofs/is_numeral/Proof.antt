@@ -15,13 +15,13 @@ returns c = simp (lt-leb _ _ (c .if1 .taken))
 returns-2 : tie.Need-returns-2
 unfolding isNumeral
 returns-2 c =
-    let many : 5 < c .before .before .args .count = omega (arith, c .if2 .taken) in
+    let many : c .before .before .args .most < c .before .before .args .count = omega (arith, c .if2 .taken) in
     simp (le-leb _ _ (c .before .if1 .left), lt-leb _ _ many)
 
 returns-3 : tie.Need-returns-3
 unfolding isNumeral
 returns-3 c =
-    let few : c .before .before .before .args .count ≤ 5 = omega (arith, c .if3 .taken) in
+    let few : c .before .before .before .args .count ≤ c .before .before .before .args .most = omega (arith, c .if3 .taken) in
     simp (le-leb _ _ (c .before .before .if1 .left), le-leb _ _ few, le-ltb _ _ (c .if3 .taken))
 
 returns-4 : tie.Need-returns-4
@@ -30,7 +30,7 @@ returns-4 c =
     let from = c .before .before .before in
     let text = from .before .args .text .now in
     let none = List·getD-eq-default text 0 {n = 0} (omega arith) in
-    let few : from .before .args .count ≤ 5 = omega (arith, c .before .before .if2 .left) in
+    let few : from .before .args .count ≤ from .before .args .most = omega (arith, c .before .before .if2 .left) in
     simp (le-leb _ _ (from .if1 .left), le-leb _ _ few, lt-ltb _ _ (c .before .if3 .left), none)
 
 shared-slice-read-result : tie.Need-shared-slice-read-result
@@ -40,7 +40,7 @@ returns-5 : tie.Need-returns-5
 unfolding isNumeral
 returns-5 c =
     let from = c .before .before .before .before in
-    let few : from .before .args .count ≤ 5 = omega (arith, c .before .before .before .if2 .left) in
+    let few : from .before .args .count ≤ from .before .args .most = omega (arith, c .before .before .before .if2 .left) in
     simp (le-leb _ _ (from .if1 .left), le-leb _ _ few, lt-ltb _ _ (c .before .before .if3 .left))
 
 pub is-numeral-spec : {M : Type 1} → statement M

@@ -53,14 +53,15 @@ value-requires c κs =
     let text = from .before .before .before .args .text .now in
     let long : length (take (d .result) text) ≡ d .result = length-take-le (d .result) text (d .ensures .1) in
     let rule = sym (from .is-numeral .ensures) ∙ not-false _ (c .before .before .before .before .if1 .left) in
-    let few : d .result ≤ 5 = leb-true (d .result) 5 (both-true _ _ (both-true (leb 1 (d .result)) _ rule .1) .0) in
+    let most = from .before .before .before .args .most in
+    let few : d .result ≤ most = leb-true (d .result) most (both-true _ _ (both-true (leb 1 (d .result)) _ rule .1) .0) in
     (omega arith, count-first text (d .result) (d .ensures .0))
 
-add-t7 : tie.Need-add-t7
-add-t7 c = search needs
+add-t8 : tie.Need-add-t8
+add-t8 c = search needs
 
-add-t12 : tie.Need-add-t12
-add-t12 c = search needs
+add-t13 : tie.Need-add-t13
+add-t13 c = search needs
 
 returns-4 : tie.Need-returns-4
 unfolding numberAt
@@ -81,6 +82,6 @@ number-spec =
     returns-3
     slice-aggregate-value
     value-requires
-    add-t7
-    add-t12
+    add-t8
+    add-t13
     returns-4)

@@ -30,7 +30,7 @@ within c =
     name-within (a .name .now) (a .text .now) (a .at) (c .before .before .before .if1 .left) (found c)
 
 returns : tie.Need-returns
-returns c = let a = c .before .before .before .args in sym (past-end (a .name .now) (a .text .now) (a .at) (c .if1 .taken))
+returns c = let a = c .before .before .before .args in sym (past-end (a .most) (a .name .now) (a .text .now) (a .at) (c .if1 .taken))
 
 sub-starts : tie.Need-sub-starts
 sub-starts c = search needs
@@ -70,7 +70,7 @@ unfolding numberLine
 returns-3 c =
     let a = c .before .before .before .before .before .before .before .before .args in
     let start = a .at + length (a .name .now) in
-    c .number .ensures ∙ ap (numberAt start) (to-end (a .text .now) start) ∙ simp (found (c .before .before))
+    c .number .ensures ∙ ap (numberAt (a .most) start) (to-end (a .text .now) start) ∙ simp (found (c .before .before))
 
 pub number-line-spec : {M : Type 1} → statement M
 number-line-spec =

@@ -19,13 +19,13 @@ abbrev μ-loop : tie.MeasureT-loop
 
 -- what a turn knows: the number is small, and the byte is a digit
 turn : (c : tie.After-shared-slice-known Inv-loop μ-loop)
-    → (c .before .before .loop .n < 100000)
+    → (c .before .before .loop .n < 10000000)
     × (48 ≤ getD (c .before .before .before .args .text .now) (c .before .before .loop .i) 0)
     × (getD (c .before .before .before .args .text .now) (c .before .before .loop .i) 0 ≤ 57)
 turn c =
     let at = c .before .before in
     let text = at .before .args .text .now in
-    let h : 10 ^ (at .loop .i) ≤ 10 ^ 5 = pow-le-pow-right {n = 10} (omega arith) {i = at .loop .i} {j = 5} (omega arith) in
+    let h : 10 ^ (at .loop .i) ≤ 10 ^ 7 = pow-le-pow-right {n = 10} (omega arith) {i = at .loop .i} {j = 7} (omega arith) in
     let d = digit-range (getD text (at .loop .i) 0) (All-get 0 (all-digits text (at .before .pre .1)) (at .loop .i) (omega arith)) in
     (omega arith, d .0, d .1)
 

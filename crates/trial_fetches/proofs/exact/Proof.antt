@@ -19,8 +19,8 @@ value-requires c κs = search needs
 at-most-requires-3 : tie.Need-at-most-requires-3
 at-most-requires-3 c κs = search needs
 
-at-most-requires-4 : tie.Need-at-most-requires-4
-at-most-requires-4 c κs = search needs
+room-of-requires : tie.Need-room-of-requires
+room-of-requires c κs = search needs
 
 slice-relend-prefix-rest : tie.Need-slice-relend-prefix-rest
 slice-relend-prefix-rest c = search needs
@@ -73,7 +73,7 @@ exact-spec =
     bound-requires
     value-requires
     at-most-requires-3
-    at-most-requires-4
+    room-of-requires
     slice-relend-prefix-rest
     slice-aggregate-rest
     slice-relend-prefix-rest-2

@@ -1,17 +1,20 @@
 -- `trial_fetches::exchanges` is safe: its counter stays within the servers, and the buffers' lengths stay.
 use mathlib.Core.Path.{_≡_}
-use Prim.Native.Nat.{_-_}
+use Prim.Native.Nat.{_-_, _≤_}
 use borrow.Author.Needs.{needs}
 use lib.ListN.{length}
 use Rattle.trial_fetches.proofs.exchanges.Statement.{statement}
 use Rattle.trial_fetches.proofs.exchanges.Tie as tie
 
 abbrev Inv-loop : tie.InvT-loop
-Inv-loop today store query₀ answer₀ answers₀ so-far₀ c n₀ query answer answers so-far n =
-    (length query ≡ length query₀) × (length answer ≡ length answer₀) × (length answers ≡ length answers₀)
+Inv-loop today store query₀ answer₀ answers₀ so-far₀ servers n₀ query answer answers so-far n =
+    (servers ≤ 16) × (length query ≡ length query₀) × (length answer ≡ length answer₀) × (length answers ≡ length answers₀)
 
 abbrev μ-loop : tie.MeasureT-loop
-μ-loop today store query₀ answer₀ answers₀ so-far₀ c n₀ query answer answers so-far n = c .servers - n
+μ-loop today store query₀ answer₀ answers₀ so-far₀ servers n₀ query answer answers so-far n = servers - n
+
+at-most-requires : tie.Need-at-most-requires Inv-loop μ-loop
+at-most-requires c κs = search needs
 
 loop-holds : tie.Need-loop-holds Inv-loop μ-loop
 loop-holds c = search needs
@@ -46,6 +49,7 @@ exchanges-spec =
     (tie.spec
     Inv-loop
     μ-loop
+    at-most-requires
     loop-holds
     exchange-requires
     add-n

@@ -1,5 +1,5 @@
 -- `catalogue_text::named::sum_named` meets its contract: every number but 0 is addition's.
-use Rattle.catalogue_text.proofs.CatalogueLines.{sum-added}
+use Rattle.catalogue_text.proofs.SumLine.{sum-added}
 use borrow.Author.Needs.{needs}
 use Rattle.catalogue_text.proofs.named.sum_named.Statement.{statement}
 use Rattle.catalogue_text.proofs.named.sum_named.Tie as tie

@@ -59,17 +59,21 @@ returns-2 c =
     let sized = c .before .before in
     after-first _ _ refl refl Accepted _ (sym (accepted (sized .before .before))) (rw (← sized .sizes-of .ensures, lt-ltb _ _ (c .if1 .taken)))
 
+message-length-requires : tie.Need-message-length-requires
+message-length-requires c κs = admitted (c .before .before .before .before .before)
+
 returns-3 : tie.Need-returns-3
 unfolding recoverVerdict
 returns-3 c =
-    let first = c .before .before in
+    let measured = c .before in
+    let first = measured .before .before in
     let sized = first .before .before in
     after-first _ _ refl refl Accepted _ (sym (accepted (sized .before .before)))
-    (rw (← sized .sizes-of .ensures, le-ltb _ _ (first .if1 .left), lt-ltb _ _ (c .if2 .taken)))
+    (rw (← measured .message-length .ensures, ← sized .sizes-of .ensures, le-ltb _ _ (first .if1 .left), lt-ltb _ _ (c .if2 .taken)))
 
 missing-verdict-requires : tie.Need-missing-verdict-requires
 missing-verdict-requires c κs =
-    let sized = c .before .before .before .before .before .before .before in
+    let sized = c .before .before .before .before .before .before .before .before in
     let told = sized .before .before in
     let s = told .before .before .before .before .before .before .args .t1 in
     omega (arith, sizes-small (s .catalogue) (sized .sizes-of .result) (admitted told) (sized .sizes-of .ensures) .servers)
@@ -78,10 +82,16 @@ returns-4 : tie.Need-returns-4
 unfolding recoverVerdict
 returns-4 c =
     let second = c .before .before .before .before in
-    let first = second .before .before in
+    let measured = second .before in
+    let first = second .before .before .before in
     let sized = first .before .before in
     after-first _ _ refl refl Accepted _ (sym (accepted (sized .before .before)))
-    (rw (← sized .sizes-of .ensures, le-ltb _ _ (first .if1 .left), le-ltb _ _ (second .if2 .left)) (c .missing-verdict .ensures))
+    (rw (
+      ← measured .message-length .ensures,
+      ← sized .sizes-of .ensures,
+      le-ltb _ _ (first .if1 .left),
+      le-ltb _ _ (second .if2 .left),
+    ) (c .missing-verdict .ensures))
 
 pub recover-verdict-spec : {M : Type 1} → statement M
 recover-verdict-spec =
@@ -95,6 +105,7 @@ recover-verdict-spec =
     sizes-of-requires
     mul-if1
     returns-2
+    message-length-requires
     returns-3
     missing-verdict-requires
     returns-4)
