@@ -1,5 +1,5 @@
 pub mod Promises
 pub mod Reach
 pub mod Measured
-pub mod Sums
+pub mod Alike
 pub mod Messages

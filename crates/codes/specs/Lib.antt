@@ -1,3 +1,3 @@
 pub mod Codes
-pub mod Sums
+pub mod Alike
 pub mod Messages

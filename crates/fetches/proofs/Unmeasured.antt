@@ -1,22 +1,21 @@
 -- Lengths are not shown (`lengths-hidden`): what a server is shown of a fetch is a function of its query and of the issues (`view`), and neither the
 -- code nor the day's verdict nor that on an answer looks at lengths, once they are admitted.
 use mathlib.Core.Path.{_≡_, refl, sym, ap, ap₂, _∙_}
-use mathlib.Core.Bool.{cond, not}
+use mathlib.Core.Bool.{cond}
 use mathlib.Core.List.{List, [], _∷_, _++_}
 use Prim.Native.Nat.{ℕ, _<_}
-use lib.Dec.{leb, ltb, eqb}
+use lib.Dec.{ltb, eqb}
 use lib.ListN.{length, take, replicate}
 use Rattle.lists.specs.Sums.{All, allNil, allCons}
 use Rattle.refusal.specs.declared.Verdict.{Verdict}
 use Rattle.refusal.specs.declared.Verdict.the-variants.{Accepted, Refused}
-use Rattle.refusal.specs.Foremost.{Fault, fault}
 use Rattle.refusal.specs.Chain.{refuseIf, andThen}
 use Rattle.scheme.specs.Scheme.{Scheme, Valid}
 use Rattle.lengths.specs.declared.Lengths.{Lengths}
 use Rattle.calendar.specs.declared.Day.{Day}
 use Rattle.catalogue.specs.declared.Catalogue.{Catalogue}
 use Rattle.catalogue.specs.Catalogue.{Admitted}
-use Rattle.catalogue.specs.Days.{dayFaults, dayVerdict}
+use Rattle.catalogue.specs.Days.{dayVerdict}
 use Rattle.catalogue.proofs.Faults.{after-catalogue}
 use Rattle.server.specs.Answering.{answerVerdict, answerBy, answering}
 use Rattle.fetches.specs.Fetches.{Fetch, history}
@@ -27,16 +26,6 @@ use Rattle.fetches.proofs.View.{seen, seenOf}
 use Rattle.fetches.proofs.Theorem.{fetch-shown}
 
 module _ (schemeOf : Catalogue → Scheme) where
-  -- what answering checks behind the catalogue's own faults
-  abbrev later : Catalogue → Day → ℕ → ℕ → List ℕ → ℕ → List Fault
-  later c day server stored query room =
-      dayFaults c day
-      ++ (fault 3 (leb (c .servers) server)
-      ∷ fault 7 (not (schemeOf c .admits server query))
-      ∷ fault 8 (not (eqb stored (schemeOf c .sizes .store)))
-      ∷ fault 9 (ltb room (schemeOf c .answerLength query))
-      ∷ [])
-
   module _ (c : Catalogue) (admitted : Admitted c) (l : Lengths) (admitted′ : Admitted (withLengths l c)) (same : schemeOf (withLengths l c) ≡ schemeOf c)
       (store : List ℕ) (n : ℕ) where
     abbrev d : Catalogue
@@ -46,9 +35,9 @@ module _ (schemeOf : Catalogue → Scheme) where
         → answerVerdict schemeOf d day n (length store) query room ≡ answerVerdict schemeOf c day n (length store) query room
     unfolding answerVerdict
     verdict-same day query room =
-        sym (after-catalogue d (later d day n (length store) query room) refl Accepted _ (sym admitted′) refl)
+        sym (after-catalogue d _ refl Accepted _ (sym admitted′) refl)
         ∙ rw same
-        (after-catalogue c (later c day n (length store) query room) refl Accepted _ (sym admitted) refl)
+        (after-catalogue c _ refl Accepted _ (sym admitted) refl)
 
     by-same : (query buffer : List ℕ) (v : Verdict) → answerBy schemeOf d store query buffer v ≡ answerBy schemeOf c store query buffer v
     by-same query buffer Accepted = rw same

@@ -12,7 +12,7 @@ pub mod short;
 pub struct Sizes {
     // Symbols in a message.
     pub symbols: usize,
-    // Bytes of a message.
+    // Bytes of a message's symbols together, padding included.
     pub message: usize,
     // Bytes of the store.
     pub store: usize,

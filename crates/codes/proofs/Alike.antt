@@ -14,7 +14,7 @@ use Rattle.catalogue.specs.declared.Catalogue.{Catalogue}
 use Rattle.catalogue.specs.Catalogue.{Admitted, sizesOf}
 use Rattle.catalogue.proofs.Verdicts.{admitted-exactly}
 use Rattle.codes.specs.Codes.{schemeBy, schemeOf}
-use Rattle.codes.specs.Sums.{SameQueries, SameNumbers}
+use Rattle.codes.specs.Alike.{SameQueries, SameNumbers}
 
 any-sum : (code : Code) (one other : Sum) (N K S : ℕ) → SameQueries (schemeBy code one N K S) (schemeBy code other N K S)
 any-sum Short one other N K S = record {
