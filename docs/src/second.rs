@@ -6,7 +6,7 @@
 //! there are, and counted afterwards; a pack is recovered whole and then cut.
 //!
 //!     rustc --edition 2021 -O docs/src/second.rs -o second
-//!     ./second self               checks it against the bench cards and the papers' tables, the rules of seasons and lengths, and that fetches recover
+//!     ./second self               checks it against the bench cards and the papers' tables, balancing digits, the rules of seasons and lengths, and that fetches recover
 //!     ./second printer FOLDER     writes inputs of the request printer, and what it must print for each
 //!     ./second cases              prints the calls that the program `conformance` makes (its `stdin`)
 //!     ./second expected           prints what they must give (its `stdout`)
@@ -812,6 +812,9 @@ fn printer_inputs() -> Vec<Bytes> {
         all.push(format!("{one}\n").into_bytes());
         all.push(input(c, 7, &[9, 9, 99999, 9]).into_bytes());
     }
+    for (n, key) in (2..=16).flat_map(|n| sum_keys(n).into_iter().map(move |key| (n, key))) {
+        all.push(input(plain(false, n, key.len() + 1, 1), key.iter().sum::<usize>() % (key.len() + 1), &key).into_bytes());
+    }
     printer_sums(&mut draw, &mut all);
     printer_seasons(&mut draw, &mut all);
     printer_lengths(&mut draw, &mut all);
@@ -819,6 +822,40 @@ fn printer_inputs() -> Vec<Bytes> {
     all.push([good.as_bytes(), &vec![b' '; 65537 - good.len()]].concat());
     all.push((0..=255).collect());
     all
+}
+
+/// Keys whose digits, summed up one by one, come to N exactly, stop one short of it or pass it by one (02, item 3): at the first step that can, at
+/// the last one, or at every second one; the greatest digit throughout, ones and zeros throughout; and every key of a single digit.
+fn sum_keys(n: usize) -> Vec<Vec<usize>> {
+    let mut all: Vec<Vec<usize>> = (0..n).map(|d| vec![d]).collect();
+    for a in 1..n {
+        all.extend([n - a - 1, n - a, n - a + 1].into_iter().filter(|&b| b < n).map(|b| vec![a, b]));
+    }
+    for pattern in [[1, n - 1], [n - 1, 1], [n - 1, n - 1], [1, 1], [0, n - 1], [0, 0]] {
+        all.push(pattern.into_iter().cycle().take(31).collect());
+    }
+    for last in [n - 2, n - 1] {
+        all.push([vec![1], vec![0; 29], vec![last]].concat());
+    }
+    all
+}
+
+/// The balancing digit (01, 'Short code'): with it the digits sum up to the mirror's number, modulo N, and with no other.
+fn balancing_digits() {
+    for n in 2..=16 {
+        for key in sum_keys(n) {
+            let c = plain(false, n, key.len() + 1, 1);
+            let key: Bytes = key.into_iter().map(|d| d as u8).collect();
+            for (wanted, mirror) in (0..c.k).flat_map(|wanted| (0..n).map(move |mirror| (wanted, mirror))) {
+                let row = request(c, wanted, mirror, &key);
+                assert_eq!([&row[..wanted], &row[wanted + 1..]].concat(), key);
+                for digit in 0..n as u8 {
+                    let tried: usize = row.iter().enumerate().map(|(p, &d)| if p == wanted { digit as usize } else { d as usize }).sum();
+                    assert_eq!(tried % n == mirror, digit == row[wanted]);
+                }
+            }
+        }
+    }
 }
 
 /// The line `sum=add` (02, item 2): the same requests as without it; odd pieces, with every other refusal besides; the line damaged and misplaced.
@@ -1601,6 +1638,33 @@ impl Cases {
         }
     }
 
+    /// Whole fetches by keys whose sums come to N, or nearly, on the way (02, item 3): every key of one digit, those of two that sum up to N, and, of 3
+    /// and of 16 mirrors, those of 31.
+    fn digit_sums(&mut self) {
+        self.put("# sums of digits".to_string());
+        for n in 2..=16 {
+            let chosen = |key: &Vec<usize>| match key.len() {
+                1 => true,
+                2 => key[0] + key[1] == n,
+                _ => n == 3 || n == 16,
+            };
+            let mut last = 0;
+            for key in sum_keys(n).into_iter().filter(chosen) {
+                let c = plain(false, n, key.len() + 1, 1);
+                if last != key.len() {
+                    self.catalogue(c);
+                    self.lend(c);
+                    last = key.len();
+                }
+                self.put(format!("k 0 {last}"));
+                for (place, digit) in key.iter().enumerate().filter(|(_, &digit)| digit != 0) {
+                    self.put(format!("o {place} {digit}"));
+                }
+                self.put(format!("x {}", key.iter().sum::<usize>() % c.k));
+            }
+        }
+    }
+
     /// Single words added and taken away again: a carry from the low byte into the high one and none beyond, the wrap at 65,536, a borrow, and bytes
     /// that are no words of exclusive or; in both codes, and by each key of the short one.
     fn words(&mut self) {
@@ -2304,6 +2368,7 @@ fn cases() -> Bytes {
     }
     seasons(&mut cases);
     lengths(&mut cases);
+    cases.digit_sums();
     cases.out
 }
 
@@ -2553,13 +2618,14 @@ fn main() {
         ["self"] => {
             tables();
             cards();
+            balancing_digits();
             added_words();
             days();
             season_rules();
             length_rules();
             fetches();
             cut_packs();
-            println!("second implementation: the papers' tables, the bench cards, the calendar, lengths and whole fetches agree");
+            println!("second implementation: the papers' tables, the bench cards, balancing digits, the calendar, lengths and whole fetches agree");
         }
         ["printer", folder] => {
             for (i, input) in printer_inputs().iter().enumerate() {

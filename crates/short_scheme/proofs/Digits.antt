@@ -1,14 +1,11 @@
--- Digits modulo N: their sums from place to place (`sum-turn`), and the balancing digit, which is the one digit with which they sum
--- up to the server's number: `balanced`, `balance-only`.
+-- Digits modulo N: their sum, and the balancing digit, which is the one digit with which they sum up to the server's number: `balanced`,
+-- `balance-only`.
 use mathlib.Core.Bool.{true}
 use mathlib.Core.Path.{_≡_, refl, sym, ap, _∙_}
 use mathlib.Core.List.{List, [], _∷_}
 use Prim.Native.Nat.{ℕ, zero, suc, _+_, _-_, _%_, _≤_, _<_}
 use native.Mathlib.Nat.{zero-add, mod-lt, mod-eq-of-lt, mod-add-mod, add-mod-mod, add-mod-right, mod-eq-sub-mod}
-use native.Mathlib.Numerals.{add-one}
 use native.Mathlib.Omega.{arith}
-use lib.ListN.{length, getD, drop}
-use lib.Seq.{drop-cons}
 use Rattle.lists.specs.Below.{allBelow}
 use Rattle.lists.specs.Inserts.{insertAt}
 use Rattle.lists.proofs.Below.{allBelow-below}
@@ -17,19 +14,6 @@ use Rattle.short_scheme.specs.Short.{allZero, digitSum, keySum, balancin
 -- less than N too much is taken away at once
 pub once-around : (N a : ℕ) → N ≤ a → a - N < N → a % N ≡ a - N
 once-around N a h l = mod-eq-sub-mod h ∙ mod-eq-of-lt l
-
-sum-next : (l : List ℕ) (i : ℕ) → i < length l → digitSum (drop i l) ≡ getD l i 0 + digitSum (drop (i + 1) l)
-unfolding digitSum
-sum-next l i h = rw (add-one, drop-cons l i 0)
-
--- the sum goes on modulo N
-pub sum-turn : (N sum : ℕ) (l : List ℕ) (i : ℕ) → i < length l
-    → ((sum + getD l i 0) % N + digitSum (drop (i + 1) l)) % N ≡ (sum + digitSum (drop i l)) % N
-sum-turn N sum l i h =
-    let d = getD l i 0 in
-    let rest = digitSum (drop (i + 1) l) in
-    let e : sum + d + rest ≡ sum + digitSum (drop i l) = omega (arith, sum-next l i h) in
-    mod-add-mod (sum + d) N rest ∙ ap (λ (x : ℕ). x % N) e
 
 pub sum-insert : (at x : ℕ) (l : List ℕ) → digitSum (insertAt at x l) ≡ x + digitSum l
 unfolding digitSum

@@ -35,7 +35,7 @@ returns-3 c =
     let a = at .before .before .before .before .args in
     let below : allBelow (a .n) (a .query .now) ≡ true = sym (at .before .all-below .ensures) ∙ not-false (at .before .all-below .result) (at .if2 .left) in
     rw (eq-eqb (length (a .query .now)) (a .k) (at .before .before .if1 .left), below)
-    (ap (λ (x : ℕ). eqb x (a .server)) (c .digit-sum .ensures))
+    (ap (λ (x : ℕ). eqb x (a .server)) (c .digit-sum .ensures .0))
 
 pub admits-spec : {M : Type 1} → statement M
 admits-spec =

@@ -15,7 +15,7 @@ returns : tie.Need-returns
 returns c =
     let start = c .before .before .before in
     let a = start .args in
-    let e : c .before .digit-sum .result ≡ keySum (a .n) (a .key .now) = c .before .digit-sum .ensures in
+    let e : c .before .digit-sum .result ≡ keySum (a .n) (a .key .now) = c .before .digit-sum .ensures .0 in
     ap (λ (x : ℕ). a .server - x) e ∙ sym (balance-low (a .n) (a .server) (a .key .now) (start .pre .0) (omega arith))
 
 sub-result : tie.Need-sub-result
@@ -31,7 +31,7 @@ returns-2 : tie.Need-returns-2
 returns-2 c =
     let start = c .before .before .before in
     let a = start .args in
-    let e : c .before .digit-sum .result ≡ keySum (a .n) (a .key .now) = c .before .digit-sum .ensures in
+    let e : c .before .digit-sum .result ≡ keySum (a .n) (a .key .now) = c .before .digit-sum .ensures .0 in
     ap (λ (x : ℕ). a .server + (a .n - x)) e ∙ sym (balance-high (a .n) (a .server) (a .key .now) (start .pre .0) (omega arith))
 
 pub balancing-digit-spec : {M : Type 1} → statement M

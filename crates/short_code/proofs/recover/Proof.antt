@@ -65,7 +65,7 @@ recover-row-requires c κs =
     let a = start .args in
     let b = short-bounds (a .n) (a .k) (a .s) (start .pre .0) in
     let m : digitSum (a .key .now) % a .n < a .n = mod-lt (digitSum (a .key .now)) (omega arith) in
-    (omega (arith, c .before .before .before .digit-sum .ensures), placed at)
+    (omega (arith, c .before .before .before .digit-sum .ensures .0), placed at)
 
 same-length : tie.Need-same-length
 same-length c = search needs
@@ -80,7 +80,7 @@ returns c =
     let a = start .args in
     let f : ℕ → Bool → ℕ → List ℕ = λ t empty. fromPlaces (sumOf (a .op)) (a .n) (a .s) t empty (at .slot-starts .result) (a .answers .now) in
     g .recover-row .ensures
-    ∙ ap₂ (λ (t : ℕ) (empty : Bool). lay 0 (flatMap (f t empty) (range 1 (a .n - 1))) (a .message .now)) (sum .digit-sum .ensures)
+    ∙ ap₂ (λ (t : ℕ) (empty : Bool). lay 0 (flatMap (f t empty) (range 1 (a .n - 1))) (a .message .now)) (sum .digit-sum .ensures .0)
     (g .before .before .before .all-below .ensures)
     ∙ ap (λ (l : List ℕ). lay 0 l (a .message .now))
     (sym (recover-slots (sumOf (a .op)) (a .n) (a .k) (a .s) (a .wanted) (group-of (a .op) (a .s)) (a .key .now) (at .slot-starts .result)

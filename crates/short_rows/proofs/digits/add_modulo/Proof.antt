@@ -1,10 +1,9 @@
--- `short_rows::digits::add_modulo` meets its contract: a + b is below 2n, so n is taken away at most once.
-use mathlib.Core.Path.{_≡_, sym, _∙_}
-use Prim.Native.Nat.{_+_, _-_, _<_, _≤_}
-use native.Mathlib.Nat.{mod-eq-of-lt}
-use native.Mathlib.Omega.{arith}
+-- `short_rows::digits::add_modulo` meets its contract: it goes by cases as `added` does, which is the sum modulo n.
+use Prim.Native.Nat.{_-_}
 use borrow.Author.Needs.{needs}
-use Rattle.short_scheme.proofs.Digits.{once-around}
+use borrow.Author.Tests.{lt-ltb, le-ltb}
+use Rattle.short_rows.specs.Running.{added}
+use Rattle.short_rows.proofs.Running.{added-modulo}
 use Rattle.short_rows.proofs.digits.add_modulo.Statement.{statement}
 use Rattle.short_rows.proofs.digits.add_modulo.Tie as tie
 
@@ -15,19 +14,16 @@ add-result : tie.Need-add-result
 add-result c = search needs
 
 returns : tie.Need-returns
+unfolding added
 returns c =
     let a = c .before .args in
-    let h : a .a + a .b < a .n = omega arith in
-    sym (mod-eq-of-lt h)
+    rw (lt-ltb (a .b) (a .n - a .a) (c .if1 .taken)) at (added-modulo (a .n) (a .a) (a .b) (c .before .pre .0) (c .before .pre .1))
 
 returns-2 : tie.Need-returns-2
+unfolding added
 returns-2 c =
     let a = c .before .args in
-    let sum = a .a + a .b in
-    let h : a .n ≤ sum = omega arith in
-    let l : sum - a .n < a .n = omega arith in
-    let e : a .b - (a .n - a .a) ≡ sum - a .n = omega arith in
-    e ∙ sym (once-around (a .n) sum h l)
+    rw (le-ltb (a .b) (a .n - a .a) (c .if1 .left)) at (added-modulo (a .n) (a .a) (a .b) (c .before .pre .0) (c .before .pre .1))
 
 pub add-modulo-spec : {M : Type 1} → statement M
 add-modulo-spec = tie.close (tie.spec sub-left add-result returns returns-2)
