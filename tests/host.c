@@ -1,4 +1,4 @@
-/* Runs the real archive from C: the bench cards B2 to B6, both codes in both sums against a plain reference, every refusal from both sides
+/* Runs the real archive from C: the bench cards B2 to B6, all codes in both sums against a plain reference, every refusal from both sides
  * of its condition, and buffers of exact, longer and shorter length. Every buffer lies between guard bytes; with the argument
  * `exact` each is an allocation of just its length instead, so that valgrind sees every byte outside. A call with buffers of
  * length 0 is made once for each choice of those whose pointer is NULL, none and all of them included. Catalogues without a season are
@@ -226,6 +226,90 @@ static void sets(struct walk *w, int *list, int chosen, int from, int left) {
     }
 }
 
+/* ---- the codes over rows of digits: short and turning */
+
+/* whether a mirror admits a row with this sum: in the turning code every one does, in the short code the one of its remainder */
+static int admits(const char *code, int n, uint64_t mirror, unsigned total) {
+    return code[0] == 't' || mirror == total % (unsigned)n;
+}
+
+/* the answer to a row, from zeros; its sum */
+static unsigned row_answer(uint8_t *answer, const uint8_t *store, const uint8_t *row, int n, int k, int s, int add) {
+    unsigned total = 0;
+    memset(answer, 0, (size_t)s);
+    for (int p = 0; p < k; p++) {
+        total += row[p];
+        if (row[p] > 0) add_piece(answer, store, (size_t)(p * (n - 1) + row[p] - 1), s, add);
+    }
+    return total;
+}
+
+/* a row at each mirror, or of large pieces at the first, the last and one that admits it: answered with so many bytes, or refused 7 */
+static void at_mirrors(const char *what, const char *code, const char *cat, int n, int s, const uint8_t *store, size_t store_len, const uint8_t *row, int k,
+                       unsigned total, size_t room, int64_t want, const uint8_t *answer) {
+    for (uint64_t m = 0; m < (uint64_t)n; m++) {
+        if (s > 64 && m > 0 && m + 1 < (uint64_t)n && m != total % (unsigned)n) continue;
+        call(what, cat, strlen(cat), m, store, store_len, row, (size_t)k, room, admits(code, n, m, total) ? want : -7, answer);
+    }
+}
+
+static void rows(const char *code, int n, int k, int s, int add) {
+    static const uint8_t zeros[32] = {0};
+    size_t store_len = (size_t)(k * (n - 1) * s), room = (size_t)s;
+    uint8_t *store = malloc(store_len), *answer = malloc(room), request[33];
+    char cat[64];
+    if (store == NULL || answer == NULL) exit(2);
+    for (size_t i = 0; i < store_len; i++) store[i] = (uint8_t)draw(256);
+    for (int p = 0; p < k; p++) request[p] = (uint8_t)draw((unsigned)n);
+    unsigned total = row_answer(answer, store, request, n, k, s, add);
+    int some = total > 0;
+    uint64_t mirror = code[0] == 't' ? draw((unsigned)n) : total % (unsigned)n;
+    text(cat, code, n, k, s, add);
+    size_t cat_len = strlen(cat);
+    int64_t len = some ? s : 0;
+    longest("row: longest", cat, cat_len, s);
+    at_mirrors("row: exact", code, cat, n, s, store, store_len, request, k, total, room, len, answer);
+    at_mirrors("row: zeros", code, cat, n, s, store, store_len, zeros, k, 0, room, 0, NULL);
+    at_mirrors("row: zeros, no room", code, cat, n, s, store, store_len, zeros, k, 0, 0, 0, NULL);
+    call("row: longer", cat, cat_len, mirror, store, store_len, request, (size_t)k, room + 9, len, answer);
+    call("row: room one short", cat, cat_len, mirror, store, store_len, request, (size_t)k, room - 1, some ? -9 : 0, answer);
+    call("row: mirror N", cat, cat_len, (uint64_t)n, store, store_len, request, (size_t)k, room, -3, NULL);
+    call("row: mirror 2^64-1", cat, cat_len, UINT64_MAX, store, store_len, request, (size_t)k, room, -3, NULL);
+    call("row: request one short", cat, cat_len, mirror, store, store_len, request, (size_t)k - 1, room, -7, NULL);
+    request[k] = 0;
+    call("row: request one long", cat, cat_len, mirror, store, store_len, request, (size_t)k + 1, room, -7, NULL);
+    call("row: store one short", cat, cat_len, mirror, store, store_len - 1, request, (size_t)k, room, -8, NULL);
+    call("row: zeros, store one short", cat, cat_len, code[0] == 't' ? mirror : 0, store, store_len - 1, zeros, (size_t)k, room, -8, NULL);
+    call("row: no store", cat, cat_len, mirror, NULL, 0, request, (size_t)k, room, -8, NULL);
+    request[0] = (uint8_t)(request[0] + n);
+    call("row: digit N or more", cat, cat_len, mirror, store, store_len, request, (size_t)k, room, -7, NULL);
+    free(store), free(answer);
+}
+
+/* every row of K digits up to N at every mirror, N being one too large; without lengths, which are behind the rows above */
+static void every_row(const char *code, int n, int k, int add) {
+    const int s = 1 + add;
+    uint8_t store[256], answer[2] = {0}, row[8];
+    char cat[64];
+    size_t store_len = (size_t)(k * (n - 1) * s);
+    for (size_t i = 0; i < store_len; i++) store[i] = (uint8_t)draw(256);
+    text(cat, code, n, k, s, add);
+    lengths_too = 0;
+    for (int number = 0; number < power(n + 1, k); number++) {
+        int left = number, large = 0;
+        for (int p = 0; p < k; p++, left /= n + 1) {
+            row[p] = (uint8_t)(left % (n + 1));
+            large |= row[p] == n;
+        }
+        unsigned total = large ? 0 : row_answer(answer, store, row, n, k, s, add);
+        for (uint64_t m = 0; m < (uint64_t)n; m++)
+            call("every row", cat, strlen(cat), m, store, store_len, row, (size_t)k, (size_t)s, large || !admits(code, n, m, total) ? -7 : total > 0 ? s : 0, answer);
+    }
+    lengths_too = 1;
+}
+
+/* ---- the even code */
+
 /* a request of the even code, with the pack at each of its positions; its length */
 static int even_request(int n, int k, uint8_t *request, int *packs) {
     int m = power(n, k), cell = 0, next[8] = {0};
@@ -286,39 +370,6 @@ static void even(int n, int k, int s, int add) {
     free(store), free(answer);
 }
 
-static void shorter(int n, int k, int s, int add) {
-    size_t store_len = (size_t)(k * (n - 1) * s);
-    uint8_t *store = malloc(store_len), *answer = calloc(1, (size_t)s), request[33];
-    int total = 0, some = 0;
-    char cat[64];
-    for (size_t i = 0; i < store_len; i++) store[i] = (uint8_t)draw(256);
-    for (int p = 0; p < k; p++) {
-        request[p] = (uint8_t)draw((unsigned)n);
-        total += request[p];
-        if (request[p] > 0) add_piece(answer, store, (size_t)(p * (n - 1) + request[p] - 1), s, add), some = 1;
-    }
-    uint64_t mirror = (uint64_t)(total % n);
-    text(cat, "short", n, k, s, add);
-    size_t cat_len = strlen(cat);
-    int64_t len = some ? s : 0;
-    longest("short: longest", cat, cat_len, s);
-    call("short: exact", cat, cat_len, mirror, store, store_len, request, (size_t)k, (size_t)s, len, answer);
-    call("short: longer", cat, cat_len, mirror, store, store_len, request, (size_t)k, (size_t)s + 9, len, answer);
-    call("short: room one short", cat, cat_len, mirror, store, store_len, request, (size_t)k, (size_t)s - 1, some ? -9 : 0, answer);
-    call("short: other mirror", cat, cat_len, (mirror + 1) % (uint64_t)n, store, store_len, request, (size_t)k, (size_t)s, -7, NULL);
-    call("short: mirror N-1 or 7", cat, cat_len, (uint64_t)n - 1, store, store_len, request, (size_t)k, (size_t)s, mirror == (uint64_t)n - 1 ? len : -7, answer);
-    call("short: mirror N", cat, cat_len, (uint64_t)n, store, store_len, request, (size_t)k, (size_t)s, -3, NULL);
-    call("short: mirror 2^64-1", cat, cat_len, UINT64_MAX, store, store_len, request, (size_t)k, (size_t)s, -3, NULL);
-    call("short: request one short", cat, cat_len, mirror, store, store_len, request, (size_t)k - 1, (size_t)s, -7, NULL);
-    request[k] = 0;
-    call("short: request one long", cat, cat_len, mirror, store, store_len, request, (size_t)k + 1, (size_t)s, -7, NULL);
-    call("short: store one short", cat, cat_len, mirror, store, store_len - 1, request, (size_t)k, (size_t)s, -8, NULL);
-    call("short: no store", cat, cat_len, mirror, NULL, 0, request, (size_t)k, (size_t)s, -8, NULL);
-    request[0] = (uint8_t)(request[0] + n);
-    call("short: digit N or more", cat, cat_len, mirror, store, store_len, request, (size_t)k, (size_t)s, -7, NULL);
-    free(store), free(answer);
-}
-
 static void refused_text(const char *what, const char *cat, size_t len, int64_t want) {
     uint8_t digit = 1, room[1];
     call(what, cat, len, 0, &digit, 1, &digit, 1, sizeof room, want, NULL);
@@ -331,6 +382,9 @@ static void catalogues(void) {
         "", "code=short\n", "code=short\nmirrors=2\npacks=2\npiece=1", "code=short\nmirrors=2\npacks=2\npiece=1\n\n",
         "code=short\nmirrors=02\npacks=2\npiece=1\n", "code=short\nmirrors=2\npacks=000002\npiece=1\n",
         "code=short\nmirrors=2\npacks=100000\npiece=1\n", "code=other\nmirrors=2\npacks=2\npiece=1\n",
+        "code=turns\nmirrors=2\npacks=2\npiece=1\n", "code=tur\nmirrors=2\npacks=2\npiece=1\n", "code=Turn\nmirrors=2\npacks=2\npiece=1\n",
+        "code=turn \nmirrors=2\npacks=2\npiece=1\n", "code=TURN\nmirrors=2\npacks=2\npiece=1\n", "code=turning\nmirrors=2\npacks=2\npiece=1\n",
+        "code=turn\nmirrors=2\npacks=2\npiece=1", "code=turn\nmirrors=2\npacks=1\npiece=1\n\n", "code=short\ncode=turn\nmirrors=2\npacks=2\npiece=1\n",
         "code=short\npacks=2\nmirrors=2\npiece=1\n", "code=short\nmirrors=\npacks=2\npiece=1\n", "code=short \nmirrors=2\npacks=2\npiece=1\n",
         "code=short\nmirrors=2\npacks=2\npiece=2\nsum=xor\n", "code=short\nmirrors=2\npacks=2\npiece=2\nsum=\n", "code=short\nmirrors=2\npacks=2\npiece=2\nsum=add",
         "code=short\nmirrors=2\npacks=2\npiece=2\nsum=add\nsum=add\n", "code=short\nmirrors=2\npacks=2\nsum=add\npiece=2\n",
@@ -348,6 +402,9 @@ static void catalogues(void) {
         "code=short\nmirrors=99999\npacks=99999\npiece=99999\n", "code=even\nmirrors=2\npacks=9\npiece=1\n", "code=even\nmirrors=3\npacks=6\npiece=1\n",
         "code=short\nmirrors=2\npacks=2\npiece=1\nopen=2024-02-29\nclose=2024-02-29\n", "code=short\nmirrors=2\npacks=2\npiece=1\nopen=2024-03-01\nclose=2024-02-29\n",
         "code=short\nmirrors=2\npacks=1\npiece=1\nopen=2024-10-01\nclose=2024-09-30\n", "code=even\nmirrors=2\npacks=2\npiece=1\nopen=2399-12-31\nclose=2000-01-01\nsum=add\n",
+        "code=turn\nmirrors=1\npacks=2\npiece=1\n", "code=turn\nmirrors=17\npacks=2\npiece=1\n", "code=turn\nmirrors=2\npacks=0\npiece=1\n",
+        "code=turn\nmirrors=2\npacks=33\npiece=1\n", "code=turn\nmirrors=2\npacks=2\npiece=0\n", "code=turn\nmirrors=2\npacks=2\npiece=4097\n",
+        "code=turn\nmirrors=17\npacks=1\npiece=1\n", "code=turn\nmirrors=2\npacks=2\npiece=1\nopen=2024-02-29\nclose=2024-02-29\nsum=add\n",
         "code=even\nmirrors=6\npacks=4\npiece=1\n", "code=even\nmirrors=7\npacks=3\npiece=1\n", "code=even\nmirrors=16\npacks=3\npiece=1\n", "code=even\nmirrors=2\npacks=0\npiece=1\n",
     };
     for (size_t i = 0; i < sizeof bad / sizeof *bad; i++) refused_text(bad[i], bad[i], strlen(bad[i]), -1);
@@ -361,11 +418,53 @@ static void catalogues(void) {
     call("7 before 8, 9", good, strlen(good), 1, NULL, 0, NULL, 0, 0, -7, NULL);
     call("8 before 9", good, strlen(good), 1, NULL, 0, request, 2, 0, -8, NULL);
     call("9", good, strlen(good), 1, store, 2, request, 2, 0, -9, NULL);
+    static const char turn[] = "code=turn\nmirrors=2\npacks=2\npiece=1\n";
+    for (uint64_t m = 0; m < 2; m++) {
+        call("turn: 3 before 7, 8, 9", turn, strlen(turn), m + 2, NULL, 0, NULL, 0, 0, -3, NULL);
+        call("turn: 7 before 8, 9", turn, strlen(turn), m, NULL, 0, NULL, 0, 0, -7, NULL);
+        call("turn: 8 before 9", turn, strlen(turn), m, NULL, 0, request, 2, 0, -8, NULL);
+        call("turn: 9", turn, strlen(turn), m, store, 2, request, 2, 0, -9, NULL);
+    }
     /* every buffer of length 0, and each of them alone */
     call("all empty", "", 0, 0, NULL, 0, NULL, 0, 0, -1, NULL);
     call("no catalogue", "", 0, 0, store, 2, request, 2, 1, -1, NULL);
     call("no store", good, strlen(good), 1, NULL, 0, request, 2, 1, -8, NULL);
     call("no request", good, strlen(good), 1, store, 2, NULL, 0, 1, -7, NULL);
+}
+
+/* near misses of a code's first line: each byte changed to every other or left out, something before the name or behind it, the line elsewhere; and
+ * the text cut off at each byte */
+static void first_line(const char *code) {
+    static const char rest[] = "mirrors=2\npacks=2\npiece=1\n";
+    static const char *behind[] = {"s", " ", "\t", "\r", "\n", "=", "0", "ing", ",short", " even"}, *before[] = {" ", "\n", "=", "a", "code="};
+    char cat[64], line[16];
+    sprintf(line, "code=%s\n", code);
+    const size_t first = strlen(line), len = first + strlen(rest);
+    sprintf(cat, "%s%s", line, rest);
+    for (size_t at = 0; at < len; at++) refused_text("cut off", cat, at, -1);
+    for (size_t at = 0; at < first; at++) {
+        for (int move = 1; move <= 255; move++) {
+            cat[at] = (char)(line[at] ^ move);
+            refused_text("first line: a byte changed", cat, len, -1);
+        }
+        cat[at] = line[at];
+    }
+    for (size_t at = 0; at < first; at++) {
+        sprintf(cat, "%.*s%s%s", (int)at, line, line + at + 1, rest);
+        refused_text("first line: a byte left out", cat, len - 1, -1);
+    }
+    for (size_t i = 0; i < sizeof behind / sizeof *behind; i++) {
+        sprintf(cat, "code=%s%s\n%s", code, behind[i], rest);
+        refused_text("first line: more behind the name", cat, strlen(cat), -1);
+    }
+    for (size_t i = 0; i < sizeof before / sizeof *before; i++) {
+        sprintf(cat, "code=%s%s\n%s", before[i], code, rest);
+        refused_text("first line: more before the name", cat, strlen(cat), -1);
+    }
+    sprintf(cat, "%s%s%s", line, line, rest);
+    refused_text("first line: twice", cat, strlen(cat), -1);
+    sprintf(cat, "%s%s", rest, line);
+    refused_text("first line: last", cat, strlen(cat), -1);
 }
 
 /* a single pack, with what would be right for one: its own number, and before every other but 1 and 2 */
@@ -457,11 +556,13 @@ static void one_day(struct day on, struct day opening, struct day closing) {
     int64_t at = start_of(on), refusal = at < 0 ? -13 : at < start_of(opening) || at >= start_of(closing) ? -14 : 0;
     char cat[128];
     today = on;
-    for (int add = 0; add <= 1; add++) {
-        dated(cat, "short", 2, 2, 2, add, opening, closing);
+    for (int i = 0; i < 4; i++) {
+        const int add = i % 2, turn = i / 2;
+        dated(cat, turn ? "turn" : "short", 2, 2, 2, add, opening, closing);
         size_t len = strlen(cat);
         longest("season: longest", cat, len, 2);
         call("season", cat, len, 0, store, 4, both, 2, 2, refusal < 0 ? refusal : 2, sums[add]);
+        call("season, mirror 1", cat, len, 1, store, 4, both, 2, 2, refusal < 0 ? refusal : turn ? 2 : -7, sums[add]);
         call("season before 3", cat, len, 2, store, 4, both, 2, 2, refusal < 0 ? refusal : -3, NULL);
         call("season before 7", cat, len, 0, store, 4, wrong, 2, 2, refusal < 0 ? refusal : -7, NULL);
         call("season before 8", cat, len, 0, store, 3, both, 2, 2, refusal < 0 ? refusal : -8, NULL);
@@ -469,6 +570,8 @@ static void one_day(struct day on, struct day opening, struct day closing) {
         call("season before all", cat, len, UINT64_MAX, NULL, 0, NULL, 0, 0, refusal < 0 ? refusal : -3, NULL);
         call("1 before the season", cat, len - 1, 0, store, 4, both, 2, 2, -1, NULL);
     }
+    dated(cat, "turn", 2, 1, 1, 1, opening, closing);
+    call("17 before the season", cat, strlen(cat), 0, store, 4, both, 2, 2, -17, NULL);
     dated(cat, "short", 17, 2, 2, 0, opening, closing);
     call("2 before the season", cat, strlen(cat), 0, store, 4, both, 2, 2, -2, NULL);
     dated(cat, "even", 2, 1, 1, 1, opening, closing);
@@ -523,16 +626,10 @@ static long whole_of(struct shape c) {
     return whole_pack(c.code, c.n, c.k, c.s);
 }
 
-static void serve_short(struct shape c, struct served *v) {
-    unsigned total = 0;
-    memset(v->answer, 0, (size_t)c.s);
-    for (int p = 0; p < c.k; p++) {
-        unsigned digit = p == 0 ? 1 + draw((unsigned)c.n - 1) : draw((unsigned)c.n);
-        v->request[p] = (uint8_t)digit;
-        total += digit;
-        if (digit > 0) add_piece(v->answer, v->store, (size_t)(p * (c.n - 1)) + digit - 1, c.s, c.add);
-    }
-    v->mirror = total % (unsigned)c.n;
+static void serve_row(struct shape c, struct served *v) {
+    for (int p = 0; p < c.k; p++) v->request[p] = (uint8_t)(p == 0 ? 1 + draw((unsigned)c.n - 1) : draw((unsigned)c.n));
+    unsigned total = row_answer(v->answer, v->store, v->request, c.n, c.k, c.s, c.add);
+    v->mirror = (c.code[0] == 't' ? draw((unsigned)c.n) : total) % (unsigned)c.n;
     v->request_len = (size_t)c.k;
     v->answer_len = (size_t)c.s;
 }
@@ -554,7 +651,7 @@ static struct served serve(struct shape c) {
     if (v.store == NULL || v.answer == NULL) exit(2);
     for (size_t i = 0; i < v.store_len; i++) v.store[i] = (uint8_t)draw(256);
     if (c.code[0] == 'e') serve_even(c, &v);
-    else serve_short(c, &v);
+    else serve_row(c, &v);
     return v;
 }
 
@@ -567,8 +664,10 @@ static void goes_by(const char *what, const char *cat, size_t len, struct shape 
     today = opening_day;
     call(what, cat, len, v->mirror, v->store, store, v->request, asked, room, (int64_t)room, v->answer);
     call(what, cat, len, v->mirror, v->store, store, v->request, asked, room + 5, (int64_t)room, v->answer);
-    if (c.code[0] == 's') call(what, cat, len, 0, v->store, store, zeros, asked, 0, 0, NULL);
-    if (c.code[0] == 's') call(what, cat, len, 0, v->store, store, zeros, asked, room, 0, NULL);
+    for (uint64_t m = 0; c.code[0] != 'e' && m < (uint64_t)c.n && admits(c.code, c.n, m, 0); m++) {
+        call(what, cat, len, m, v->store, store, zeros, asked, 0, 0, NULL);
+        call(what, cat, len, m, v->store, store, zeros, asked, room, 0, NULL);
+    }
     call(what, cat, len, (uint64_t)c.n, v->store, store, v->request, asked, room, -3, NULL);
     call(what, cat, len, v->mirror, v->store, store, v->request, asked - 1, room, -7, NULL);
     call(what, cat, len, v->mirror, v->store, store - 1, v->request, asked, room, -8, NULL);
@@ -730,11 +829,13 @@ static void own_numbers(int add, enum season season, const struct served *v) {
         {"short", 2, 64, 4, add, season}, {"short", 2, 258, 4, add, season}, {"even", 1, 2, 4, add, season}, {"even", 17, 2, 4, add, season},
         {"even", 2, 2, 0, add, season}, {"even", 2, 2, 4097, add, season}, {"even", 2, 0, 4, add, season}, {"even", 2, 9, 4, add, season},
         {"even", 6, 4, 4, add, season}, {"even", 16, 3, 4, add, season}, {"even", 2, 33, 4, add, season}, {"even", 2, 40, 4, add, season},
-        {"short", 2, 2, 4, add, CLOSES_FIRST}, {"even", 2, 1, 3, add, CLOSES_FIRST}, {"short", 17, 1, 3, add, season},
+        {"turn", 1, 2, 4, add, season}, {"turn", 17, 2, 4, add, season}, {"turn", 2, 2, 0, add, season}, {"turn", 2, 2, 4097, add, season},
+        {"turn", 2, 0, 4, add, season}, {"turn", 2, 33, 4, add, season}, {"turn", 16, 40, 4096, add, season},
+        {"short", 2, 2, 4, add, CLOSES_FIRST}, {"even", 2, 1, 3, add, CLOSES_FIRST}, {"short", 17, 1, 3, add, season}, {"turn", 3, 2, 4, add, CLOSES_FIRST},
     };
-    const struct shape one[] = {{"short", 2, 1, 4, add, season}, {"short", 16, 1, 3, add, season},
+    const struct shape one[] = {{"short", 2, 1, 4, add, season}, {"short", 16, 1, 3, add, season}, {"turn", 2, 1, 4, add, season}, {"turn", 16, 1, 3, add, season},
                                 {"even", 2, 1, 4, add, season}, {"even", 16, 1, 3, add, season}};
-    const struct shape odd[] = {{"short", 2, 2, 3, 1, season}, {"short", 3, 32, 4095, 1, season},
+    const struct shape odd[] = {{"short", 2, 2, 3, 1, season}, {"short", 3, 32, 4095, 1, season}, {"turn", 2, 2, 3, 1, season}, {"turn", 3, 32, 4095, 1, season},
                                 {"even", 2, 2, 1, 1, season}, {"even", 2, 8, 3, 1, season}};
     for (size_t i = 0; i < sizeof out / sizeof *out; i++) turned_away(out[i], v, -2);
     for (size_t i = 0; i < sizeof one / sizeof *one; i++) turned_away(one[i], v, -17);
@@ -744,8 +845,9 @@ static void own_numbers(int add, enum season season, const struct served *v) {
 /* more packs than a catalogue can have: a line behind the 32nd is looked at for its form, too */
 static void many_packs(const struct served *v) {
     char cat[MOST_TEXT];
+    static const char *codes[] = {"short", "even", "turn"};
     for (int packs = 33; packs <= 40; packs++) {
-        const struct shape c = {packs % 2 ? "short" : "even", 2, packs, 4, packs / 2 % 2, packs / 4 % 2 ? SEASON : NEVER};
+        const struct shape c = {codes[packs % 3], 2, packs, 4, packs / 2 % 2, packs / 4 % 2 ? SEASON : NEVER};
         one_form(c, v);
         comes_first("lengths: 33rd, form", cat, one_other(cat, c, ONES, 32, "length=10000000\n"), v, -1);
         comes_first("lengths: 33rd, most", cat, one_other(cat, c, ONES, 32, "length=9999999\n"), v, -2);
@@ -769,7 +871,7 @@ static void largest_lengths(int n, int most_even) {
     for (int s = 1; s <= 4096; s = s < 8 ? s + 1 : s * 2) {
         const int add = s % 2 == 0 && n % 2;
         const enum season season = n % 3 ? SEASON : NEVER;
-        for (int k = 2; k <= 32; k++) largest((struct shape){"short", n, k, s, add, season});
+        for (int k = 2; k <= 32; k++) largest((struct shape){"short", n, k, s, add, season}), largest((struct shape){"turn", n, k, s, add, season});
         for (int k = 2; k <= most_even; k++) largest((struct shape){"even", n, k, s, add, season});
     }
 }
@@ -797,7 +899,8 @@ static void longest_texts(void) {
 
 static void lengths(void) {
     static const struct { const char *code; int n, k, s; } some[] = {{"short", 2, 2, 2}, {"short", 3, 3, 4}, {"short", 16, 32, 6},
-                                                                      {"even", 2, 2, 2}, {"even", 3, 3, 2}, {"even", 2, 8, 2}};
+                                                                      {"even", 2, 2, 2}, {"even", 3, 3, 2}, {"even", 2, 8, 2},
+                                                                      {"turn", 2, 2, 2}, {"turn", 3, 3, 4}, {"turn", 16, 32, 6}};
     lengths_too = 0;
     for (int add = 0; add <= 1; add++)
         for (enum season season = NEVER; season <= SEASON; season++)
@@ -829,26 +932,41 @@ static void cards(void) {
     call("B6, wrong store", b4, strlen(b4), 0, big, 23, none, 3, 4, -8, NULL);
 }
 
+/* the fetch of B2 and B3 in the turning code: pack 0 of two mirrors for each key, the short code's digit and the turn; mirror n gets the row that mirror
+ * n + turn gets in the short code */
+static void turned(void) {
+    static const char cat[] = "code=turn\nmirrors=2\npacks=2\npiece=1\n";
+    static const uint8_t store[] = {0x5A, 0xC3}, rows_of[2][2][2] = {{{0, 0}, {1, 0}}, {{1, 1}, {0, 1}}}, sent[2][2] = {{0, 0x5A}, {0x99, 0xC3}};
+    for (int digit = 0; digit <= 1; digit++)
+        for (int turn = 0; turn <= 1; turn++)
+            for (int m = 0; m <= 1; m++) {
+                int part = (m + turn) % 2;
+                call("turned B2 and B3", cat, strlen(cat), (uint64_t)m, store, 2, rows_of[digit][part], 2, 1, digit + part > 0, &sent[digit][part]);
+            }
+}
+
 int main(int argc, char **argv) {
     static const int most[17] = {0, 0, 8, 5, 4, 3, 3, 2, 2, 2, 2, 2, 2, 2, 2, 2, 2}, sizes[] = {1, 2, 7, 64, 4096}, ks[] = {2, 3, 31, 32};
+    static const char *row_codes[] = {"short", "turn"};
     exact = argc > 1 && strcmp(argv[1], "exact") == 0;
     cards();
+    turned();
     catalogues();
+    first_line("short"), first_line("even"), first_line("turn");
     words();
     seasons();
     lengths();
     for (int n = 2; n <= 16; n++) {
-        one_pack("short", n, 3);
-        one_pack("even", n, 3);
-        odd_piece("short", n, n % 2 ? 1 : 4095);
-        odd_piece("even", n, 3);
+        one_pack("short", n, 3), one_pack("turn", n, 3), one_pack("even", n, 3);
+        odd_piece("short", n, n % 2 ? 1 : 4095), odd_piece("turn", n, n % 2 ? 4095 : 1), odd_piece("even", n, 3);
         largest_lengths(n, most[n]);
         for (int k = 2; k <= most[n]; k++) even(n, k, n == 4 && k == 4 ? 64 : 3, 0), even(n, k, n == 4 && k == 4 ? 64 : 6, 1);
-        for (size_t i = 0; i < sizeof ks / sizeof *ks; i++)
-            for (size_t j = 0; j < sizeof sizes / sizeof *sizes; j++) {
-                shorter(n, ks[i], sizes[j], 0);
-                if (sizes[j] % 2 == 0) shorter(n, ks[i], sizes[j], 1);
-            }
+        for (size_t c = 0; c < sizeof row_codes / sizeof *row_codes; c++) {
+            for (size_t i = 0; i < sizeof ks / sizeof *ks; i++)
+                for (size_t j = 0; j < sizeof sizes / sizeof *sizes; j++)
+                    for (int add = 0; add <= (sizes[j] % 2 == 0); add++) rows(row_codes[c], n, ks[i], sizes[j], add);
+            for (int k = 2; power(n + 1, k) <= 300; k++) every_row(row_codes[c], n, k, 0), every_row(row_codes[c], n, k, 1);
+        }
     }
     even(2, 8, 4096 / 64, 0);
     even(2, 8, 4096 / 64, 1);

@@ -1,6 +1,6 @@
 //! Shows from the sources that no division and no remainder stands in a function that an issue under the short code runs to find the balancing digit
-//! (document 02, item 3). It finds them itself, by their calls, through all crates: those on a way from `ISSUE` to `QUERY`, and all that `QUERY`
-//! reaches, `DIGIT` and what is below it among them.
+//! (document 02, item 3), nor in one that an issue under the turning code runs for it, the turn included (item 4). It finds them itself, by their calls,
+//! through all crates: those on a way from `ISSUE` to one of the `QUERIES`, and all that these reach, `DIGIT` and what is below it among them.
 //!
 //!     rustc --edition 2021 -O tests/no_division.rs -o no_division
 //!     ./no_division crates          reads the sources; then plants divisions, calls and gaps in what it has read, each of which it must find
@@ -10,9 +10,9 @@ mod sources;
 use sources::{Calls, Read, Sources};
 use std::collections::{BTreeMap, BTreeSet};
 
-/// The call, the function of the short code that it comes to, and the one that finds the digit.
+/// The call, the functions of the short and the turning code that it comes to, and the one that finds the digit.
 const ISSUE: &str = "session::Session::issue";
-const QUERY: &str = "short_code::query";
+const QUERIES: [&str; 2] = ["short_code::query", "turn_code::query"];
 const DIGIT: &str = "short_code::balancing_digit";
 
 /// Operators that divide, and words that no name may have as one of its parts.
@@ -20,9 +20,9 @@ const OPERATORS: [&str; 4] = ["/", "%", "/=", "%="];
 const WORDS: [&str; 12] =
     ["div", "rem", "divide", "divided", "division", "divmod", "divrem", "quotient", "remainder", "modulus", "euclid", "multiple"];
 
-/// All that is reached from a function by calls, and how many calls away it is.
-fn reached(calls: &Calls, from: &str) -> BTreeMap<String, usize> {
-    let (mut found, mut next, mut depth) = (BTreeMap::new(), BTreeSet::from([from.to_string()]), 0);
+/// All that is reached from some functions by calls, and how many calls away it is.
+fn reached(calls: &Calls, from: &[&str]) -> BTreeMap<String, usize> {
+    let (mut found, mut next, mut depth) = (BTreeMap::new(), from.iter().map(|name| name.to_string()).collect::<BTreeSet<_>>(), 0);
     while !next.is_empty() {
         found.extend(next.iter().map(|name| (name.clone(), depth)));
         next = next.iter().filter_map(|name| calls.get(name)).flatten().filter(|name| !found.contains_key(*name)).cloned().collect();
@@ -31,14 +31,18 @@ fn reached(calls: &Calls, from: &str) -> BTreeMap<String, usize> {
     found
 }
 
-/// The functions that have to do without a division, from the call down: those on a way from `ISSUE` to `QUERY`, and those that `QUERY` reaches.
+/// The functions that have to do without a division, from the call down: those on a way from `ISSUE` to one of the `QUERIES`, and those that these reach.
 fn finding(calls: &Calls) -> Vec<String> {
-    let on_the_way = reached(calls, ISSUE).into_iter().filter(|(name, _)| reached(calls, name).contains_key(QUERY));
-    let mut all: Vec<(usize, String)> = on_the_way.map(|(name, depth)| (depth, name)).collect();
-    let start = all.iter().map(|(depth, _)| *depth).max().unwrap_or(0);
-    all.extend(reached(calls, QUERY).into_iter().filter(|(_, depth)| *depth > 0).map(|(name, depth)| (start + depth, name)));
-    all.sort();
-    all.into_iter().map(|(_, name)| name).collect()
+    let leads = |name: &str| reached(calls, &[name]).keys().any(|name| QUERIES.contains(&name.as_str()));
+    let mut all = reached(calls, &[ISSUE]);
+    all.retain(|name, _| leads(name));
+    let start = all.values().max().copied().unwrap_or(0);
+    for (name, depth) in reached(calls, &QUERIES).into_iter().filter(|(_, depth)| *depth > 0) {
+        all.entry(name).or_insert(start + depth);
+    }
+    let mut sorted: Vec<(usize, String)> = all.into_iter().map(|(name, depth)| (depth, name)).collect();
+    sorted.sort();
+    sorted.into_iter().map(|(_, name)| name).collect()
 }
 
 /// Whether a word or sign of a body divides.
@@ -55,7 +59,7 @@ fn judged(read: &Read) -> (Vec<String>, Vec<String>) {
         calls.insert(name.clone(), read.calls(name, unread.entry(name.clone()).or_insert(Vec::new())));
     }
     let found = finding(&calls);
-    for name in [ISSUE, QUERY, DIGIT].into_iter().filter(|&name| !found.iter().any(|f| f == name) || !read.functions.contains_key(name)) {
+    for name in QUERIES.into_iter().chain([ISSUE, DIGIT]).filter(|&name| !found.iter().any(|f| f == name) || !read.functions.contains_key(name)) {
         faults.push(format!("{name} is not found, or not called"));
     }
     for name in found.iter().filter(|name| read.functions.contains_key(*name)) {
@@ -91,11 +95,11 @@ fn plants(sources: &Sources, read: &Read, found: &[String]) -> usize {
         assert!(right, "planted in {name}: {text}: {faults:?}");
         count += 1;
     };
-    // what is called beside the short code's query has nothing to do with the digit, what it calls has
-    let query = found.iter().position(|name| name == QUERY).unwrap();
-    for (place, name) in found.iter().enumerate() {
+    // what is called beside a code's query has nothing to do with the digit, what the query calls has
+    let below = reached(&read.functions.keys().map(|name| (name.clone(), read.calls(name, &mut Vec::new()))).collect(), &QUERIES);
+    for name in found {
         direct.iter().for_each(|text| plant(name, 1, text, Some(&format!("{name}: "))));
-        called.iter().for_each(|(text, fault)| plant(name, 1, text, Some(*fault).filter(|_| query <= place)));
+        called.iter().for_each(|(text, fault)| plant(name, 1, text, Some(*fault).filter(|_| below.contains_key(name))));
         harmless.iter().for_each(|(behind, text)| plant(name, *behind, text, None));
         let mut gone = Read::all(sources);
         gone.functions.remove(name);

@@ -66,6 +66,9 @@ int main(void) {
     for (int k = 0; k < 32; k++) strcat(measured, "length=61439\n");
     catalogue = measured;
     measure("answer, short 16 32 4096 lengths", answering);
+    catalogue = "code=turn\nmirrors=16\npacks=32\npiece=4096\n";
+    measure("answer, turn 16 32 4096", answering);
+    measure("longest answer, turn", longest);
     catalogue = "code=even\nmirrors=2\npacks=8\npiece=4096\n", store_len = (size_t)8 * 256 * 4096, request_len = 1024;
     int next[8] = {0};
     size_t at = 0;

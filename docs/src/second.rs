@@ -1,15 +1,16 @@
 //! The second implementation: written from the documents, by other means than the crates, sharing no text with them.
 //!
 //! Words here are document 01's: mirror, pack, piece, request. The short code follows the formulas of source 000, section III-B;
-//! the even code runs the process of document 01 with counters, row by row, and finds rows again by comparing them. A day is looked up in a list
-//! of all days of the calendar, walked month by month; no date is compared or tested by its numbers. Lines `length=` are collected, however many
-//! there are, and counted afterwards; a pack is recovered whole and then cut.
+//! the even code runs the process of document 01 with counters, row by row, and finds rows again by comparing them; the turning code makes what
+//! all mirrors of the short one are sent and turns that list, and turns the list of answers back. A day is looked up in a list of all days of the
+//! calendar, walked month by month; no date is compared or tested by its numbers. Lines `length=` are collected, however many there are, and
+//! counted afterwards; a pack is recovered whole and then cut.
 //!
 //!     rustc --edition 2021 -O docs/src/second.rs -o second
-//!     ./second self               checks it against the bench cards and the papers' tables, balancing digits, the rules of seasons and lengths, and that fetches recover
+//!     ./second self               checks it against the bench cards and the papers' tables, balancing digits, turns, the rules of seasons and lengths, and that fetches recover
 //!     ./second printer FOLDER     writes inputs of the request printer, and what it must print for each
-//!     ./second cases              prints the calls that the program `conformance` makes (its `stdin`)
-//!     ./second expected           prints what they must give (its `stdout`)
+//!     ./second cases PROGRAM      prints the calls that the program `conformance` or `conformance_codes` makes (its `stdin`)
+//!     ./second expected PROGRAM   prints what they must give (its `stdout`)
 use std::collections::HashMap;
 use std::fmt::Write;
 use std::io::Write as _;
@@ -65,9 +66,22 @@ fn later(day: Day, by: isize) -> Day {
 
 // ---------------------------------------------------------------- catalogue
 
+/// The codes: the two of document 01, and the turning one (02, item 4).
+#[derive(Clone, Copy, PartialEq, Debug)]
+enum Code {
+    Short,
+    Even,
+    Turn,
+}
+
+use Code::{Even, Short, Turn};
+
+/// The codes with their words in a catalogue's text. A line of the conformance program's input gives a code by its place here.
+const CODES: [(Code, &str); 3] = [(Short, "short"), (Even, "even"), (Turn, "turn")];
+
 #[derive(Clone, Copy, PartialEq, Debug)]
 struct Catalogue {
-    even: bool,
+    code: Code,
     n: usize,
     k: usize,
     s: usize,
@@ -84,8 +98,8 @@ struct Catalogue {
 type Lengths = [usize; 32];
 
 /// A catalogue without the lines that it may have.
-const fn plain(even: bool, n: usize, k: usize, s: usize) -> Catalogue {
-    Catalogue { even, n, k, s, add: false, open: NO_DAY, close: NO_DAY, measured: false, lengths: [0; 32] }
+const fn plain(code: Code, n: usize, k: usize, s: usize) -> Catalogue {
+    Catalogue { code, n, k, s, add: false, open: NO_DAY, close: NO_DAY, measured: false, lengths: [0; 32] }
 }
 
 fn adding(c: Catalogue) -> Catalogue {
@@ -115,7 +129,7 @@ fn unmeasured(c: Catalogue) -> Catalogue {
     Catalogue { measured: false, lengths: [0; 32], ..c }
 }
 
-const ZERO: Catalogue = plain(false, 0, 0, 0);
+const ZERO: Catalogue = plain(Short, 0, 0, 0);
 
 /// A number in text form: one to five digits, no leading zero but `0` itself.
 fn number(text: &str) -> Option<usize> {
@@ -170,15 +184,12 @@ fn lines(text: &[u8]) -> Option<(Catalogue, &[u8])> {
         rest = after;
         Some(this.strip_prefix(name)?.to_string())
     };
-    let even = match line("code=")?.as_str() {
-        "short" => false,
-        "even" => true,
-        _ => return None,
-    };
+    let word = line("code=")?;
+    let (code, _) = CODES.into_iter().find(|(_, known)| word == *known)?;
     let n = number(&line("mirrors=")?)?;
     let k = number(&line("packs=")?)?;
     let s = number(&line("piece=")?)?;
-    let (c, rest) = season_lines(plain(even, n, k, s), rest)?;
+    let (c, rest) = season_lines(plain(code, n, k, s), rest)?;
     match rest.strip_prefix(b"sum=") {
         Some(value) => length_lines(adding(c), value.strip_prefix(b"add\n")?),
         None => length_lines(c, rest),
@@ -194,7 +205,7 @@ fn read(text: &[u8]) -> Result<Catalogue, u8> {
 }
 
 fn write_text(c: Catalogue) -> String {
-    let (code, sum) = (if c.even { "even" } else { "short" }, if c.add { "sum=add\n" } else { "" });
+    let ((_, code), sum) = (CODES[c.code as usize], if c.add { "sum=add\n" } else { "" });
     let season = if has_dates(c) { season_text(&spelled(c.open), &spelled(c.close)) } else { String::new() };
     let lengths = if c.measured { length_text(&c.lengths[..c.k.min(32)]) } else { String::new() };
     format!("code={code}\nmirrors={}\npacks={}\npiece={}\n{season}{sum}{lengths}", c.n, c.k, c.s)
@@ -209,9 +220,12 @@ fn season_text(open: &str, close: &str) -> String {
     format!("open={open}\nclose={close}\n")
 }
 
-/// The bounds of document 01, which a single pack keeps.
+/// The bounds of document 01, which a single pack keeps; the turning code has the short one's (02, item 4).
 fn within(c: Catalogue) -> bool {
-    let packs = if c.even { c.k >= 1 && c.k <= 8 && c.n.saturating_pow(c.k as u32) <= 256 } else { (1..=32).contains(&c.k) };
+    let packs = match c.code {
+        Short | Turn => (1..=32).contains(&c.k),
+        Even => c.k >= 1 && c.k <= 8 && c.n.saturating_pow(c.k as u32) <= 256,
+    };
     (2..=16).contains(&c.n) && (1..=4096).contains(&c.s) && packs
 }
 
@@ -253,7 +267,10 @@ fn in_season(c: Catalogue, today: Day) -> Result<(), u8> {
 }
 
 fn pieces(c: Catalogue) -> usize {
-    if c.even { c.n.pow(c.k as u32) } else { c.n - 1 }
+    match c.code {
+        Short | Turn => c.n - 1,
+        Even => c.n.pow(c.k as u32),
+    }
 }
 
 /// The length of a pack as mirrors store it, padding included.
@@ -267,7 +284,11 @@ fn pack_end(c: Catalogue, pack: usize) -> usize {
 }
 
 fn key_length(c: Catalogue) -> usize {
-    if c.even { c.k * pieces(c) } else { c.k - 1 }
+    match c.code {
+        Short => c.k - 1,
+        Turn => c.k,
+        Even => c.k * pieces(c),
+    }
 }
 
 fn rows(c: Catalogue) -> usize {
@@ -276,15 +297,29 @@ fn rows(c: Catalogue) -> usize {
 }
 
 fn slot(c: Catalogue) -> usize {
-    if c.even { rows(c) * c.s } else { c.s }
+    match c.code {
+        Short | Turn => c.s,
+        Even => rows(c) * c.s,
+    }
 }
 
 fn request_length(c: Catalogue) -> usize {
-    if c.even { c.k * c.n.pow(c.k as u32 - 1) } else { c.k }
+    match c.code {
+        Short | Turn => c.k,
+        Even => c.k * c.n.pow(c.k as u32 - 1),
+    }
+}
+
+/// What every number of a good key, and of an admitted request, is below.
+fn ceiling(c: Catalogue) -> usize {
+    match c.code {
+        Short | Turn => c.n,
+        Even => pieces(c),
+    }
 }
 
 fn key_good(c: Catalogue, key: &[u8]) -> bool {
-    if !c.even {
+    if c.code != Even {
         return key.iter().all(|&d| (d as usize) < c.n);
     }
     key.chunks(pieces(c)).all(|permutation| {
@@ -400,43 +435,74 @@ fn layout(c: Catalogue) -> Vec<Vec<usize>> {
 
 // ---------------------------------------------------------------- requests, admission, answers, recovery
 
+/// What the mirrors are sent under the short code, mirror 0 first: the digits, and at the wanted pack's place one more (000, III-B).
+fn short_requests(c: Catalogue, wanted: usize, digits: &[u8]) -> Vec<Bytes> {
+    let t: usize = digits.iter().map(|&d| d as usize).sum::<usize>() % c.n;
+    let with = |digit: usize| {
+        let mut out = digits.to_vec();
+        out.insert(wanted, digit as u8);
+        out
+    };
+    (0..c.n).map(|mirror| with((mirror + c.n - t) % c.n)).collect()
+}
+
+/// The key of the turning code taken apart: the other digits, and the last one, the turn (02, item 4).
+fn parted(key: &[u8]) -> (&[u8], usize) {
+    let (&turn, digits) = key.split_last().unwrap();
+    (digits, turn as usize)
+}
+
 fn request(c: Catalogue, wanted: usize, mirror: usize, key: &[u8]) -> Bytes {
-    if !c.even {
-        let t: usize = key.iter().map(|&d| d as usize).sum::<usize>() % c.n;
-        let mut out = key.to_vec();
-        out.insert(wanted, ((mirror + c.n - t) % c.n) as u8);
-        return out;
+    match c.code {
+        Short => short_requests(c, wanted, key).swap_remove(mirror),
+        Turn => {
+            // the short code's mirrors pass the circle of the turning code's, one place for each step of the turn
+            let (digits, turn) = parted(key);
+            let mut parts = short_requests(c, wanted, digits);
+            parts.rotate_left(turn);
+            parts.swap_remove(mirror)
+        }
+        Even => {
+            let m = pieces(c);
+            listed(&process(c, wanted)[mirror]).iter().flatten().map(|&(p, place)| key[p * m + place]).collect()
+        }
     }
-    let m = pieces(c);
-    listed(&process(c, wanted)[mirror]).iter().flatten().map(|&(p, place)| key[p * m + place]).collect()
 }
 
 fn admits(c: Catalogue, mirror: usize, request: &[u8]) -> bool {
-    if request.len() != request_length(c) {
-        return false;
+    let formed = request.len() == request_length(c) && request.iter().all(|&x| (x as usize) < ceiling(c));
+    formed && match c.code {
+        Short => request.iter().map(|&d| d as usize).sum::<usize>() % c.n == mirror,
+        Turn => true,
+        Even => {
+            let packs: Vec<usize> = layout(c).concat();
+            let mut seen: Vec<(usize, u8)> = packs.into_iter().zip(request.iter().copied()).collect();
+            seen.sort();
+            seen.windows(2).all(|w| w[0] != w[1])
+        }
     }
-    if !c.even {
-        let below = request.iter().all(|&d| (d as usize) < c.n);
-        return below && request.iter().map(|&d| d as usize).sum::<usize>() % c.n == mirror;
-    }
-    let packs: Vec<usize> = layout(c).concat();
-    let mut seen: Vec<(usize, u8)> = packs.into_iter().zip(request.iter().copied()).collect();
-    seen.sort();
-    let apart = seen.windows(2).all(|w| w[0] != w[1]);
-    apart && request.iter().all(|&x| (x as usize) < pieces(c))
 }
 
 fn answer(c: Catalogue, store: &[u8], request: &[u8]) -> Bytes {
-    if !c.even {
-        if request.iter().all(|&d| d == 0) {
-            return Vec::new();
-        }
-        let mut out = vec![0; c.s];
-        for (p, &d) in request.iter().enumerate().filter(|&(_, &d)| d > 0) {
-            combine(c, &mut out, piece(c, store, p, d as usize - 1));
-        }
-        return out;
+    match c.code {
+        Short | Turn => row_answer(c, store, request),
+        Even => even_answer(c, store, request),
     }
+}
+
+/// The answer to one row of digits: nothing to the row of zeros, whichever mirror has it.
+fn row_answer(c: Catalogue, store: &[u8], row: &[u8]) -> Bytes {
+    if row.iter().all(|&d| d == 0) {
+        return Vec::new();
+    }
+    let mut out = vec![0; c.s];
+    for (p, &d) in row.iter().enumerate().filter(|&(_, &d)| d > 0) {
+        combine(c, &mut out, piece(c, store, p, d as usize - 1));
+    }
+    out
+}
+
+fn even_answer(c: Catalogue, store: &[u8], request: &[u8]) -> Bytes {
     let mut numbers = request.iter();
     let mut out = Vec::new();
     for set in layout(c) {
@@ -450,22 +516,42 @@ fn answer(c: Catalogue, store: &[u8], request: &[u8]) -> Bytes {
 }
 
 fn answer_length(c: Catalogue, request: &[u8]) -> usize {
-    if c.even || request.iter().any(|&d| d != 0) { slot(c) } else { 0 }
+    match c.code {
+        Short | Turn if request.iter().all(|&d| d == 0) => 0,
+        _ => slot(c),
+    }
 }
 
 /// The wanted pack as it is stored, from the answers of all mirrors; an empty answer counts as zeros.
 fn recover(c: Catalogue, wanted: usize, key: &[u8], answers: &[Bytes]) -> Bytes {
-    let mut pack = vec![0; pack_length(c)];
-    if !c.even {
-        let t: usize = key.iter().map(|&d| d as usize).sum::<usize>() % c.n;
-        let whole = |a: &Bytes| if a.is_empty() { vec![0; c.s] } else { a.clone() };
-        for d in 1..c.n {
-            let mut got = whole(&answers[(d + t) % c.n]);
-            take_away(c, &mut got, &whole(&answers[t]));
-            pack[(d - 1) * c.s..d * c.s].copy_from_slice(&got);
+    match c.code {
+        Short => short_recover(c, key, answers),
+        Turn => {
+            // the circle of the answers, turned back, is that of the short code's mirrors
+            let (digits, turn) = parted(key);
+            let mut parts = answers.to_vec();
+            parts.rotate_right(turn);
+            short_recover(c, digits, &parts)
         }
-        return pack;
+        Even => even_recover(c, wanted, key, answers),
     }
+}
+
+/// Recovery under the short code, whose mirrors' answers these are.
+fn short_recover(c: Catalogue, digits: &[u8], answers: &[Bytes]) -> Bytes {
+    let mut pack = vec![0; pack_length(c)];
+    let t: usize = digits.iter().map(|&d| d as usize).sum::<usize>() % c.n;
+    let whole = |a: &Bytes| if a.is_empty() { vec![0; c.s] } else { a.clone() };
+    for d in 1..c.n {
+        let mut got = whole(&answers[(d + t) % c.n]);
+        take_away(c, &mut got, &whole(&answers[t]));
+        pack[(d - 1) * c.s..d * c.s].copy_from_slice(&got);
+    }
+    pack
+}
+
+fn even_recover(c: Catalogue, wanted: usize, key: &[u8], answers: &[Bytes]) -> Bytes {
+    let mut pack = vec![0; pack_length(c)];
     let made = process(c, wanted);
     let all: Vec<Vec<Row>> = made.iter().map(|m| listed(m)).collect();
     for mirror in 0..c.n {
@@ -683,13 +769,13 @@ const TABLE_3: [&str; 3] = [
 
 fn tables() {
     for &(n, k, wanted, ref mirrors) in PAPER {
-        let c = plain(true, n, k, 1);
+        let c = plain(Even, n, k, 1);
         for mirror in 0..n {
             let rows: Vec<String> = listed(&process(c, wanted)[mirror]).iter().map(shown).collect();
             assert_eq!(rows.join(" "), mirrors[mirror], "003, N={n} K={k} wanted {wanted}, mirror {mirror}");
         }
     }
-    let c = plain(false, 3, 3, 1);
+    let c = plain(Short, 3, 3, 1);
     for mirror in 0..3 {
         let all = (0..27u8).map(|x| [x / 9, x / 3 % 3, x % 3]).filter(|q| admits(c, mirror, q));
         let shown: Vec<String> = all.map(|q| q.iter().map(|d| d.to_string()).collect()).collect();
@@ -699,7 +785,7 @@ fn tables() {
     let requests: Vec<Bytes> = (0..3).map(|m| request(c, 1, m, &[0, 2])).collect();
     assert_eq!(requests, [[0, 1, 2], [0, 2, 2], [0, 0, 2]]);
     // 000, Table I: answers 0 and a, a+b and b; 0 and b, a+b and a
-    let (c, store) = (plain(false, 2, 2, 1), [0x5A, 0xC3]);
+    let (c, store) = (plain(Short, 2, 2, 1), [0x5A, 0xC3]);
     let table_1: Vec<Vec<Bytes>> = [(0, 0u8), (0, 1), (1, 0), (1, 1)].iter()
         .map(|&(wanted, key)| (0..2).map(|m| answer(c, &store, &request(c, wanted, m, &[key]))).collect()).collect();
     assert_eq!(table_1, [[vec![], vec![0x5A]], [vec![0x99], vec![0xC3]], [vec![], vec![0xC3]], [vec![0x99], vec![0x5A]]]);
@@ -708,17 +794,17 @@ fn tables() {
 fn cards() {
     let b1 = "code=short\nmirrors=3\npacks=3\npiece=4\nwanted=1\nkey=2 0\n";
     assert_eq!(printed(b1.as_bytes()), "mirror=0 request=2 1 0\nmirror=1 request=2 2 0\nmirror=2 request=2 0 0\n");
-    let c = plain(true, 2, 2, 1);
+    let c = plain(Even, 2, 2, 1);
     let key = [0, 1, 2, 3, 0, 1, 2, 3];
     assert_eq!([request(c, 0, 0, &key), request(c, 0, 1, &key)], [[0, 0, 2, 1], [1, 1, 3, 0]]);
     assert_eq!([request(c, 1, 0, &key), request(c, 1, 1, &key)], [[0, 0, 1, 2], [1, 1, 0, 3]]);
-    let count = |n, k| rows(plain(true, n, k, 1));
+    let count = |n, k| rows(plain(Even, n, k, 1));
     assert_eq!([count(3, 3), count(2, 8), count(16, 2)], [13, 255, 17]);
-    assert_eq!([8, 9].map(|k| judged(plain(true, 2, k, 1))), [Ok(()), Err(2)]);
+    assert_eq!([8, 9].map(|k| judged(plain(Even, 2, k, 1))), [Ok(()), Err(2)]);
     // B11 and B12, as 02, item 9 has them
-    assert_eq!(begin(plain(false, 2, 1, 1), 0, &[]).err(), Some(17));
+    assert_eq!(begin(plain(Short, 2, 1, 1), 0, &[]).err(), Some(17));
     assert_eq!(printed(b"code=short\nmirrors=2\npacks=1\npiece=1\nwanted=0\nkey=\n"), "refused=17\n");
-    assert_eq!(begin(plain(true, 2, 1, 1), 0, &[0, 0]).err(), Some(17));
+    assert_eq!(begin(plain(Even, 2, 1, 1), 0, &[0, 0]).err(), Some(17));
 }
 
 // ---------------------------------------------------------------- cases for the request printer
@@ -733,8 +819,8 @@ impl Draw {
     }
 
     fn key(&mut self, c: Catalogue) -> Vec<usize> {
-        if !c.even {
-            return (1..c.k).map(|_| self.below(c.n)).collect();
+        if c.code != Even {
+            return (0..key_length(c)).map(|_| self.below(c.n)).collect();
         }
         let mut key = Vec::new();
         for _ in 0..c.k {
@@ -754,40 +840,23 @@ fn input(c: Catalogue, wanted: usize, key: &[usize]) -> String {
 }
 
 /// Inputs of the printer: every (N, K) of the even code and a spread of the short one, single packs too, every wanted pack; each refusal
-/// from both sides of its condition; damaged texts.
+/// from both sides of its condition; damaged texts; then the turning code's.
 fn printer_inputs() -> Vec<Bytes> {
     let mut draw = Draw(2026);
     let mut all: Vec<Bytes> = Vec::new();
     for n in 2..=16 {
-        let even = (1..=8).map(|k| plain(true, n, k, 1)).filter(|&c| within(c));
-        let short = [1, 2, 3, 7, 31, 32].into_iter().map(|k| plain(false, n, k, 4096));
+        let even = (1..=8).map(|k| plain(Even, n, k, 1)).filter(|&c| within(c));
+        let short = [1, 2, 3, 7, 31, 32].into_iter().map(|k| plain(Short, n, k, 4096));
         for c in even.chain(short).collect::<Vec<_>>() {
-            for wanted in (0..c.k).filter(|&w| c.k < 8 || w % 5 == 0 || w + 1 == c.k) {
-                all.push(input(c, wanted, &draw.key(c)).into_bytes());
-            }
-            let key = draw.key(c);
-            all.push(input(c, c.k, &key).into_bytes());
-            all.push(input(c, 0, &[&key[..], &[0]].concat()).into_bytes());
-            for bad in [if c.even { pieces(c) } else { n }, 256, 99999] {
-                let mut broken = key.clone();
-                if let Some(last) = broken.last_mut() {
-                    *last = bad;
-                    all.push(input(c, 0, &broken).into_bytes());
-                }
-            }
-            if c.even {
-                let mut twice = key.clone();
-                twice[0] = twice[1];
-                all.push(input(c, 0, &twice).into_bytes());
-            }
+            printer_keys(&mut draw, &mut all, c);
         }
     }
-    for (even, n, k, s) in [(false, 1, 1, 1), (false, 17, 1, 1), (false, 2, 0, 1), (false, 2, 33, 1), (false, 2, 1, 0), (false, 2, 1, 4097),
-        (false, 1, 2, 1), (false, 17, 2, 1), (false, 2, 2, 0), (false, 2, 2, 4097), (true, 1, 1, 1), (true, 17, 1, 1), (true, 2, 1, 0), (true, 2, 1, 4097),
-        (true, 2, 9, 1), (true, 3, 6, 1), (true, 4, 5, 1), (true, 5, 4, 1), (true, 6, 4, 1), (true, 7, 3, 1), (true, 16, 3, 1), (false, 99999, 99999, 99999)] {
-        all.push(input(plain(even, n, k, s), 0, &[0]).into_bytes());
+    for (code, n, k, s) in [(Short, 1, 1, 1), (Short, 17, 1, 1), (Short, 2, 0, 1), (Short, 2, 33, 1), (Short, 2, 1, 0), (Short, 2, 1, 4097),
+        (Short, 1, 2, 1), (Short, 17, 2, 1), (Short, 2, 2, 0), (Short, 2, 2, 4097), (Even, 1, 1, 1), (Even, 17, 1, 1), (Even, 2, 1, 0), (Even, 2, 1, 4097),
+        (Even, 2, 9, 1), (Even, 3, 6, 1), (Even, 4, 5, 1), (Even, 5, 4, 1), (Even, 6, 4, 1), (Even, 7, 3, 1), (Even, 16, 3, 1), (Short, 99999, 99999, 99999)] {
+        all.push(input(plain(code, n, k, s), 0, &[0]).into_bytes());
     }
-    let good = input(plain(false, 3, 3, 4), 1, &[2, 0]);
+    let good = input(plain(Short, 3, 3, 4), 1, &[2, 0]);
     for (from, to) in [("2 0\n", "2  0\n"), ("2 0\n", " 2 0\n"), ("2 0\n", "2 0 \n"), ("2 0\n", "2 0"), ("2 0\n", "2 0\n\n"), ("2 0\n", "02 0\n"),
         ("2 0\n", "2 000000\n"), ("2 0\n", "\n"), ("2 0\n", "2\t0\n"), ("wanted=1", "wanted=01"), ("wanted=1", "wanted="), ("wanted=1", "wanted=100000"),
         ("wanted=", "Wanted="), ("key=", "keys="), ("mirrors=3", "mirrors=3 "), ("packs=3", "packs=003"), ("piece=4\n", "piece=4\n\n"),
@@ -802,8 +871,8 @@ fn printer_inputs() -> Vec<Bytes> {
         all.push(text);
     }
     // a single pack in a damaged text, and with everything else wrong
-    for even in [false, true] {
-        let c = plain(even, 3, 1, 4);
+    for code in [Short, Even] {
+        let c = plain(code, 3, 1, 4);
         let one = input(c, 0, &draw.key(c));
         for (from, to) in [("wanted=0", "wanted=00"), ("packs=1", "packs=01"), ("piece=4\n", "piece=4\n\n"), ("key=", "keys="), ("key=", "key= ")] {
             all.push(one.replacen(from, to, 1).into_bytes());
@@ -813,7 +882,7 @@ fn printer_inputs() -> Vec<Bytes> {
         all.push(input(c, 7, &[9, 9, 99999, 9]).into_bytes());
     }
     for (n, key) in (2..=16).flat_map(|n| sum_keys(n).into_iter().map(move |key| (n, key))) {
-        all.push(input(plain(false, n, key.len() + 1, 1), key.iter().sum::<usize>() % (key.len() + 1), &key).into_bytes());
+        all.push(input(plain(Short, n, key.len() + 1, 1), key.iter().sum::<usize>() % (key.len() + 1), &key).into_bytes());
     }
     printer_sums(&mut draw, &mut all);
     printer_seasons(&mut draw, &mut all);
@@ -821,7 +890,59 @@ fn printer_inputs() -> Vec<Bytes> {
     all.push(vec![b'0'; 65536]);
     all.push([good.as_bytes(), &vec![b' '; 65537 - good.len()]].concat());
     all.push((0..=255).collect());
+    printer_turns(&mut draw, &mut all);
     all
+}
+
+/// Keys of a catalogue: wanted packs, one that is none, a number too many, and bad numbers in the last place.
+fn printer_keys(draw: &mut Draw, all: &mut Vec<Bytes>, c: Catalogue) {
+    for wanted in (0..c.k).filter(|&w| c.k < 8 || w % 5 == 0 || w + 1 == c.k) {
+        all.push(input(c, wanted, &draw.key(c)).into_bytes());
+    }
+    let key = draw.key(c);
+    all.push(input(c, c.k, &key).into_bytes());
+    all.push(input(c, 0, &[&key[..], &[0]].concat()).into_bytes());
+    for bad in [ceiling(c), 256, 99999] {
+        let mut broken = key.clone();
+        if let Some(last) = broken.last_mut() {
+            *last = bad;
+            all.push(input(c, 0, &broken).into_bytes());
+        }
+    }
+    if c.code == Even {
+        let mut twice = key.clone();
+        twice[0] = twice[1];
+        all.push(input(c, 0, &twice).into_bytes());
+    }
+}
+
+/// The turning code (02, item 4): every N and a spread of K as of the short code, every turn with zeros before it and with any digits; keys one digit
+/// short, a bad first digit, a bad turn; the bounds; lines of the other requests; the word of the code damaged.
+fn printer_turns(draw: &mut Draw, all: &mut Vec<Bytes>) {
+    for c in (2..=16).flat_map(|n| [1, 2, 3, 7, 31, 32].map(|k| plain(Turn, n, k, 4096))) {
+        printer_keys(draw, all, c);
+        let key = draw.key(c);
+        all.push(input(c, 0, &key[1..]).into_bytes());
+        all.push(input(c, 0, &[&key[1..], &[c.n - 1]].concat()).into_bytes());
+        all.push(input(c, 0, &[&[c.n], &key[1..]].concat()).into_bytes());
+        for turn in (0..c.n).filter(|_| c.k == 2 || c.k == 7) {
+            let wanted = draw.below(c.k);
+            all.push(input(c, wanted, &[&vec![0; c.k - 1][..], &[turn]].concat()).into_bytes());
+            all.push(input(c, wanted, &[&key[1..], &[turn]].concat()).into_bytes());
+        }
+    }
+    for (n, k, s) in [(1, 1, 1), (17, 1, 1), (2, 0, 1), (2, 33, 1), (2, 1, 0), (2, 1, 4097), (1, 2, 1), (17, 2, 1), (2, 2, 0), (2, 2, 4097), (99999, 2, 1)] {
+        all.push(input(plain(Turn, n, k, s), 0, &[0; 2]).into_bytes());
+    }
+    printer_sum(draw, all, (Turn, 3, 3));
+    printer_season(draw, all, 1, (Turn, 3, 3));
+    printer_length(draw, all, 0, (Turn, 3, 3));
+    let good = input(plain(Turn, 3, 3, 4), 1, &[2, 0, 1]);
+    for line in OTHER_CODES {
+        all.push(good.replacen("code=turn\n", line, 1).into_bytes());
+    }
+    damaged(&good, "code=turn\n", all);
+    damaged(&good, "key=2 0 1\n", all);
 }
 
 /// Keys whose digits, summed up one by one, come to N exactly, stop one short of it or pass it by one (02, item 3): at the first step that can, at
@@ -844,7 +965,7 @@ fn sum_keys(n: usize) -> Vec<Vec<usize>> {
 fn balancing_digits() {
     for n in 2..=16 {
         for key in sum_keys(n) {
-            let c = plain(false, n, key.len() + 1, 1);
+            let c = plain(Short, n, key.len() + 1, 1);
             let key: Bytes = key.into_iter().map(|d| d as u8).collect();
             for (wanted, mirror) in (0..c.k).flat_map(|wanted| (0..n).map(move |mirror| (wanted, mirror))) {
                 let row = request(c, wanted, mirror, &key);
@@ -860,21 +981,10 @@ fn balancing_digits() {
 
 /// The line `sum=add` (02, item 2): the same requests as without it; odd pieces, with every other refusal besides; the line damaged and misplaced.
 fn printer_sums(draw: &mut Draw, all: &mut Vec<Bytes>) {
-    for (even, n, k) in [(false, 2, 2), (false, 3, 3), (false, 16, 32), (true, 2, 2), (true, 3, 3), (true, 2, 8), (true, 16, 2)] {
-        let (c, key) = (adding(plain(even, n, k, 4096)), draw.key(plain(even, n, k, 1)));
-        for wanted in [0, k / 2, k - 1, k] {
-            all.push(input(Catalogue { add: false, ..c }, wanted, &key).into_bytes());
-            for s in [0, 1, 2, 4095, 4096, 4097] {
-                all.push(input(Catalogue { s, ..c }, wanted, &key).into_bytes());
-            }
-        }
-        for c in [c, Catalogue { s: 7, ..c }, Catalogue { s: 7, k: 1, ..c }, Catalogue { s: 7, n: 17, ..c }] {
-            all.push(input(c, 0, &[&key[..], &[0]].concat()).into_bytes());
-            all.push(input(c, 0, &[&[99999], &key[1..]].concat()).into_bytes());
-            all.push(format!("{}\n", input(c, 0, &key)).into_bytes());
-        }
+    for size in [(Short, 2, 2), (Short, 3, 3), (Short, 16, 32), (Even, 2, 2), (Even, 3, 3), (Even, 2, 8), (Even, 16, 2)] {
+        printer_sum(draw, all, size);
     }
-    let good = input(adding(plain(false, 3, 3, 4)), 1, &[2, 0]);
+    let good = input(adding(plain(Short, 3, 3, 4)), 1, &[2, 0]);
     for to in OTHER_SUMS {
         all.push(good.replacen("sum=add\n", to, 1).into_bytes());
     }
@@ -882,6 +992,22 @@ fn printer_sums(draw: &mut Draw, all: &mut Vec<Bytes>) {
         all.push(good.replacen(from, to, 1).into_bytes());
     }
     damaged(&good, "sum=add\n", all);
+}
+
+/// A catalogue that adds, with pieces of each kind and other refusals besides.
+fn printer_sum(draw: &mut Draw, all: &mut Vec<Bytes>, (code, n, k): (Code, usize, usize)) {
+    let (c, key) = (adding(plain(code, n, k, 4096)), draw.key(plain(code, n, k, 1)));
+    for wanted in [0, k / 2, k - 1, k] {
+        all.push(input(Catalogue { add: false, ..c }, wanted, &key).into_bytes());
+        for s in [0, 1, 2, 4095, 4096, 4097] {
+            all.push(input(Catalogue { s, ..c }, wanted, &key).into_bytes());
+        }
+    }
+    for c in [c, Catalogue { s: 7, ..c }, Catalogue { s: 7, k: 1, ..c }, Catalogue { s: 7, n: 17, ..c }] {
+        all.push(input(c, 0, &[&key[..], &[0]].concat()).into_bytes());
+        all.push(input(c, 0, &[&[99999], &key[1..]].concat()).into_bytes());
+        all.push(format!("{}\n", input(c, 0, &key)).into_bytes());
+    }
 }
 
 /// A text with each byte of these lines of it changed, left out, and cut off with all that follows.
@@ -902,28 +1028,18 @@ fn damaged(good: &str, lines: &str, all: &mut Vec<Bytes>) {
 const OTHER_SUMS: [&str; 17] = ["sum=xor\n", "sum=\n", "sum=1\n", "sum=Add\n", "sum=adds\n", "sum=ad\n", "sum=add \n", "sum= add\n", "sum=add\r\n",
     "sum=add\n\n", "sum=add\nsum=add\n", "sum=add\nsum=xor\n", "sum=xor\nsum=add\n", "Sum=add\n", "sums=add\n", "sum add\n", "\nsum=add\n"];
 
+/// What may stand in the place of `code=turn` and is no such line.
+const OTHER_CODES: [&str; 22] = ["code=turns\n", "code=tur\n", "code=urn\n", "code=Turn\n", "code=TURN\n", "code=turm\n", "code=tirn\n", "code=turn \n",
+    "code= turn\n", "code=turn\r\n", "code=turn\0\n", "code=turning\n", "code=turnturn\n", "code=turneven\n", "code=shortturn\n", "code=2\n",
+    "code=turn\ncode=turn\n", "code=short\ncode=turn\n", "Code=turn\n", "codes=turn\n", "turn\n", "code=turn"];
+
 /// A season in a catalogue's text, with the requests of the same catalogue without it (02, item 1): the printer tests none. Then each fault of the
 /// dates, with other refusals besides; the lines damaged and misplaced.
 fn printer_seasons(draw: &mut Draw, all: &mut Vec<Bytes>) {
-    for (i, (even, n, k)) in [(false, 2, 2), (false, 3, 3), (false, 16, 32), (true, 2, 2), (true, 3, 3), (true, 2, 8)].into_iter().enumerate() {
-        let (c, key) = (plain(even, n, k, 4096), draw.key(plain(even, n, k, 1)));
-        let (open, close) = SEASONS[i];
-        for c in [c, dated(c, open, close), dated(adding(c), open, close)] {
-            all.push(input(c, 0, &key).into_bytes());
-            all.push(input(c, k - 1, &key).into_bytes());
-        }
-        for (open, close) in [(open, close), (close, open), (open, open), (UNREAL[i], LAST), (FIRST, UNREAL[i])] {
-            for c in [c, Catalogue { n: 17, ..c }, Catalogue { k: 1, ..c }, Catalogue { s: 7, ..adding(c) }] {
-                all.push(input(dated(c, open, close), 0, &key).into_bytes());
-            }
-            let c = dated(c, open, close);
-            all.push(input(c, k, &key).into_bytes());
-            all.push(input(c, 0, &[&key[..], &[0]].concat()).into_bytes());
-            all.push(input(c, 0, &[&[99999], &key[1..]].concat()).into_bytes());
-            all.push(format!("{}\n", input(c, 0, &key)).into_bytes());
-        }
+    for (i, size) in [(Short, 2, 2), (Short, 3, 3), (Short, 16, 32), (Even, 2, 2), (Even, 3, 3), (Even, 2, 8)].into_iter().enumerate() {
+        printer_season(draw, all, i, size);
     }
-    let good = input(dated(plain(false, 3, 3, 4), A, B), 1, &[2, 0]);
+    let good = input(dated(plain(Short, 3, 3, 4), A, B), 1, &[2, 0]);
     let lines = season_text(&spelled(A), &spelled(B));
     for to in other_lines() {
         all.push(good.replacen(&lines, &to, 1).into_bytes());
@@ -936,6 +1052,26 @@ fn printer_seasons(draw: &mut Draw, all: &mut Vec<Bytes>) {
         all.push(good.replacen(&spelled(B), &spelled(*day), 1).into_bytes());
     }
     damaged(&good, &lines, all);
+}
+
+/// A catalogue with one of the seasons, and with faults of its dates.
+fn printer_season(draw: &mut Draw, all: &mut Vec<Bytes>, i: usize, (code, n, k): (Code, usize, usize)) {
+    let (c, key) = (plain(code, n, k, 4096), draw.key(plain(code, n, k, 1)));
+    let (open, close) = SEASONS[i];
+    for c in [c, dated(c, open, close), dated(adding(c), open, close)] {
+        all.push(input(c, 0, &key).into_bytes());
+        all.push(input(c, k - 1, &key).into_bytes());
+    }
+    for (open, close) in [(open, close), (close, open), (open, open), (UNREAL[i], LAST), (FIRST, UNREAL[i])] {
+        for c in [c, Catalogue { n: 17, ..c }, Catalogue { k: 1, ..c }, Catalogue { s: 7, ..adding(c) }] {
+            all.push(input(dated(c, open, close), 0, &key).into_bytes());
+        }
+        let c = dated(c, open, close);
+        all.push(input(c, k, &key).into_bytes());
+        all.push(input(c, 0, &[&key[..], &[0]].concat()).into_bytes());
+        all.push(input(c, 0, &[&[99999], &key[1..]].concat()).into_bytes());
+        all.push(format!("{}\n", input(c, 0, &key)).into_bytes());
+    }
 }
 
 /// The first and the last day of the calendar, and two days between them.
@@ -1002,30 +1138,15 @@ fn moved_lines() -> Vec<(String, String)> {
 /// Lengths in a catalogue's text, with the requests of the same catalogue without them (02, item 6). Then each fault of the lengths, with other
 /// refusals besides; other numbers of lines; the lines damaged and misplaced.
 fn printer_lengths(draw: &mut Draw, all: &mut Vec<Bytes>) {
-    for (i, (even, n, k)) in [(false, 2, 2), (false, 16, 32), (true, 3, 3), (true, 2, 8)].into_iter().enumerate() {
-        let (c, key) = (plain(even, n, k, 4096), draw.key(plain(even, n, k, 1)));
-        let (open, close) = SEASONS[i];
-        for c in [c, adding(c), dated(c, open, close), dated(adding(c), open, close)] {
-            all.push(input(with_some(c), i % k, &key).into_bytes());
-            all.push(input(c, i % k, &key).into_bytes());
-        }
-        all.push(input(with_some(adding(Catalogue { s: 7, ..c })), k, &key).into_bytes());
-        for c in [with_some(c), placed(with_some(c), k - 1, 0), placed(with_some(c), 0, pack_length(c) + 1), placed(with_some(c), k - 1, 9999999)] {
-            for c in [c, Catalogue { n: 17, ..c }, Catalogue { s: 7, ..adding(c) }] {
-                all.push(input(c, 0, &key).into_bytes());
-            }
-            all.push(input(c, k, &key).into_bytes());
-            all.push(input(c, 0, &[&key[..], &[0]].concat()).into_bytes());
-            all.push(input(c, 0, &[&[99999], &key[1..]].concat()).into_bytes());
-            all.push(format!("{}\n", input(c, 0, &key)).into_bytes());
-        }
+    for (i, size) in [(Short, 2, 2), (Short, 16, 32), (Even, 3, 3), (Even, 2, 8)].into_iter().enumerate() {
+        printer_length(draw, all, i, size);
     }
-    let many = [(7000, 7000), (7000, 6999)].map(|(k, count)| counted(plain(false, 2, k, 4), count));
+    let many = [(7000, 7000), (7000, 6999)].map(|(k, count)| counted(plain(Short, 2, k, 4), count));
     for text in counted_lines().into_iter().chain(late_faults()).chain(many) {
         all.push(format!("{text}wanted=0\nkey=0\n").into_bytes());
     }
     for numbers in [&[0, 0, 0][..], &[8, 9, 8], &[1, 0, 1], &[1, 8, 2], &[8], &[9], &[0]] {
-        let c = measured(plain(false, 3, numbers.len(), 4), numbers);
+        let c = measured(plain(Short, 3, numbers.len(), 4), numbers);
         all.push(input(c, 0, &[2, 0]).into_bytes());
         all.push(input(adding(c), c.k, &[3]).into_bytes());
     }
@@ -1039,6 +1160,26 @@ fn printer_lengths(draw: &mut Draw, all: &mut Vec<Bytes>) {
         all.push(good.replacen(from, to, 1).into_bytes());
     }
     damaged(&good, &length_text(&all_lines().lengths[..3]), all);
+}
+
+/// A catalogue with lengths, and with faults of them.
+fn printer_length(draw: &mut Draw, all: &mut Vec<Bytes>, i: usize, (code, n, k): (Code, usize, usize)) {
+    let (c, key) = (plain(code, n, k, 4096), draw.key(plain(code, n, k, 1)));
+    let (open, close) = SEASONS[i];
+    for c in [c, adding(c), dated(c, open, close), dated(adding(c), open, close)] {
+        all.push(input(with_some(c), i % k, &key).into_bytes());
+        all.push(input(c, i % k, &key).into_bytes());
+    }
+    all.push(input(with_some(adding(Catalogue { s: 7, ..c })), k, &key).into_bytes());
+    for c in [with_some(c), placed(with_some(c), k - 1, 0), placed(with_some(c), 0, pack_length(c) + 1), placed(with_some(c), k - 1, 9999999)] {
+        for c in [c, Catalogue { n: 17, ..c }, Catalogue { s: 7, ..adding(c) }] {
+            all.push(input(c, 0, &key).into_bytes());
+        }
+        all.push(input(c, k, &key).into_bytes());
+        all.push(input(c, 0, &[&key[..], &[0]].concat()).into_bytes());
+        all.push(input(c, 0, &[&[99999], &key[1..]].concat()).into_bytes());
+        all.push(format!("{}\n", input(c, 0, &key)).into_bytes());
+    }
 }
 
 /// Lengths for a catalogue's packs, the whole, then others that differ where there are bytes enough.
@@ -1058,7 +1199,7 @@ fn placed(mut c: Catalogue, place: usize, number: usize) -> Catalogue {
 
 /// A catalogue with every line that it may have; its lengths cut a piece, end one, and are the whole.
 fn all_lines() -> Catalogue {
-    measured(dated(adding(plain(false, 3, 3, 6)), A, B), &[7, 6, 12])
+    measured(dated(adding(plain(Short, 3, 3, 6)), A, B), &[7, 6, 12])
 }
 
 /// The text of a catalogue without lengths, and so many good lines `length=` after it.
@@ -1071,15 +1212,15 @@ fn counted_lines() -> Vec<String> {
     let short = [(2, 2), (31, 31), (31, 32), (32, 31), (32, 32), (32, 33), (32, 0), (33, 32), (33, 33), (33, 34), (33, 0), (40, 32), (40, 39), (40, 40),
         (40, 41), (0, 0), (0, 1), (1, 0), (1, 1), (1, 2), (2, 32), (99999, 3), (99999, 0)];
     let even = [(2, 8, 7), (2, 8, 8), (2, 8, 9), (2, 9, 8), (2, 9, 9), (16, 3, 2), (16, 3, 3), (17, 2, 1), (17, 2, 2), (0, 2, 3)];
-    let short = short.into_iter().map(|(k, count)| counted(plain(false, 2, k, 4), count));
-    short.chain(even.into_iter().map(|(n, k, count)| counted(plain(true, n, k, 4), count))).collect()
+    let short = short.into_iter().map(|(k, count)| counted(plain(Short, 2, k, 4), count));
+    short.chain(even.into_iter().map(|(n, k, count)| counted(plain(Even, n, k, 4), count))).collect()
 }
 
 /// Texts with good lines and then one with another number in it, which is out of form or out of range, among them a line more than a value has
 /// places for.
 fn late_faults() -> Vec<String> {
     let all = [(32, 31, "01"), (32, 32, "01"), (33, 32, "01"), (33, 32, "12345678"), (33, 32, "0"), (40, 39, ""), (1, 0, "01"), (0, 0, "01"), (99999, 1, "01")];
-    all.into_iter().map(|(k, count, last)| format!("{}length={last}\n", counted(plain(false, 2, k, 4), count))).collect()
+    all.into_iter().map(|(k, count, last)| format!("{}length={last}\n", counted(plain(Short, 2, k, 4), count))).collect()
 }
 
 /// What may stand in the place of a length and is none in form, so that it is 1.
@@ -1134,7 +1275,7 @@ fn fill_drawn(seed: u64, n: usize, out: &mut [u8]) {
 /// A key of the catalogue's code, and more of the same up to `length` bytes; for the seed 0, zeros or permutations in order.
 fn drawn_key(seed: u64, c: Catalogue, length: usize) -> Bytes {
     let mut out = vec![0; length];
-    if !c.even {
+    if c.code != Even {
         if seed > 0 {
             fill_drawn(seed, c.n, &mut out);
         }
@@ -1168,7 +1309,7 @@ fn shown_bytes(bytes: &[u8]) -> String {
 
 /// A catalogue as a line gives it, whose dates and lengths other lines set.
 fn given(c: Catalogue) -> String {
-    format!("{} {} {} {} {}", c.even as u8, c.n, c.k, c.s, c.add as u8)
+    format!("{} {} {} {} {}", c.code as u8, c.n, c.k, c.s, c.add as u8)
 }
 
 fn shown_catalogue(c: Catalogue) -> String {
@@ -1230,7 +1371,8 @@ impl Bench {
 
     /// A line of a letter and numbers; those that make no call print nothing.
     fn line(&mut self, letter: &str, [a, b, c, d, e]: [usize; 5]) -> String {
-        let cat = Catalogue { even: a != 0, n: b, k: c, s: d, add: e != 0, ..self.next };
+        let code = CODES.get(a).map_or(Short, |&(code, _)| code);
+        let cat = Catalogue { code, n: b, k: c, s: d, add: e != 0, ..self.next };
         match letter {
             "c" => return self.catalogue(cat),
             "f" => self.next.open = [a, b, c],
@@ -1353,7 +1495,7 @@ impl Bench {
     }
 }
 
-/// What the program `conformance` must print for an input.
+/// What a program must print for an input.
 fn expected(input: &[u8]) -> Bytes {
     let (mut bench, mut out, mut at) = (Bench::new(), Vec::new(), 0);
     while at < input.len() {
@@ -1379,12 +1521,13 @@ fn expected(input: &[u8]) -> Bytes {
 
 // ---------------------------------------------------------------- cases for the conformance program: its lines
 
-fn some_short(packs: &[usize]) -> Vec<Catalogue> {
-    (2..=16).flat_map(|n| packs.iter().map(move |&k| plain(false, n, k, 1))).collect()
+/// A spread of a code whose packs may be up to 32.
+fn some(code: Code, packs: &[usize]) -> Vec<Catalogue> {
+    (2..=16).flat_map(|n| packs.iter().map(move |&k| plain(code, n, k, 1))).collect()
 }
 
 fn all_even() -> Vec<Catalogue> {
-    let pairs = (2..=16).flat_map(|n| (2..=8).map(move |k| plain(true, n, k, 1)));
+    let pairs = (2..=16).flat_map(|n| (2..=8).map(move |k| plain(Even, n, k, 1)));
     pairs.filter(|&c| within(c)).collect()
 }
 
@@ -1492,21 +1635,28 @@ impl Cases {
         self.put(format!("k {key} {}", key_length(c)));
     }
 
+    /// A good text, written into each of these rooms, and at the start of more.
+    fn written(&mut self, text: &str, rooms: &[usize], more: &[&str]) {
+        self.text(text.as_bytes());
+        for room in rooms {
+            self.put(format!("w {room}"));
+        }
+        for more in more {
+            self.text(format!("{text}{more}").as_bytes());
+        }
+    }
+
     /// Catalogue texts, good and damaged, and writing them with the room that they need, less and more.
     fn texts(&mut self) {
         self.put("# texts".to_string());
-        for (even, n, k, s) in [(false, 2, 2, 1), (false, 16, 32, 4096), (true, 2, 8, 128), (true, 16, 2, 10), (false, 3, 3, 4)] {
-            let text = write_text(plain(even, n, k, s));
-            self.text(text.as_bytes());
-            for room in [text.len(), text.len() - 1, text.len() + 3, 0] {
-                self.put(format!("w {room}"));
-            }
-            self.text(&[text.as_bytes(), b"wanted=0\n"].concat());
+        for (code, n, k, s) in [(Short, 2, 2, 1), (Short, 16, 32, 4096), (Even, 2, 8, 128), (Even, 16, 2, 10), (Short, 3, 3, 4)] {
+            let text = write_text(plain(code, n, k, s));
+            self.written(&text, &[text.len(), text.len() - 1, text.len() + 3, 0], &["wanted=0\n"]);
         }
         self.text(b"code=short\nmirrors=17\npacks=3\npiece=4\n");
         self.put("w 100".to_string());
         self.text(b"code=even\nmirrors=99999\npacks=99999\npiece=99999\n\n");
-        let good = write_text(plain(false, 3, 12, 40));
+        let good = write_text(plain(Short, 3, 12, 40));
         for (from, to) in [("short", "Short"), ("short", "shorts"), ("short", ""), ("mirrors=3", "mirrors=03"), ("mirrors=3", "mirrors="),
             ("mirrors=3", "mirrors=0"), ("mirrors=3", "mirrors=+3"), ("mirrors=3", " mirrors=3"), ("mirrors=3", "mirrors=3 "), ("packs=12", "packs=00"),
             ("packs=12", "packs=000012"), ("packs=12", "packs=100012"), ("packs=12", "packs=1x"), ("piece=40\n", "piece=40"), ("piece=40\n", "piece=40\r\n"),
@@ -1521,17 +1671,12 @@ impl Cases {
     /// Texts with a line of the sum (02, item 2): good, damaged, misplaced, and before more lines; with a fault of the value besides.
     fn sum_texts(&mut self) {
         self.put("# texts with a sum".to_string());
-        for (even, n, k, s) in [(false, 2, 2, 2), (false, 16, 32, 4096), (true, 2, 8, 128), (true, 16, 2, 10), (false, 3, 3, 4)] {
-            let text = write_text(adding(plain(even, n, k, s)));
-            self.text(text.as_bytes());
-            for room in [text.len(), text.len() - 1, text.len() - 8, text.len() + 3] {
-                self.put(format!("w {room}"));
-            }
-            for more in ["wanted=0\n", "sum=add\n", "sum=xor\n", "s", "\n"] {
-                self.text(format!("{text}{more}").as_bytes());
-            }
+        for (code, n, k, s) in [(Short, 2, 2, 2), (Short, 16, 32, 4096), (Even, 2, 8, 128), (Even, 16, 2, 10), (Short, 3, 3, 4)] {
+            let text = write_text(adding(plain(code, n, k, s)));
+            let rooms = [text.len(), text.len() - 1, text.len() - 8, text.len() + 3];
+            self.written(&text, &rooms, &["wanted=0\n", "sum=add\n", "sum=xor\n", "s", "\n"]);
         }
-        let good = write_text(adding(plain(false, 3, 12, 40)));
+        let good = write_text(adding(plain(Short, 3, 12, 40)));
         for to in OTHER_SUMS {
             self.text(good.replacen("sum=add\n", to, 1).as_bytes());
         }
@@ -1546,28 +1691,28 @@ impl Cases {
     fn bounds(&mut self) {
         self.put("# bounds".to_string());
         for n in [0, 1, 2, 16, 17, 99999] {
-            self.catalogue(plain(false, n, 5, 9));
-            self.catalogue(plain(true, n, 2, 9));
-            self.catalogue(plain(false, n, 1, 9));
-            self.catalogue(plain(true, n, 1, 9));
+            self.catalogue(plain(Short, n, 5, 9));
+            self.catalogue(plain(Even, n, 2, 9));
+            self.catalogue(plain(Short, n, 1, 9));
+            self.catalogue(plain(Even, n, 1, 9));
         }
         for k in [0, 1, 2, 32, 33, 99999] {
-            self.catalogue(plain(false, 3, k, 9));
+            self.catalogue(plain(Short, 3, k, 9));
         }
         for s in [0, 1, 4096, 4097, 99999] {
-            self.catalogue(plain(false, 3, 2, s));
-            self.catalogue(plain(true, 3, 2, s));
+            self.catalogue(plain(Short, 3, 2, s));
+            self.catalogue(plain(Even, 3, 2, s));
         }
         for s in [0, 1, 2, 3, 4094, 4095, 4096, 4097, 4098, 99999] {
-            for (even, n, k) in [(false, 3, 2), (true, 3, 2), (false, 3, 1), (true, 17, 2)] {
-                self.catalogue(adding(plain(even, n, k, s)));
+            for (code, n, k) in [(Short, 3, 2), (Even, 3, 2), (Short, 3, 1), (Even, 17, 2)] {
+                self.catalogue(adding(plain(code, n, k, s)));
             }
         }
         for n in 2..=16usize {
             for k in 0..=9 {
                 let near = |k: usize| n.saturating_pow(k as u32) <= 256;
                 if near(k) || k > 0 && near(k - 1) {
-                    self.catalogue(plain(true, n, k, 4096));
+                    self.catalogue(plain(Even, n, k, 4096));
                 }
             }
         }
@@ -1610,32 +1755,39 @@ impl Cases {
     fn fetches(&mut self) {
         self.put("# fetches".to_string());
         let sizes = [1, 2, 4096, 3, 33, 4096, 256, 1000];
-        for (i, c) in all_even().into_iter().chain(some_short(&[2, 3, 8, 31, 32])).enumerate() {
-            let c = fitted(c, sizes[i % sizes.len()]);
-            self.catalogue(c);
-            let (store, other) = (1 + self.draw.below(9999), self.draw.below(c.k));
-            self.put(format!("s {store} {}", c.k * pack_length(c)));
-            for wanted in (0..c.k).filter(|&w| c.even || w == 0 || w == c.k / 2 || w + 1 == c.k) {
-                let key = 1 + self.draw.below(9999);
-                self.put(format!("k {key} {}\nx {wanted}", key_length(c)));
-            }
-            self.put(format!("k 0 {}\nx {other}\nx {}", key_length(c), c.k));
+        for (i, c) in all_even().into_iter().chain(some(Short, &[2, 3, 8, 31, 32])).enumerate() {
+            self.fetches_of(fitted(c, sizes[i % sizes.len()]));
         }
+    }
+
+    fn fetches_of(&mut self, c: Catalogue) {
+        self.catalogue(c);
+        let (store, other) = (1 + self.draw.below(9999), self.draw.below(c.k));
+        self.put(format!("s {store} {}", c.k * pack_length(c)));
+        for wanted in (0..c.k).filter(|&w| c.code == Even || w == 0 || w == c.k / 2 || w + 1 == c.k) {
+            let key = 1 + self.draw.below(9999);
+            self.put(format!("k {key} {}\nx {wanted}", key_length(c)));
+        }
+        self.put(format!("k 0 {}\nx {other}\nx {}", key_length(c), c.k));
     }
 
     /// Whole fetches of servers that add: every (N, K) of the even code and a spread of the short one, the first, a middle or the last pack; the
     /// answer buffer is full of ones before, so that an empty answer's slot is not zeros.
     fn added_fetches(&mut self) {
         self.put("# fetches by addition\nz 255".to_string());
-        let sizes = [2, 4096, 4, 34, 4096, 256, 1000, 6];
-        for (i, c) in all_even().into_iter().chain(some_short(&[2, 3, 32])).enumerate() {
-            let c = fitted(adding(c), sizes[i % sizes.len()]);
-            self.catalogue(c);
-            let store = 1 + self.draw.below(9999);
-            let wanted = [0, c.k / 2, c.k - 1][i % 3];
-            let key = 1 + self.draw.below(9999);
-            self.put(format!("s {store} {}\nk {key} {1}\nx {wanted}\nk 0 {1}\nx {2}", c.k * pack_length(c), key_length(c), c.k - 1 - wanted));
+        for (i, c) in all_even().into_iter().chain(some(Short, &[2, 3, 32])).enumerate() {
+            self.added_fetches_of(i, c);
         }
+    }
+
+    fn added_fetches_of(&mut self, i: usize, c: Catalogue) {
+        let sizes = [2, 4096, 4, 34, 4096, 256, 1000, 6];
+        let c = fitted(adding(c), sizes[i % sizes.len()]);
+        self.catalogue(c);
+        let store = 1 + self.draw.below(9999);
+        let wanted = [0, c.k / 2, c.k - 1][i % 3];
+        let key = 1 + self.draw.below(9999);
+        self.put(format!("s {store} {}\nk {key} {1}\nx {wanted}\nk 0 {1}\nx {2}", c.k * pack_length(c), key_length(c), c.k - 1 - wanted));
     }
 
     /// Whole fetches by keys whose sums come to N, or nearly, on the way (02, item 3): every key of one digit, those of two that sum up to N, and, of 3
@@ -1650,7 +1802,7 @@ impl Cases {
             };
             let mut last = 0;
             for key in sum_keys(n).into_iter().filter(chosen) {
-                let c = plain(false, n, key.len() + 1, 1);
+                let c = plain(Short, n, key.len() + 1, 1);
                 if last != key.len() {
                     self.catalogue(c);
                     self.lend(c);
@@ -1665,6 +1817,122 @@ impl Cases {
         }
     }
 
+    /// Texts of the turning code (02, item 4): good with each line that it may have, written, before more lines; out of bounds; other words.
+    fn turn_texts(&mut self) {
+        self.put("# texts of the turning code".to_string());
+        let (least, most) = (plain(Turn, 2, 2, 1), plain(Turn, 16, 32, 4096));
+        let (good, middle) = (plain(Turn, 3, 3, 4), plain(Turn, 5, 2, 6));
+        for c in [least, adding(most), good, dated(good, A, B), with_some(dated(adding(middle), A, B))] {
+            let text = write_text(c);
+            self.written(&text, &[text.len(), text.len() - 1, text.len() + 3, 0], &["wanted=0\n"]);
+        }
+        for c in [Catalogue { n: 17, ..least }, Catalogue { k: 33, ..most }, Catalogue { k: 1, ..least }, adding(least), measured(good, &[8, 9, 8])] {
+            self.text(write_text(c).as_bytes());
+        }
+        let text = write_text(good);
+        for line in OTHER_CODES {
+            self.text(text.replacen("code=turn\n", line, 1).as_bytes());
+        }
+        self.damaged(&text, "code=turn\n");
+    }
+
+    /// Each bound of the turning code from both sides, and its sizes for every N.
+    fn turn_bounds(&mut self) {
+        self.put("# bounds of the turning code".to_string());
+        for (n, k) in [0, 1, 17, 99999].into_iter().flat_map(|n| [(n, 5), (n, 1)]) {
+            self.catalogue(plain(Turn, n, k, 9));
+        }
+        for (n, k) in (2..=16).map(|n| (n, 2 + n * 7 % 30)).chain([0, 1, 2, 31, 32, 33, 99999].map(|k| (3, k))) {
+            self.catalogue(plain(Turn, n, k, 9));
+        }
+        for s in [0, 1, 2, 4095, 4096, 4097, 99999] {
+            self.catalogue(plain(Turn, 3, 2, s));
+            self.catalogue(adding(plain(Turn, 3, 2, s)));
+        }
+        self.catalogue(adding(plain(Turn, 3, 1, 3)));
+    }
+
+    /// Every row of two digits below 4 at each of three mirrors, so that digits of 3 are refused and no sum of the others is; rows of other lengths; in
+    /// a row of 32, digits at their bound and beyond, in the first, a middle and the last place; and one mirror's request at all others.
+    fn turn_rows(&mut self) {
+        self.put("# rows of the turning code".to_string());
+        let (c, last) = (plain(Turn, 3, 2, 1), plain(Turn, 16, 32, 1));
+        self.catalogue(c);
+        self.lend(c);
+        for x in 0..16 {
+            self.put(format!("q 0 {}\nq 1 {}\na 0 2 1\na 1 2 1\na 2 2 1", x / 4, x % 4));
+        }
+        self.put("q 0 1\nq 1 2\nq 2 0\na 0 1 1\na 0 3 1\na 1 0 1\na 3 2 1\nq 1 255\na 1 2 1".to_string());
+        self.catalogue(last);
+        self.lend(last);
+        self.put("b 7\ni 5 32".to_string());
+        for mirror in 0..16 {
+            self.put(format!("a {mirror} 32 1"));
+        }
+        for (place, digit) in [0, 13, 31].into_iter().flat_map(|place| [15, 16, 255, 0].map(|digit| (place, digit))) {
+            self.put(format!("q {place} {digit}\na {} 32 1", place % 16));
+        }
+    }
+
+    /// Whole fetches by every turn of every N, in both sums: the other digits zeros, so that each mirror once has the empty answer and its slot bytes
+    /// from before; then one of them another.
+    fn turns(&mut self) {
+        self.put("# turns\nz 255".to_string());
+        for (n, add) in (2..=16).flat_map(|n| [(n, false), (n, true)]) {
+            let k = 2 + (n + add as usize) % 3;
+            let c = Catalogue { add, ..plain(Turn, n, k, 1 + add as usize) };
+            self.catalogue(c);
+            self.put(format!("s {} {}", n + k, k * pack_length(c)));
+            for turn in 0..n {
+                let (wanted, place, digit) = (self.draw.below(k), self.draw.below(k - 1), 1 + self.draw.below(n - 1));
+                self.put(format!("k 0 {k}\no {} {turn}\nx {wanted}\no {place} {digit}\nx {wanted}", k - 1));
+            }
+        }
+    }
+
+    /// The empty answer at every mirror of every N: a whole one is refused there with 10, no bytes are taken. Of up to four mirrors all calls of the
+    /// fetch, at every mirror with an answer of either length, and what is recovered from a buffer full of other bytes. Then a turn of N.
+    fn empty_answers(&mut self) {
+        self.put("# empty answers\nz 90".to_string());
+        for n in 2..=16 {
+            let c = plain(Turn, n, 2, 1);
+            self.catalogue(c);
+            self.put(format!("s {n} {}\nk 0 2", 2 * (n - 1)));
+            for turn in 0..n {
+                // the mirror that so many steps bring to the start of the circle
+                let mirror = (0..n).cycle().skip(turn).position(|part| part == 0).unwrap();
+                self.put(format!("o 1 {turn}\nb {}\ni {mirror} 2\nh {mirror} 1 {n}\nh {mirror} 0 {n}", turn % 2));
+                for other in (0..n).filter(|_| n < 5) {
+                    self.put(format!("i {other} 2\na {other} 2 1\nh {other} 1 {n}\nh {other} 0 {n}"));
+                }
+                if n < 5 {
+                    self.put(format!("r {n} {0}\nh {mirror} 0 {n}\nr {n} {0}\nz {1}", n - 1, 91 + turn));
+                }
+            }
+            self.put(format!("o 1 {n}\nb 1"));
+        }
+        // a digit short and one too many come before a bad digit
+        self.put("k 0 1\no 0 16\nb 0\nk 0 3\no 1 16\nb 0".to_string());
+    }
+
+    /// Whole fetches of the turning code as of the short one: a spread of K, in both sums; in season and out of it; packs with lengths.
+    fn turn_fetches(&mut self) {
+        self.put("# fetches of the turning code".to_string());
+        let sizes = [1, 4096, 3, 33, 1000];
+        for (i, c) in some(Turn, &[2, 31]).into_iter().enumerate() {
+            self.fetches_of(fitted(c, sizes[i % sizes.len()]));
+        }
+        for (i, c) in some(Turn, &[3, 32]).into_iter().enumerate() {
+            self.added_fetches_of(i, c);
+        }
+        for (i, (n, k, s)) in [(2, 2, 1), (3, 3, 4096), (16, 32, 2)].into_iter().enumerate() {
+            self.season_fetches_of(i, plain(Turn, n, k, s));
+        }
+        for c in [plain(Turn, 4, 3, 5), adding(plain(Turn, 3, 2, 4))] {
+            self.cut_fetches(c, &ends(c));
+        }
+    }
+
     /// Single words added and taken away again: a carry from the low byte into the high one and none beyond, the wrap at 65,536, a borrow, and bytes
     /// that are no words of exclusive or; in both codes, and by each key of the short one.
     fn words(&mut self) {
@@ -1672,7 +1940,7 @@ impl Cases {
         for (x, y) in [(0x00FF, 0x0001), (0xFFFF, 0x0001), (0xFFFF, 0xFFFF), (0x8000, 0x8000), (0xFF00, 0x0100), (0x0100, 0x00FF), (0x1234, 0xABCD), (0, 0)] {
             for s in [2, 4] {
                 // each pack's first word, and zeros after it
-                self.catalogue(adding(plain(false, 2, 2, s)));
+                self.catalogue(adding(plain(Short, 2, 2, s)));
                 self.put(format!("s 0 {}\nz 255", 2 * s));
                 let bytes: [usize; 4] = [x & 255, x >> 8, y & 255, y >> 8];
                 for (place, byte) in [0, 1, s, s + 1].into_iter().zip(bytes) {
@@ -1687,7 +1955,7 @@ impl Cases {
                 }
             }
         }
-        self.catalogue(adding(plain(true, 2, 2, 2)));
+        self.catalogue(adding(plain(Even, 2, 2, 2)));
         self.put("s 9 16\nk 0 8\nx 0\nx 1\nk 3 8\nx 0\nx 1".to_string());
         for place in 0..16 {
             self.put(format!("d {place} {}", if place < 8 { 255 } else { place % 2 * 254 + 1 }));
@@ -1715,9 +1983,11 @@ impl Cases {
             self.put(format!("k 3 {length}\nb 0\nb {}", c.k));
         }
         self.put(format!("k 3 {}", key_length(c)));
-        let most = if c.even { pieces(c) } else { c.n };
-        for value in [most - 1, most, 255] {
-            self.put(format!("k 3 {}\no 0 {value}\nb 0", key_length(c)));
+        let most = ceiling(c);
+        for place in [Some(0), (c.code == Turn).then(|| key_length(c) - 1)].into_iter().flatten() {
+            for value in [most - 1, most, 255] {
+                self.put(format!("k 3 {}\no {place} {value}\nb 0", key_length(c)));
+            }
         }
         self.put(format!("k 3 {}\nb 0", key_length(c)));
         // issue: 3, 9, and an issue again; answering: 3, 7, 8, 9
@@ -1729,6 +1999,13 @@ impl Cases {
         for length in [stored + 1, stored - 1, 0, stored] {
             self.put(format!("s 7 {length}\ni {last} {asked}\na {last} {asked} {}", slot(c)));
         }
+        self.refused_answers(c);
+        self.fields(c, asked, slots, pack);
+    }
+
+    /// Take and recover of a session that has issued the last mirror's request, which has been answered.
+    fn refused_answers(&mut self, c: Catalogue) {
+        let (asked, slots, pack, last) = (request_length(c), c.n * slot(c), pack_end(c, 0), c.n - 1);
         // take: 3, 9, 10, 11, and a second one
         self.put(format!("h 0 {} {slots}", slot(c)));
         self.put(format!("h {last} {0} {slots}\nh {last} {1} {slots}\nh {2} {0} {slots}\nh {last} {0} {3}", slot(c) + 1, slot(c) - 1, c.n, slots - 1));
@@ -1739,7 +2016,6 @@ impl Cases {
             self.put(format!("r {slots} {pack}\ni {mirror} {asked}\na {mirror} {asked} {0}\nh {mirror} {0} {slots}\nh {mirror} 0 {slots}", slot(c)));
         }
         self.put(format!("r {} {pack}\nr {slots} {}\nr {slots} {pack}\nr {slots} {}", slots - 1, pack - 1, pack + 1));
-        self.fields(c, asked, slots, pack);
     }
 
     /// Every field of a session set to what no history gives: 2, 17, 4, 6, 11 of each call, and the places that are not used.
@@ -1747,7 +2023,7 @@ impl Cases {
         let calls = format!("i 0 {asked}\nh 0 {} {slots}\nr {slots} {pack}", slot(c));
         let set_cat = |n: usize, k: usize, s: usize| format!("g {}", given(Catalogue { n, k, s, ..c }));
         self.optional(c);
-        let most = if c.even { pieces(c) } else { c.n };
+        let most = ceiling(c);
         let mut sets = vec![
             (set_cat(17, c.k, c.s), set_cat(c.n, c.k, c.s)),
             (set_cat(c.n, 0, c.s), set_cat(c.n, c.k, c.s)),
@@ -1759,6 +2035,11 @@ impl Cases {
             ("y 2047 9".to_string(), "y 2047 0".to_string()),
             (format!("y 0 {most}"), format!("y 0 {}", most - 1)),
         ];
+        if c.code == Turn {
+            let (turn, unused) = (c.k - 1, c.k);
+            sets.push((format!("y {turn} {most}"), format!("y {turn} 1")));
+            sets.push((format!("y {unused} 255"), format!("y {unused} 0")));
+        }
         if c.n < 16 {
             sets.push((format!("u {} 1", c.n), format!("u {} 0", c.n)));
             sets.push(("j 15 1".to_string(), "j 15 0".to_string()));
@@ -1813,7 +2094,7 @@ impl Cases {
         let (asked, room) = (request_length(like), slot(like));
         let lend = |length: usize| {
             // a key is drawn for an admitted catalogue alone; else its entries are set: zeros, or permutations in order
-            let entries: String = (0..key).map(|i| format!("\no {i} {}", if like.even { i % pieces(like) } else { 0 })).collect();
+            let entries: String = (0..key).map(|i| format!("\no {i} {}", if like.code == Even { i % pieces(like) } else { 0 })).collect();
             format!("k 0 {length}{}", if admitted(like) { "" } else { entries.as_str() })
         };
         self.catalogue(c);
@@ -1866,19 +2147,15 @@ impl Cases {
     /// Texts with the lines of a season (02, item 1): good, written, before more lines, and then in calls; damaged and misplaced.
     fn season_texts(&mut self) {
         self.put("# texts with a season".to_string());
-        for (i, (even, n, k, s)) in [(false, 2, 2, 2), (false, 16, 32, 4096), (true, 2, 8, 128), (true, 16, 2, 10)].into_iter().enumerate() {
+        for (i, (code, n, k, s)) in [(Short, 2, 2, 2), (Short, 16, 32, 4096), (Even, 2, 8, 128), (Even, 16, 2, 10)].into_iter().enumerate() {
             let (open, close) = SEASONS[i];
-            let text = write_text(Catalogue { add: i % 2 == 1, ..dated(plain(even, n, k, s), open, close) });
-            self.text(text.as_bytes());
-            for room in [text.len(), text.len() - 1, text.len() - 33, text.len() + 3] {
-                self.put(format!("w {room}"));
-            }
-            for more in ["wanted=0\n", "open=2024-01-01\nclose=2025-01-01\n", "open=", "close=2025-01-01\n", "sum=add\n", "sum=xor\n"] {
-                self.text(format!("{text}{more}").as_bytes());
-            }
+            let text = write_text(Catalogue { add: i % 2 == 1, ..dated(plain(code, n, k, s), open, close) });
+            let rooms = [text.len(), text.len() - 1, text.len() - 33, text.len() + 3];
+            let more = ["wanted=0\n", "open=2024-01-01\nclose=2025-01-01\n", "open=", "close=2025-01-01\n", "sum=add\n", "sum=xor\n"];
+            self.written(&text, &rooms, &more);
         }
         // the dates of a text in calls
-        for (c, (open, close)) in [plain(false, 3, 3, 4), adding(plain(true, 2, 3, 2))].into_iter().zip(SEASONS) {
+        for (c, (open, close)) in [plain(Short, 3, 3, 4), adding(plain(Even, 2, 3, 2))].into_iter().zip(SEASONS) {
             self.text(write_text(dated(c, open, close)).as_bytes());
             self.lend(c);
             for day in [open, close, NO_DAY] {
@@ -1886,7 +2163,7 @@ impl Cases {
                 self.put("b 2\nx 1".to_string());
             }
         }
-        let good = write_text(dated(plain(false, 3, 3, 4), A, B));
+        let good = write_text(dated(plain(Short, 3, 3, 4), A, B));
         let lines = season_text(&spelled(A), &spelled(B));
         for to in other_lines() {
             self.text(good.replacen(&lines, &to, 1).as_bytes());
@@ -1901,7 +2178,7 @@ impl Cases {
     /// too many besides.
     fn day_texts(&mut self) {
         self.put("# days in texts".to_string());
-        let (short, even) = (plain(false, 2, 2, 2), plain(true, 2, 2, 2));
+        let (short, even) = (plain(Short, 2, 2, 2), plain(Even, 2, 2, 2));
         for &day in UNREAL.iter().chain(&EDGES) {
             self.text(write_text(dated(short, day, LAST)).as_bytes());
             self.text(write_text(dated(even, FIRST, day)).as_bytes());
@@ -1935,7 +2212,7 @@ impl Cases {
         self.catalogue(c);
         self.lend(c);
         let single = UNREAL.iter().chain(&HUGE).chain(&EDGES).chain([&NO_DAY]).enumerate();
-        let single = single.map(|(i, &day)| if (i % 2 == 0) == c.even { (day, LAST) } else { (FIRST, day) });
+        let single = single.map(|(i, &day)| if (i % 2 == 0) == (c.code == Even) { (day, LAST) } else { (FIRST, day) });
         let pairs = PAIRS.into_iter().flat_map(|(a, b)| [(a, b), (b, a), (a, a)]);
         for (open, close) in single.chain(pairs).chain(PARTS) {
             self.catalogue(dated(c, open, close));
@@ -1976,7 +2253,7 @@ impl Cases {
     /// Days near the ends of each season, and the same days of other years; real and unreal days and the ends of the months in a season of all days;
     /// all of these without a season.
     fn days(&mut self) {
-        let codes = [adding(plain(false, 2, 2, 2)), plain(true, 2, 2, 2)];
+        let codes = [adding(plain(Short, 2, 2, 2)), plain(Even, 2, 2, 2)];
         for (i, (open, close)) in SEASONS.into_iter().enumerate() {
             let near = [open, close].into_iter().flat_map(|day| [-1, 0, 1].map(|by| (day, by)));
             let mut days: Vec<Day> = near.filter(|pair| ![(FIRST, -1), (LAST, 1)].contains(pair)).map(|(day, by)| later(day, by)).collect();
@@ -2033,20 +2310,24 @@ impl Cases {
     /// Whole fetches on the first and on the last day of a season, on the days beside it, and on no real day.
     fn season_fetches(&mut self) {
         self.put("# fetches in season and out of it\nz 255".to_string());
-        let even = [(2, 2, 3), (3, 2, 34), (2, 8, 2), (4, 3, 4), (16, 2, 6)].map(|(n, k, s)| plain(true, n, k, s));
-        let short = [(2, 2, 1), (3, 3, 4096), (16, 32, 2), (5, 4, 7), (7, 31, 6)].map(|(n, k, s)| plain(false, n, k, s));
+        let even = [(2, 2, 3), (3, 2, 34), (2, 8, 2), (4, 3, 4), (16, 2, 6)].map(|(n, k, s)| plain(Even, n, k, s));
+        let short = [(2, 2, 1), (3, 3, 4096), (16, 32, 2), (5, 4, 7), (7, 31, 6)].map(|(n, k, s)| plain(Short, n, k, s));
         for (i, c) in even.into_iter().chain(short).enumerate() {
-            let (open, close) = [SEASONS[0], SEASONS[1], SEASONS[2], SEASONS[4], SEASONS[5], SEASONS[6], SEASONS[7]][i % 7];
-            let c = dated(Catalogue { add: c.s % 2 == 0, ..c }, open, close);
-            self.catalogue(c);
-            self.lend(c);
-            for day in [open, later(close, -1), close, later(open, -1), UNREAL[i]] {
-                self.today(day);
-                let wanted = self.draw.below(c.k);
-                self.put(format!("x {wanted}"));
-            }
-            self.put(format!("x {}", c.k));
+            self.season_fetches_of(i, c);
         }
+    }
+
+    fn season_fetches_of(&mut self, i: usize, c: Catalogue) {
+        let (open, close) = [SEASONS[0], SEASONS[1], SEASONS[2], SEASONS[4], SEASONS[5], SEASONS[6], SEASONS[7]][i % 7];
+        let c = dated(Catalogue { add: c.s % 2 == 0, ..c }, open, close);
+        self.catalogue(c);
+        self.lend(c);
+        for day in [open, later(close, -1), close, later(open, -1), UNREAL[i]] {
+            self.today(day);
+            let wanted = self.draw.below(c.k);
+            self.put(format!("x {wanted}"));
+        }
+        self.put(format!("x {}", c.k));
     }
 
     /// Fetches whose calls come on days in season and out of it: begun, taken and recovered out of it; issued in it and asked out of it, and the other
@@ -2080,24 +2361,19 @@ impl Cases {
     /// Texts with lengths (02, item 6), in both codes and sums, with dates and without: good, written, before more lines, with other numbers of lines.
     fn length_texts(&mut self) {
         self.put("# texts with lengths".to_string());
-        let codes = [plain(false, 3, 3, 4), plain(true, 2, 2, 2)];
+        let codes = [plain(Short, 3, 3, 4), plain(Even, 2, 2, 2)];
         for c in codes.into_iter().flat_map(|c| [c, adding(c), dated(c, A, B), dated(adding(c), A, B)]) {
             let text = write_text(with_some(c));
-            self.text(text.as_bytes());
-            for room in [text.len(), text.len() - 1, text.len() - 9, text.len() + 3, 0] {
-                self.put(format!("w {room}"));
-            }
-            for more in ["wanted=0\n", "length=1\n", if c.add { "length=" } else { "lengt" }] {
-                self.text(format!("{text}{more}").as_bytes());
-            }
+            let rooms = [text.len(), text.len() - 1, text.len() - 9, text.len() + 3, 0];
+            self.written(&text, &rooms, &["wanted=0\n", "length=1\n", if c.add { "length=" } else { "lengt" }]);
             for count in [0, 1, c.k - 1, 2 * c.k] {
-                self.text(format!("{}{}", counted(c, count), if c.even { "wanted=0\n" } else { "" }).as_bytes());
+                self.text(format!("{}{}", counted(c, count), if c.code == Even { "wanted=0\n" } else { "" }).as_bytes());
             }
         }
         for text in moved_lengths() {
             self.text(text.as_bytes());
         }
-        let good = write_text(measured(dated(adding(plain(false, 3, 2, 6)), A, B), &[7, 12]));
+        let good = write_text(measured(dated(adding(plain(Short, 3, 2, 6)), A, B), &[7, 12]));
         for (from, to) in [("", ""), ("packs=2", "packs=000002"), ("piece=6", "piece=0000006"), ("mirrors=3", "mirrors=100003")] {
             self.text(good.replacen(from, to, 1).as_bytes());
         }
@@ -2114,13 +2390,10 @@ impl Cases {
         for text in late_faults() {
             self.text(text.as_bytes());
         }
-        self.text(counted(plain(false, 2, 33, 4), 33).trim_end().as_bytes());
-        for c in [plain(false, 2, 32, 4), adding(plain(false, 16, 32, 4096)), plain(true, 2, 8, 4096)] {
+        self.text(counted(plain(Short, 2, 33, 4), 33).trim_end().as_bytes());
+        for c in [plain(Short, 2, 32, 4), adding(plain(Short, 16, 32, 4096)), plain(Even, 2, 8, 4096)] {
             let text = write_text(with_some(c));
-            self.text(text.as_bytes());
-            for room in [text.len(), text.len() - 1, text.len() + 1] {
-                self.put(format!("w {room}"));
-            }
+            self.written(&text, &[text.len(), text.len() - 1, text.len() + 1], &[]);
         }
     }
 
@@ -2128,8 +2401,8 @@ impl Cases {
     /// with a single pack or an odd piece besides; out of form.
     fn number_texts(&mut self) {
         self.put("# lengths in texts".to_string());
-        for (even, n, k, s) in [(false, 3, 3, 4), (false, 2, 2, 1), (true, 2, 8, 4096), (true, 3, 2, 3641), (false, 16, 3, 4096)] {
-            let c = with_some(plain(even, n, k, s));
+        for (code, n, k, s) in [(Short, 3, 3, 4), (Short, 2, 2, 1), (Even, 2, 8, 4096), (Even, 3, 2, 3641), (Short, 16, 3, 4096)] {
+            let c = with_some(plain(code, n, k, s));
             let whole = pack_length(c);
             for (i, number) in [0, 1, whole - 1, whole, whole + 1, 99999, 100000, 9999999, 10000000].into_iter().enumerate() {
                 self.text(write_text(placed(c, i * (k - 1) % k, number)).as_bytes());
@@ -2139,14 +2412,14 @@ impl Cases {
                 self.text(write_text(placed(c, place, whole + 1)).as_bytes());
             }
         }
-        let (one, odd) = (plain(false, 2, 1, 4), adding(plain(true, 2, 2, 3)));
-        for c in [one, plain(true, 2, 1, 3), adding(plain(false, 3, 1, 3)), odd, plain(true, 2, 2, 3), plain(false, 1, 2, 4), plain(false, 2, 2, 4097)] {
+        let (one, odd) = (plain(Short, 2, 1, 4), adding(plain(Even, 2, 2, 3)));
+        for c in [one, plain(Even, 2, 1, 3), adding(plain(Short, 3, 1, 3)), odd, plain(Even, 2, 2, 3), plain(Short, 1, 2, 4), plain(Short, 2, 2, 4097)] {
             let (start, whole) = (write_text(c), (c.n - 1) * c.s);
             for number in ["0", "1", &whole.to_string(), "9999", "9999999", "01"] {
                 self.text(format!("{start}{}", length_text(&vec![number; c.k])).as_bytes());
             }
         }
-        for text in other_lengths(measured(plain(false, 3, 3, 6), &[7, 6, 12])) {
+        for text in other_lengths(measured(plain(Short, 3, 3, 6), &[7, 6, 12])) {
             self.text(text.as_bytes());
         }
     }
@@ -2181,7 +2454,7 @@ impl Cases {
     /// Places at the end of a value: 32 packs fill them all, 31 leave the last one.
     fn last_places(&mut self) {
         self.put("# lengths of 31 and 32 packs".to_string());
-        for c in [plain(false, 2, 32, 40), plain(false, 2, 31, 40), adding(plain(false, 16, 32, 4096)), plain(true, 2, 8, 4096)] {
+        for c in [plain(Short, 2, 32, 40), plain(Short, 2, 31, 40), adding(plain(Short, 16, 32, 4096)), plain(Even, 2, 8, 4096)] {
             let (good, whole) = (with_some(c), pack_length(c));
             self.catalogue(good);
             self.lend(fitted(c, 40));
@@ -2232,18 +2505,18 @@ impl Cases {
     fn length_fetches(&mut self) {
         self.put("# fetches with lengths\nz 255".to_string());
         self.today(A);
-        let short = [(2, 2, 1), (3, 3, 1), (4, 3, 5), (3, 2, 4), (5, 4, 2), (2, 3, 4095)].map(|(n, k, s)| plain(false, n, k, s));
-        let even = [(2, 2, 3), (2, 3, 2), (3, 2, 4), (3, 3, 1), (2, 8, 2), (16, 2, 1), (4, 2, 4096)].map(|(n, k, s)| plain(true, n, k, s));
-        for c in short.into_iter().chain(even).chain([fitted(plain(true, 2, 8, 1), 4096), plain(false, 16, 2, 4096)]) {
+        let short = [(2, 2, 1), (3, 3, 1), (4, 3, 5), (3, 2, 4), (5, 4, 2), (2, 3, 4095)].map(|(n, k, s)| plain(Short, n, k, s));
+        let even = [(2, 2, 3), (2, 3, 2), (3, 2, 4), (3, 3, 1), (2, 8, 2), (16, 2, 1), (4, 2, 4096)].map(|(n, k, s)| plain(Even, n, k, s));
+        for c in short.into_iter().chain(even).chain([fitted(plain(Even, 2, 8, 1), 4096), plain(Short, 16, 2, 4096)]) {
             let c = Catalogue { add: c.s % 2 == 0, ..c };
             self.cut_fetches(c, &ends(c));
         }
-        self.cut_fetches(dated(plain(false, 4, 3, 4), A, B), &[1, 6, 12, 5, 8, 11]);
+        self.cut_fetches(dated(plain(Short, 4, 3, 4), A, B), &[1, 6, 12, 5, 8, 11]);
         // 32 packs of other lengths each
-        self.cut_fetches(plain(false, 5, 32, 9), &(1..=36).rev().collect::<Vec<_>>());
-        self.cut_fetches(adding(plain(false, 16, 32, 4)), &(29..=60).collect::<Vec<_>>());
+        self.cut_fetches(plain(Short, 5, 32, 9), &(1..=36).rev().collect::<Vec<_>>());
+        self.cut_fetches(adding(plain(Short, 16, 32, 4)), &(29..=60).collect::<Vec<_>>());
         // without the lines: the whole pack, as ever
-        for c in [plain(false, 4, 3, 5), adding(plain(true, 2, 3, 2))] {
+        for c in [plain(Short, 4, 3, 5), adding(plain(Even, 2, 3, 2))] {
             self.catalogue(c);
             self.lend(c);
             self.put(format!("x 1\nx 1 0\nx 1 1\nx 2 {}\nx 2 {}\nx {} 1", pack_length(c), pack_length(c) + 1, c.k));
@@ -2337,9 +2610,20 @@ impl Cases {
     }
 }
 
-/// The lines of the program `conformance`.
-fn cases() -> Bytes {
+/// The lines of a program: `conformance` has the codes of document 01 with all that the requests add to them, `conformance_codes` the codes that the
+/// requests add. The outputs of both together are longer than a program's may be.
+fn cases(program: &str) -> Bytes {
     let mut cases = Cases { out: Vec::new(), draw: Draw(7), last: ZERO };
+    match program {
+        "conformance" => first_codes(&mut cases),
+        "conformance_codes" => turning(&mut cases),
+        _ => panic!("no such program: {program}"),
+    }
+    cases.out
+}
+
+/// The lines about the codes of document 01.
+fn first_codes(cases: &mut Cases) {
     cases.texts();
     cases.sum_texts();
     cases.bounds();
@@ -2347,39 +2631,66 @@ fn cases() -> Bytes {
     cases.fetches();
     cases.words();
     cases.added_fetches();
-    for (even, n, s) in [(false, 2, 1), (false, 5, 3), (true, 2, 1), (true, 3, 2)] {
-        cases.one_pack(plain(even, n, 2, s));
+    for (code, n, s) in [(Short, 2, 1), (Short, 5, 3), (Even, 2, 1), (Even, 3, 2)] {
+        cases.one_pack(plain(code, n, 2, s));
     }
-    for (even, n, s) in [(false, 5, 4), (true, 2, 2)] {
-        cases.odd_piece(adding(plain(even, n, 2, s)));
+    for (code, n, s) in [(Short, 5, 4), (Even, 2, 2)] {
+        cases.odd_piece(adding(plain(code, n, 2, s)));
     }
-    let small = [(false, 2, 2, 1), (false, 3, 3, 2), (false, 16, 32, 1), (true, 2, 2, 3), (true, 3, 3, 1), (true, 16, 2, 1), (true, 2, 8, 2)];
-    for (even, n, k, s) in small {
-        cases.refusals(plain(even, n, k, s));
+    let small = [(Short, 2, 2, 1), (Short, 3, 3, 2), (Short, 16, 32, 1), (Even, 2, 2, 3), (Even, 3, 3, 1), (Even, 16, 2, 1), (Even, 2, 8, 2)];
+    for (code, n, k, s) in small {
+        cases.refusals(plain(code, n, k, s));
     }
-    for (even, n, k, s) in [(false, 3, 3, 2), (true, 2, 2, 4)] {
-        cases.refusals(adding(plain(even, n, k, s)));
+    for (code, n, k, s) in [(Short, 3, 3, 2), (Even, 2, 2, 4)] {
+        cases.refusals(adding(plain(code, n, k, s)));
     }
-    for (even, n, k, s) in small.into_iter().chain([(false, 4, 3, 4096), (true, 4, 2, 4096), (false, 5, 4, 2), (true, 2, 3, 2)]) {
-        cases.session(plain(even, n, k, s), 40);
+    for (code, n, k, s) in small.into_iter().chain([(Short, 4, 3, 4096), (Even, 4, 2, 4096), (Short, 5, 4, 2), (Even, 2, 3, 2)]) {
+        cases.session(plain(code, n, k, s), 40);
     }
-    for (even, n, k, s) in [(false, 2, 2, 2), (false, 4, 3, 4096), (false, 5, 4, 6), (true, 2, 3, 2), (true, 4, 2, 4096), (true, 3, 3, 4)] {
-        cases.session(adding(plain(even, n, k, s)), 40);
+    for (code, n, k, s) in [(Short, 2, 2, 2), (Short, 4, 3, 4096), (Short, 5, 4, 6), (Even, 2, 3, 2), (Even, 4, 2, 4096), (Even, 3, 3, 4)] {
+        cases.session(adding(plain(code, n, k, s)), 40);
     }
-    seasons(&mut cases);
-    lengths(&mut cases);
+    seasons(cases);
+    lengths(cases);
     cases.digit_sums();
-    cases.out
+}
+
+/// The lines about the turning code (02, item 4): its own, then those of the short code once more.
+fn turning(cases: &mut Cases) {
+    cases.turn_texts();
+    cases.turn_bounds();
+    cases.turn_rows();
+    cases.turns();
+    cases.empty_answers();
+    cases.turn_fetches();
+    cases.one_pack(plain(Turn, 2, 2, 2));
+    cases.odd_piece(adding(plain(Turn, 3, 2, 2)));
+    for c in [plain(Turn, 2, 2, 1), adding(plain(Turn, 3, 3, 2)), plain(Turn, 16, 32, 1), with_some(plain(Turn, 4, 3, 2))] {
+        cases.refusals(c);
+    }
+    let (open, close) = SEASONS[0];
+    let c = dated(plain(Turn, 3, 2, 2), open, close);
+    cases.season_orders(c);
+    cases.across(c);
+    cases.length_days(with_some(c));
+    cases.same_exchanges(plain(Turn, 3, 3, 2));
+    cases.cut_session(plain(Turn, 3, 3, 3), false);
+    cases.cut_session(adding(plain(Turn, 4, 2, 4)), true);
+    for (n, k, s) in [(2, 2, 1), (3, 3, 2), (16, 32, 1), (4, 3, 4096), (5, 4, 6)] {
+        cases.session(Catalogue { add: s > 2, ..plain(Turn, n, k, s) }, 32);
+    }
+    cases.session(dated(plain(Turn, 3, 2, 3), open, close), 24);
+    cases.session(measured(adding(plain(Turn, 3, 2, 4)), &[5, 7]), 24);
 }
 
 /// The lines about days and seasons (02, item 1).
 fn seasons(cases: &mut Cases) {
     cases.season_texts();
     cases.day_texts();
-    cases.season_values(plain(false, 3, 2, 2));
-    cases.season_values(plain(true, 2, 2, 1));
+    cases.season_values(plain(Short, 3, 2, 2));
+    cases.season_values(plain(Even, 2, 2, 1));
     cases.days();
-    let codes = [plain(false, 3, 2, 2), adding(plain(true, 2, 2, 2))];
+    let codes = [plain(Short, 3, 2, 2), adding(plain(Even, 2, 2, 2))];
     for (c, (open, close)) in codes.into_iter().zip(SEASONS) {
         cases.season_orders(dated(c, open, close));
     }
@@ -2389,9 +2700,9 @@ fn seasons(cases: &mut Cases) {
         cases.today(open);
         cases.refusals(dated(c, open, close));
     }
-    for (i, (even, n, k, s)) in [(false, 2, 2, 1), (false, 4, 3, 4096), (true, 2, 3, 2), (true, 3, 2, 4)].into_iter().enumerate() {
+    for (i, (code, n, k, s)) in [(Short, 2, 2, 1), (Short, 4, 3, 4096), (Even, 2, 3, 2), (Even, 3, 2, 4)].into_iter().enumerate() {
         let (open, close) = SEASONS[i * 2 % 3];
-        cases.session(dated(Catalogue { add: i % 2 == 1, ..plain(even, n, k, s) }, open, close), 40);
+        cases.session(dated(Catalogue { add: i % 2 == 1, ..plain(code, n, k, s) }, open, close), 40);
     }
 }
 
@@ -2400,27 +2711,27 @@ fn lengths(cases: &mut Cases) {
     cases.length_texts();
     cases.count_texts();
     cases.number_texts();
-    cases.length_values(plain(false, 3, 3, 2));
-    cases.length_values(adding(plain(true, 2, 2, 2)));
+    cases.length_values(plain(Short, 3, 3, 2));
+    cases.length_values(adding(plain(Even, 2, 2, 2)));
     cases.last_places();
-    for (c, (open, close)) in [plain(false, 3, 2, 3), adding(plain(true, 2, 2, 2))].into_iter().zip(SEASONS) {
+    for (c, (open, close)) in [plain(Short, 3, 2, 3), adding(plain(Even, 2, 2, 2))].into_iter().zip(SEASONS) {
         cases.length_days(with_some(dated(c, open, close)));
     }
     cases.length_fetches();
-    for (even, n, k, s) in [(false, 3, 3, 3), (false, 4, 2, 4), (true, 2, 2, 1), (true, 2, 2, 4), (true, 3, 2, 3), (false, 2, 32, 40)] {
-        let c = Catalogue { add: s == 4, ..plain(even, n, k, s) };
+    for (code, n, k, s) in [(Short, 3, 3, 3), (Short, 4, 2, 4), (Even, 2, 2, 1), (Even, 2, 2, 4), (Even, 3, 2, 3), (Short, 2, 32, 40)] {
+        let c = Catalogue { add: s == 4, ..plain(code, n, k, s) };
         cases.cut_session(c, false);
         if k < 32 {
             cases.cut_session(c, true);
         }
     }
-    for c in [plain(false, 3, 3, 2), adding(plain(true, 2, 3, 2))] {
+    for c in [plain(Short, 3, 3, 2), adding(plain(Even, 2, 3, 2))] {
         cases.same_exchanges(c);
         cases.refusals(with_some(c));
     }
-    let sizes = [(false, 2, 2, 3), (false, 4, 3, 4096), (false, 5, 32, 2), (true, 2, 3, 2), (true, 3, 2, 5), (true, 4, 2, 4096)];
-    for (i, (even, n, k, s)) in sizes.into_iter().enumerate() {
-        let c = Catalogue { add: s % 2 == 0, ..plain(even, n, k, s) };
+    let sizes = [(Short, 2, 2, 3), (Short, 4, 3, 4096), (Short, 5, 32, 2), (Even, 2, 3, 2), (Even, 3, 2, 5), (Even, 4, 2, 4096)];
+    for (i, (code, n, k, s)) in sizes.into_iter().enumerate() {
+        let c = Catalogue { add: s % 2 == 0, ..plain(code, n, k, s) };
         let numbers: Vec<usize> = (0..k).map(|_| 1 + cases.draw.below(pack_length(c))).collect();
         let (open, close) = SEASONS[i];
         cases.session(if i % 3 == 2 { dated(measured(c, &numbers), open, close) } else { measured(c, &numbers) }, 32);
@@ -2454,7 +2765,7 @@ fn ends(c: Catalogue) -> Vec<usize> {
 
 /// The sum of 02, item 2, by its words: low byte first, carried into the high one, wrapping at 65,536, nothing carried into the next word.
 fn added_words() {
-    let c = adding(plain(false, 2, 2, 4));
+    let c = adding(plain(Short, 2, 2, 4));
     for (a, b, sum) in [
         ([0xFF, 0x00, 1, 2], [0x01, 0x00, 3, 4], [0x00, 0x01, 4, 6]),
         ([0xFF, 0xFF, 0, 0], [0x01, 0x00, 0, 0], [0x00, 0x00, 0, 0]),
@@ -2489,7 +2800,7 @@ fn days() {
 
 /// Seasons by 02, item 1: dates read and written, their refusals, the days in and out of them.
 fn season_rules() {
-    for c in [plain(false, 3, 3, 4), adding(plain(true, 2, 2, 2))] {
+    for c in [plain(Short, 3, 3, 4), adding(plain(Even, 2, 2, 2))] {
         for (open, close) in PAIRS.into_iter().chain(SEASONS) {
             assert_eq!(read(write_text(dated(c, open, close)).as_bytes()), Ok(dated(c, open, close)));
             assert_eq!([(close, open), (open, open)].map(|(open, close)| read(write_text(dated(c, open, close)).as_bytes())), [Err(2); 2]);
@@ -2509,17 +2820,18 @@ fn season_rules() {
         assert!(other_lines().iter().all(|to| read(good.replacen(&lines, to, 1).as_bytes()) == Err(1)));
     }
     let text = "code=short\nmirrors=3\npacks=3\npiece=4\nopen=2024-02-03\nclose=2025-10-09\nsum=add\n";
-    assert_eq!(write_text(adding(dated(plain(false, 3, 3, 4), A, B))), text);
+    assert_eq!(write_text(adding(dated(plain(Short, 3, 3, 4), A, B))), text);
 }
 
-/// Whole fetches: every (N, K) of the even code and a spread of the short one recover each wanted pack, in both sums, by the same requests; with a
-/// season too, on its days and on no other.
+/// Whole fetches: every (N, K) of the even code and a spread of the short and the turning one recover each wanted pack, in both sums, by the same
+/// requests; with a season too, on its days and on no other.
 fn fetches() {
     let mut draw = Draw(1);
     for n in 2..=16 {
-        let even = (2..=8).map(|k| plain(true, n, k, 2));
-        let short = [2, 5, 32].into_iter().flat_map(|k| [plain(false, n, k, 3), plain(false, n, k, 6)]);
-        let both = even.chain(short).flat_map(|c| [c, adding(c)]);
+        let even = (2..=8).map(|k| plain(Even, n, k, 2));
+        let rows = [2, 5, 32].into_iter().flat_map(|k| [Short, Turn].map(|code| (code, k)));
+        let rows = rows.flat_map(|(code, k)| [plain(code, n, k, 3), plain(code, n, k, 6)]);
+        let both = even.chain(rows).flat_map(|c| [c, adding(c)]);
         let (open, close) = SEASONS[n % SEASONS.len()];
         let all = both.flat_map(|c| [c, dated(c, open, close)]).filter(|&c| admitted(c));
         for c in all.collect::<Vec<_>>() {
@@ -2550,9 +2862,78 @@ fn fetches() {
     }
 }
 
+/// Every row of K digits below N.
+fn all_rows(n: usize, k: usize) -> Vec<Bytes> {
+    let mut all = vec![Vec::new()];
+    for _ in 0..k {
+        all = all.into_iter().flat_map(|row: Bytes| (0..n as u8).map(move |digit| [&row[..], &[digit]].concat())).collect();
+    }
+    all
+}
+
+/// The turning code by numbers worked out by hand (02, item 4): the fetches of B1 and B3, turned; its key's length and digits, its texts.
+fn turning_cards() {
+    let c = plain(Turn, 3, 3, 4);
+    let rows = |turn: u8| [0, 1, 2].map(|mirror| request(c, 1, mirror, &[2, 0, turn]));
+    assert_eq!(rows(0), [[2, 1, 0], [2, 2, 0], [2, 0, 0]]);
+    assert_eq!(rows(1), [[2, 2, 0], [2, 0, 0], [2, 1, 0]]);
+    assert_eq!(rows(2), [[2, 0, 0], [2, 1, 0], [2, 2, 0]]);
+    let b3 = fetched(plain(Turn, 2, 2, 1), &[0x5A, 0xC3], 0, &[0, 1], 1);
+    assert_eq!(b3, (vec![[vec![1, 0], vec![0x5A]], [vec![0, 0], vec![]]], Ok(()), vec![0x5A]));
+    let begun = |key: &[u8]| begin(c, 1, key).err().unwrap_or(0);
+    assert_eq!([&[2, 0][..], &[2, 0, 1, 0], &[], &[2, 0, 2], &[2, 0, 3], &[2, 3, 0], &[3, 0, 0], &[2, 3]].map(begun), [5, 5, 5, 0, 6, 6, 6, 5]);
+    assert_eq!([1, 2, 32, 33, 0].map(|k| judged(plain(Turn, 2, k, 1))), [Err(17), Ok(()), Ok(()), Err(2), Err(2)]);
+    assert_eq!([1, 2, 16, 17].map(|n| judged(plain(Turn, n, 2, 1))), [Err(2), Ok(()), Ok(()), Err(2)]);
+    let text = "code=turn\nmirrors=3\npacks=3\npiece=4\n";
+    assert_eq!((read(text.as_bytes()), write_text(c)), (Ok(c), text.to_string()));
+    assert!(OTHER_CODES.iter().all(|line| read(text.replacen("code=turn\n", line, 1).as_bytes()) == Err(1)));
+}
+
+/// The turning code by what 02, item 4 asks for, over all keys: mirror n's request is the short code's of the mirror whose part it plays; every row at
+/// every mirror comes from exactly one key; the row of zeros comes only where the other digits are zeros, and then to the mirror that plays part 0,
+/// so that all mirrors have it equally often; a mirror admits all rows and nothing else; every fetch recovers, in both sums.
+fn turns() {
+    for (n, k) in [(2, 2), (2, 3), (2, 5), (3, 2), (3, 3), (4, 2), (4, 3), (5, 2), (7, 2)] {
+        let (c, short, all) = (plain(Turn, n, k, 2), plain(Short, n, k, 2), all_rows(n, k));
+        assert_eq!(all.len(), n.pow(k as u32));
+        let store: Bytes = (0..c.k * pack_length(c)).map(|x| (x * x * 37 + x * 11 + n) as u8).collect();
+        for wanted in 0..k {
+            let (mut sent, mut nothing) = (vec![Vec::new(); n], vec![0; n]);
+            for key in &all {
+                let (digits, turn) = (&key[..k - 1], key[k - 1] as usize);
+                for (mirror, rows) in sent.iter_mut().enumerate() {
+                    let row = request(c, wanted, mirror, key);
+                    assert_eq!(row, request(short, wanted, (mirror + turn) % n, digits));
+                    assert_eq!(row == vec![0; k], digits.iter().all(|&d| d == 0) && (mirror + turn) % n == 0);
+                    nothing[mirror] += (row == vec![0; k]) as usize;
+                    rows.push(row);
+                }
+                for c in [c, adding(c)] {
+                    let (_, gave, pack) = fetched(c, &store, wanted, key, pack_length(c));
+                    assert_eq!((gave, &pack[..]), (Ok(()), &store[wanted * pack_length(c)..][..pack_length(c)]));
+                }
+            }
+            for mut rows in sent {
+                rows.sort();
+                assert_eq!(rows, all);
+            }
+            assert_eq!(nothing, vec![1; n]);
+        }
+        admissions(c);
+    }
+}
+
+/// Every row of K digits below N is admitted at every mirror, and no row with a greater digit, and none of another length.
+fn admissions(c: Catalogue) {
+    for mirror in 0..c.n {
+        assert!(all_rows(c.n + 1, c.k).iter().all(|row| admits(c, mirror, row) == row.iter().all(|&d| (d as usize) < c.n)));
+        assert!((0..c.k + 3).filter(|&length| length != c.k).all(|length| !admits(c, mirror, &vec![0; length])));
+    }
+}
+
 /// Lengths by 02, item 6: read and written, their number, their refusals and the order of these.
 fn length_rules() {
-    for c in [plain(false, 3, 3, 4), adding(plain(true, 2, 2, 2)), dated(plain(false, 2, 31, 40), A, B), dated(adding(plain(true, 2, 8, 4096)), A, B)] {
+    for c in [plain(Short, 3, 3, 4), adding(plain(Even, 2, 2, 2)), dated(plain(Short, 2, 31, 40), A, B), dated(adding(plain(Even, 2, 8, 4096)), A, B)] {
         let (good, whole) = (with_some(c), pack_length(c));
         assert_eq!(read(write_text(good).as_bytes()), Ok(good));
         let counts = [0, c.k, 1, c.k - 1, c.k + 1, 2 * c.k].map(|count| read(counted(c, count).as_bytes()).map(unmeasured));
@@ -2561,12 +2942,12 @@ fn length_rules() {
         assert!(length_faults(c).into_iter().all(|bad| judged(bad) == Err(2) && judged(adding(Catalogue { s: c.s - 1, ..bad })) == Err(2)));
         assert_eq!([0, whole + 1, 9999999, 10000000].map(|length| read(write_text(placed(good, 1, length)).as_bytes())), [Err(2), Err(2), Err(2), Err(1)]);
     }
-    let outcome = |k: usize, count: usize| read(counted(plain(false, 2, k, 4), count).as_bytes()).err().unwrap_or(0);
+    let outcome = |k: usize, count: usize| read(counted(plain(Short, 2, k, 4), count).as_bytes()).err().unwrap_or(0);
     assert_eq!([(40, 39), (40, 40), (40, 41), (40, 32)].map(|(k, count)| outcome(k, count)), [1, 2, 1, 1]);
     assert_eq!([(33, 32), (33, 33), (32, 32), (32, 31), (32, 33)].map(|(k, count)| outcome(k, count)), [1, 2, 0, 1, 1]);
     assert_eq!([(0, 0), (0, 1), (1, 0), (1, 1), (1, 2), (99999, 0), (99999, 3)].map(|(k, count)| outcome(k, count)), [2, 1, 17, 17, 1, 2, 1]);
-    assert_eq!([1, 4, 5, 0].map(|length| judged(measured(plain(false, 2, 1, 4), &[length]))), [Err(17), Err(17), Err(2), Err(2)]);
-    assert_eq!([3, 4, 0].map(|length| judged(measured(adding(plain(false, 2, 2, 3)), &[1, length]))), [Err(15), Err(2), Err(2)]);
+    assert_eq!([1, 4, 5, 0].map(|length| judged(measured(plain(Short, 2, 1, 4), &[length]))), [Err(17), Err(17), Err(2), Err(2)]);
+    assert_eq!([3, 4, 0].map(|length| judged(measured(adding(plain(Short, 2, 2, 3)), &[1, length]))), [Err(15), Err(2), Err(2)]);
     assert!(other_lengths(all_lines()).iter().chain(&moved_lengths()).all(|text| read(text.as_bytes()) == Err(1)));
     let text = "code=short\nmirrors=3\npacks=3\npiece=6\nopen=2024-02-03\nclose=2025-10-09\nsum=add\nlength=7\nlength=6\nlength=12\n";
     assert_eq!(write_text(all_lines()), text);
@@ -2592,8 +2973,9 @@ fn fetched(c: Catalogue, store: &[u8], wanted: usize, key: &[u8], room: usize) -
 /// exactly where the length has no room. Where packs end in zeros, the lengths tell which of them are padding.
 fn cut_packs() {
     let mut draw = Draw(6);
-    for (even, n, k, s) in [(false, 2, 2, 1), (false, 4, 3, 5), (false, 3, 32, 4), (true, 2, 3, 2), (true, 3, 2, 3), (true, 2, 2, 4)] {
-        let c = Catalogue { add: s % 2 == 0, ..plain(even, n, k, s) };
+    for (code, n, k, s) in [(Short, 2, 2, 1), (Short, 4, 3, 5), (Short, 3, 32, 4), (Even, 2, 3, 2), (Even, 3, 2, 3), (Even, 2, 2, 4),
+        (Turn, 4, 3, 5), (Turn, 3, 2, 4)] {
+        let c = Catalogue { add: s % 2 == 0, ..plain(code, n, k, s) };
         let (whole, store): (usize, Bytes) = (pack_length(c), (0..k * pack_length(c)).map(|_| draw.below(256) as u8).collect());
         for length in 1..=whole {
             let wanted = length % k;
@@ -2607,7 +2989,7 @@ fn cut_packs() {
             assert_eq!(fetched(long, &store, wanted, &key, length - 1), (shown, Err(9), vec![9; length - 1]));
         }
     }
-    let (c, store) = (plain(false, 3, 2, 2), [5, 0, 0, 0, 6, 0, 0, 0]);
+    let (c, store) = (plain(Short, 3, 2, 2), [5, 0, 0, 0, 6, 0, 0, 0]);
     let packs = [measured(c, &[2, 3]), measured(c, &[3, 2]), c].map(|c| fetched(c, &store, 0, &[1], 5).2);
     assert_eq!(packs, [[5, 0, 9, 9, 9], [5, 0, 0, 9, 9], [5, 0, 0, 0, 9]]);
 }
@@ -2619,13 +3001,15 @@ fn main() {
             tables();
             cards();
             balancing_digits();
+            turning_cards();
+            turns();
             added_words();
             days();
             season_rules();
             length_rules();
             fetches();
             cut_packs();
-            println!("second implementation: the papers' tables, the bench cards, balancing digits, the calendar, lengths and whole fetches agree");
+            println!("second implementation: the papers' tables, the bench cards, balancing digits, turns, the calendar, lengths and whole fetches agree");
         }
         ["printer", folder] => {
             for (i, input) in printer_inputs().iter().enumerate() {
@@ -2633,8 +3017,8 @@ fn main() {
                 std::fs::write(format!("{folder}/{i:04}.out"), printed(input)).unwrap();
             }
         }
-        ["cases"] => std::io::stdout().write_all(&cases()).unwrap(),
-        ["expected"] => std::io::stdout().write_all(&expected(&cases())).unwrap(),
-        _ => eprintln!("usage: second self | printer FOLDER | cases | expected"),
+        ["cases", program] => std::io::stdout().write_all(&cases(program)).unwrap(),
+        ["expected", program] => std::io::stdout().write_all(&expected(&cases(program))).unwrap(),
+        _ => eprintln!("usage: second self | printer FOLDER | cases PROGRAM | expected PROGRAM"),
     }
 }

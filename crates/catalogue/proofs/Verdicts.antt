@@ -18,7 +18,7 @@ use Rattle.symbol.specs.declared.Operation.{Operation}
 use Rattle.symbol.specs.declared.Operation.the-variants.{ExclusiveOr, Addition}
 use Rattle.symbol.proofs.Operations.{not-added}
 use Rattle.catalogue.specs.declared.Code.{Code}
-use Rattle.catalogue.specs.declared.Code.the-variants.{Short, Even}
+use Rattle.catalogue.specs.declared.Code.the-variants.{Short, Even, Turn}
 use Rattle.catalogue.specs.declared.Catalogue.{Catalogue}
 use Rattle.catalogue.specs.Catalogue.{fits, numbersFit, datesFit, messagesEnd, inBounds, wholeWords, catalogueVerdict, Admitted}
 use Rattle.catalogue.proofs.Admitted.{fits-numbers}
@@ -109,10 +109,15 @@ module _ (c : Catalogue) where
 
 -- ---- one message
 
+one-short : (N S : ℕ) → serversFit N ≡ true → symbolFits S ≡ true → shortFits N 1 S ≡ true
+unfolding shortFits
+one-short N S n s = rw (n, s)
+
 -- one message is within the bounds of every code, where N and S are
 one-fits : (code : Code) (N S : ℕ) → serversFit N ≡ true → symbolFits S ≡ true → fits code N 1 S ≡ true
-unfolding shortFits evenFits
-one-fits Short N S n s = rw (n, s)
+unfolding evenFits
+one-fits Short N S n s = one-short N S n s
+one-fits Turn N S n s = one-short N S n s
 one-fits Even N S n s =
     let high = leb-true N 16 (both-true (leb 2 N) (leb N 16) n .1) in
     let small : N ^ 1 ≤ 16 ^ 1 = pow-le-pow-left high 1 in

@@ -17,6 +17,8 @@ pub enum Code {
     Short,
     // The code of Sun and Jafar.
     Even,
+    // The code of Tian, Sun and Chen with a turn of the servers in the key (02, item 4: `code=turn`).
+    Turn,
 }
 
 pub struct Catalogue {
@@ -50,6 +52,7 @@ fn numbers_fit(c: Catalogue) -> bool
     match code {
         Code::Short => parameters::short::fits(c.servers, c.messages, c.symbol),
         Code::Even => parameters::even::fits(c.servers, c.messages, c.symbol),
+        Code::Turn => parameters::short::fits(c.servers, c.messages, c.symbol),
     }
 }
 
@@ -78,6 +81,7 @@ fn sizes_of(c: Catalogue) -> Sizes
     match code {
         Code::Short => parameters::short::sizes(c.servers, c.messages, c.symbol),
         Code::Even => parameters::even::sizes(c.servers, c.messages, c.symbol),
+        Code::Turn => parameters::turn::sizes(c.servers, c.messages, c.symbol),
     }
 }
 

@@ -14,7 +14,7 @@ use Rattle.text_lines.specs.Lines.{numberText, begins, numberLine}
 use Rattle.text_lines.proofs.Begins.{begins-split}
 use Rattle.text_lines.proofs.RoundTrip.{LineRead, line-written, line-read}
 use Rattle.catalogue.specs.declared.Code.{Code}
-use Rattle.catalogue.specs.declared.Code.the-variants.{Short, Even}
+use Rattle.catalogue.specs.declared.Code.the-variants.{Short, Even, Turn}
 use Rattle.catalogue_text.specs.declared.First.{First}
 use Rattle.catalogue_text.specs.declared.First.the-variants.{Of}
 use Rattle.catalogue_text.specs.Text.{codeText, serversName, messagesName, symbolName}
@@ -23,22 +23,26 @@ use Rattle.catalogue_text.proofs.TextParts.{firstText, first-length}
 
 -- ---- the first line
 
-pub code-even : (n : ℕ) → (n ≡ 0 → ⊥) → Even ≡ codeNamed n
-code-even zero h = absurd (h refl)
-code-even (suc n) h = refl
+pub code-turn : (n : ℕ) → (n ≡ 0 → ⊥) → (n ≡ 1 → ⊥) → Turn ≡ codeNamed n
+code-turn zero h i = absurd (h refl)
+code-turn (suc zero) h i = absurd (i refl)
+code-turn (suc (suc n)) h i = refl
 
 abbrev codeNumber : Code → ℕ
 codeNumber Short = 0
 codeNumber Even = 1
+codeNumber Turn = 2
 
 code-number : (code : Code) → codeNamed (codeNumber code) ≡ code
 code-number Short = refl
 code-number Even = refl
+code-number Turn = refl
 
 code-written : (code : Code) (rest : List ℕ) → codeLine (codeText code ++ rest) ≡ Value (codeNumber code) (length (codeText code))
 unfolding codeLine begins
 code-written Short rest = refl
 code-written Even rest = refl
+code-written Turn rest = refl
 
 -- a first line that was read
 record CodeRead (text : List ℕ) (code next : ℕ) : Type 0 where
@@ -47,19 +51,23 @@ record CodeRead (text : List ℕ) (code next : ℕ) : Type 0 where
 
 code-read : (text : List ℕ) (code next : ℕ) → codeLine text ≡ Value code next → CodeRead text code next
 unfolding codeLine
-code-read text code next e = go (begins (codeText Short) text) (begins (codeText Even) text) refl refl e
+code-read text code next e = go (begins (codeText Short) text) (begins (codeText Even) text) (begins (codeText Turn) text) refl refl refl e
   where
-    go : (s t : Bool) → begins (codeText Short) text ≡ s → begins (codeText Even) text ≡ t
-        → cond s (Value 0 11) (cond t (Value 1 10) Refused) ≡ Value code next → CodeRead text code next
-    go true t short even e =
+    go : (s t u : Bool) → begins (codeText Short) text ≡ s → begins (codeText Even) text ≡ t → begins (codeText Turn) text ≡ u
+        → cond s (Value 0 11) (cond t (Value 1 10) (cond u (Value 2 10) Refused)) ≡ Value code next → CodeRead text code next
+    go true t u short even turn e =
         let c : code ≡ 0 = cc in
         let n : next ≡ 11 = cc in
         rw (c, n) (record { next-is = refl; here = begins-split (codeText Short) text short })
-    go false true short even e =
+    go false true u short even turn e =
         let c : code ≡ 1 = cc in
         let n : next ≡ 10 = cc in
         rw (c, n) (record { next-is = refl; here = begins-split (codeText Even) text even })
-    go false false short even e = let z : _≡_ {A = ℕ} 0 1 = cc in absurd (let w : ⊥ = omega arith in w)
+    go false false true short even turn e =
+        let c : code ≡ 2 = cc in
+        let n : next ≡ 10 = cc in
+        rw (c, n) (record { next-is = refl; here = begins-split (codeText Turn) text turn })
+    go false false false short even turn e = let z : _≡_ {A = ℕ} 0 1 = cc in absurd (let w : ⊥ = omega arith in w)
 
 -- ---- the four lines
 

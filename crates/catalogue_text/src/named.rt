@@ -10,7 +10,7 @@ ghost use Rattle.lists.specs.Parts.{put};
 ghost use Rattle.catalogue_text.specs.Text.{codeText, sumText};
 ghost use Rattle.catalogue_text.specs.Parsing.{codeNamed, codeLine, sumNamed, sumLine};
 
-// The first line of a catalogue: 0 for the short code, 1 for the even one.
+// The first line of a catalogue: 0 for the short code, 1 for the even one, 2 for the turning one.
 pub fn code_line(text: &[u8]) -> Line
     ensures { λ r. ⌜ r ≡ codeLine (now (text .entry)) ⌝ }
 {
@@ -20,6 +20,9 @@ pub fn code_line(text: &[u8]) -> Line
     if text_lines::starts(b"code=even\n", text) {
         return Line::Value { value: 1, next: 10 };
     }
+    if text_lines::starts(b"code=turn\n", text) {
+        return Line::Value { value: 2, next: 10 };
+    }
     Line::Refused
 }
 
@@ -27,7 +30,10 @@ pub fn code_line(text: &[u8]) -> Line
 pub fn code_named(value: usize) -> Code
     ensures { λ r. ⌜ r ≡ codeNamed value ⌝ }
 {
-    if value == 0 { Code::Short } else { Code::Even }
+    if value == 0 {
+        return Code::Short;
+    }
+    if value == 1 { Code::Even } else { Code::Turn }
 }
 
 // The line of the sum at place `at`: 0 if no line of that name begins there, 1 for addition.
@@ -69,6 +75,7 @@ pub fn put_code(out: &mut [u8], code: Code) -> usize
     match code {
         Code::Short => text_lines::put_bytes(out, 0, b"code=short\n"),
         Code::Even => text_lines::put_bytes(out, 0, b"code=even\n"),
+        Code::Turn => text_lines::put_bytes(out, 0, b"code=turn\n"),
     }
 }
 
@@ -91,6 +98,7 @@ pub fn code_length(code: Code) -> usize
     match code {
         Code::Short => 11,
         Code::Even => 10,
+        Code::Turn => 10,
     }
 }
 

@@ -10,7 +10,7 @@ use Rattle.symbol.specs.Operations.{sumOf}
 use Rattle.symbol.proofs.Operations.{group-of}
 use Rattle.scheme.specs.Laws.{Laws}
 use Rattle.catalogue.specs.declared.Code.{Code}
-use Rattle.catalogue.specs.declared.Code.the-variants.{Short, Even}
+use Rattle.catalogue.specs.declared.Code.the-variants.{Short, Even, Turn}
 use Rattle.catalogue.specs.declared.Catalogue.{Catalogue}
 use Rattle.catalogue.specs.Catalogue.{fits, Admitted, sizesBy, sizesOf}
 use Rattle.catalogue.proofs.Admitted.{admitted-fits}
@@ -18,11 +18,14 @@ use Rattle.short_scheme.specs.Short.{shortScheme}
 use Rattle.short_scheme.proofs.Promises.{short-laws}
 use Rattle.even_scheme.specs.Even.{evenScheme}
 use Rattle.even_scheme.proofs.Promises.{even-laws}
+use Rattle.turn_code.specs.Turn.{turnScheme}
+use Rattle.turn_code.proofs.Promises.{turn-laws}
 use Rattle.codes.specs.Codes.{schemeBy, schemeOf}
 
 laws-by : (code : Code) (sum : Sum) (N K S : ℕ) → AbelianGroup sum S → fits code N K S ≡ true → Laws N K (schemeBy code sum N K S)
 laws-by Short = short-laws
 laws-by Even = even-laws
+laws-by Turn = turn-laws
 
 pub promises : (c : Catalogue) → Admitted c → Laws (c .servers) (c .messages) (schemeOf c)
 unfolding schemeOf
@@ -32,6 +35,7 @@ promises c a =
 sizes-by : (code : Code) (sum : Sum) (N K S : ℕ) → schemeBy code sum N K S .sizes ≡ sizesBy code N K S
 sizes-by Short sum N K S = refl
 sizes-by Even sum N K S = refl
+sizes-by Turn sum N K S = refl
 
 pub scheme-sizes : (c : Catalogue) → schemeOf c .sizes ≡ sizesOf c
 unfolding schemeOf sizesOf
@@ -41,6 +45,9 @@ scheme-sizes c = sizes-by (c .code) (sumOf (c .sum)) (c .servers) (c .messages) 
 
 pub admitted-short : (c : Catalogue) → Admitted c → c .code ≡ Short → shortFits (c .servers) (c .messages) (c .symbol) ≡ true
 admitted-short c a e = rw e at (admitted-fits c a)
+
+pub admitted-turn : (c : Catalogue) → Admitted c → c .code ≡ Turn → shortFits (c .servers) (c .messages) (c .symbol) ≡ true
+admitted-turn c a e = rw e at (admitted-fits c a)
 
 pub admitted-even : (c : Catalogue) → Admitted c → c .code ≡ Even → evenFits (c .servers) (c .messages) (c .symbol) ≡ true
 admitted-even c a e = rw e at (admitted-fits c a)
@@ -54,3 +61,7 @@ scheme-short c e = rw e
 pub scheme-even : (c : Catalogue) → c .code ≡ Even → schemeOf c ≡ evenScheme (sumOf (c .sum)) (c .servers) (c .messages) (c .symbol)
 unfolding schemeOf
 scheme-even c e = rw e
+
+pub scheme-turn : (c : Catalogue) → c .code ≡ Turn → schemeOf c ≡ turnScheme (sumOf (c .sum)) (c .servers) (c .messages) (c .symbol)
+unfolding schemeOf
+scheme-turn c e = rw e

@@ -4,14 +4,16 @@ use Rattle.symbol.specs.Sum.{Sum}
 use Rattle.symbol.specs.Operations.{sumOf}
 use Rattle.scheme.specs.Scheme.{Scheme}
 use Rattle.catalogue.specs.declared.Code.{Code}
-use Rattle.catalogue.specs.declared.Code.the-variants.{Short, Even}
+use Rattle.catalogue.specs.declared.Code.the-variants.{Short, Even, Turn}
 use Rattle.catalogue.specs.declared.Catalogue.{Catalogue}
 use Rattle.short_scheme.specs.Short.{shortScheme}
 use Rattle.even_scheme.specs.Even.{evenScheme}
+use Rattle.turn_code.specs.Turn.{turnScheme}
 
 abbrev pub schemeBy : Code → Sum → ℕ → ℕ → ℕ → Scheme
 schemeBy Short = shortScheme
 schemeBy Even = evenScheme
+schemeBy Turn = turnScheme
 
 unfoldable pub schemeOf : Catalogue → Scheme
 schemeOf c = schemeBy (c .code) (sumOf (c .sum)) (c .servers) (c .messages) (c .symbol)

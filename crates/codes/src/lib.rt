@@ -21,6 +21,7 @@ pub fn key_good(c: Catalogue, key: &[u8]) -> bool
     match code {
         Code::Short => short_code::key_good(c.servers, key),
         Code::Even => even_key::key_good(c.servers, c.messages, key),
+        Code::Turn => short_code::key_good(c.servers, key),
     }
 }
 
@@ -36,6 +37,7 @@ pub fn query(c: Catalogue, wanted: usize, server: usize, key: &[u8], out: &mut [
     match code {
         Code::Short => short_code::query(c.servers, wanted, server, key, out),
         Code::Even => even_query::query(c.servers, c.messages, wanted, server, key, out),
+        Code::Turn => turn_code::query(c.servers, wanted, server, key, out),
     }
 }
 
@@ -48,6 +50,7 @@ pub fn admits(c: Catalogue, server: usize, query: &[u8]) -> bool
     match code {
         Code::Short => short_code::admits(c.servers, c.messages, server, query),
         Code::Even => even_admission::admits(c.servers, c.messages, server, query),
+        Code::Turn => turn_code::admits(c.servers, c.messages, query),
     }
 }
 
@@ -71,6 +74,7 @@ pub fn answer_length(c: Catalogue, query: &[u8]) -> usize
     match code {
         Code::Short => short_code::answer_length(c.symbol, query),
         Code::Even => slot(c),
+        Code::Turn => short_code::answer_length(c.symbol, query),
     }
 }
 
@@ -85,6 +89,7 @@ pub fn expected_length(c: Catalogue, wanted: usize, server: usize, key: &[u8]) -
     match code {
         Code::Short => short_code::expected_length(c.servers, c.symbol, wanted, server, key),
         Code::Even => slot(c),
+        Code::Turn => turn_code::expected_length(c.servers, c.symbol, wanted, server, key),
     }
 }
 
@@ -101,6 +106,7 @@ pub fn answer(c: Catalogue, server: usize, store: &[u8], query: &[u8], out: &mut
     match code {
         Code::Short => short_code::answer(op, c.servers, c.messages, c.symbol, store, query, out),
         Code::Even => even_answer::answer(op, c.servers, c.messages, c.symbol, store, query, out),
+        Code::Turn => short_code::answer(op, c.servers, c.messages, c.symbol, store, query, out),
     }
 }
 
@@ -127,6 +133,16 @@ pub fn recover(c: Catalogue, wanted: usize, key: &[u8], answers: &[u8], message:
             message,
         ),
         Code::Even => even_recover::recover(
+            op,
+            c.servers,
+            c.messages,
+            c.symbol,
+            wanted,
+            key,
+            answers,
+            message,
+        ),
+        Code::Turn => turn_code::recover(
             op,
             c.servers,
             c.messages,

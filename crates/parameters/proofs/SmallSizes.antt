@@ -1,12 +1,12 @@
--- Within the bounds of a code its sizes are small (`short-small`, `even-small`): what callers need so that their sums and products fit. No message is
--- empty, and the length of each has at most seven digits.
+-- Within the bounds of a code its sizes are small (`short-small`, `turn-small`, `even-small`): what callers need so that their sums and products fit. No
+-- message is empty, and the length of each has at most seven digits.
 -- Rests on the bounds as facts (`Bounds`).
 use mathlib.Core.Path.{_≡_, sym, ap, _∙_}
 use Prim.Native.Nat.{ℕ, suc, _-_, _*_, _^_, _≤_, _<_}
 use native.Mathlib.Nat.{mul-le-mul, one-le-pow, mul-comm, mul-left-comm, pow-suc, pow-le-pow-right, div-le-self}
 use native.Mathlib.Omega.{arith}
 use Rattle.parameters.specs.declared.Sizes.{Sizes}
-use Rattle.parameters.specs.Measures.{shortSizes, evenRows, evenSizes, keyPlaces, mostServers}
+use Rattle.parameters.specs.Measures.{shortSizes, turnSizes, evenRows, evenSizes, keyPlaces, mostServers}
 use Rattle.parameters.proofs.Bounds.{ShortBounds, EvenBounds}
 
 -- the sizes, and the queries and slots of N servers together
@@ -42,6 +42,24 @@ short-small N K S b =
       queries = omega arith;
       slot = omega arith;
       slots = omega arith;
+    }
+
+-- a key of the turning code is as long as its queries
+pub turn-small : (N K S : ℕ) → ShortBounds N K S → Small N (turnSizes N K S)
+unfolding turnSizes shortSizes
+turn-small N K S b =
+    let short = short-small N K S b in
+    record {
+      servers = short .servers;
+      symbols = short .symbols;
+      message-some = short .message-some;
+      message = short .message;
+      store = short .store;
+      key = short .query;
+      query = short .query;
+      queries = short .queries;
+      slot = short .slot;
+      slots = short .slots;
     }
 
 -- a server's share of a message's symbols

@@ -12,7 +12,7 @@ serversFit N = leb 2 N && leb N 16
 abbrev pub symbolFits : ℕ → Bool
 symbolFits S = leb 1 S && leb S 4096
 
--- in the short code K is 1 to 32
+-- in the short code K is 1 to 32, and in the turning code too, whose bounds are the short code's (document 02, item 4)
 abbrev pub shortMessagesFit : ℕ → Bool
 shortMessagesFit K = leb 1 K && leb K 32
 

@@ -1,5 +1,5 @@
--- The sizes of each code (document 01, 'Catalogue', 'Short code', 'Even code', 'Session'): a message is its symbols one after
--- another, the store its messages one after another.
+-- The sizes of each code (document 01, 'Catalogue', 'Short code', 'Even code', 'Session'; document 02, item 4): a message is its
+-- symbols one after another, the store its messages one after another.
 use Prim.Native.Nat.{ℕ, _+_, _-_, _*_, _/_, _^_}
 use Rattle.parameters.specs.declared.Sizes.{Sizes}
 
@@ -12,6 +12,17 @@ shortSizes N K S = record {
   key = K - 1;
   query = K;
   slot = S;
+}
+
+-- The turning code (document 02, item 4): the short code's, but that the key has K digits, the turn besides
+unfoldable pub turnSizes : ℕ → ℕ → ℕ → Sizes
+turnSizes N K S = record {
+  symbols = shortSizes N K S .symbols;
+  message = shortSizes N K S .message;
+  store = shortSizes N K S .store;
+  key = K;
+  query = shortSizes N K S .query;
+  slot = shortSizes N K S .slot;
 }
 
 -- The rows of an even query

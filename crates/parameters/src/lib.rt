@@ -1,5 +1,5 @@
 // The parameters of a code, N servers, K messages, symbols of S bytes: what they may be, and the sizes that follow from them.
-// Each code has a module: `fits` tests its bounds, `sizes` gives its sizes. Here is what the codes share.
+// Each code has a module: `fits` tests its bounds, unless it has another code's, `sizes` gives its sizes. Here is what the codes share.
 ghost use mathlib.Core.Path.{_≡_};
 ghost use mathlib.Core.Bool.{_&&_};
 ghost use Prim.Native.Nat.{_^_, _<_};
@@ -7,6 +7,7 @@ ghost use Rattle.parameters.specs.Bounds.{serversFit, symbolFits};
 
 pub mod even;
 pub mod short;
+pub mod turn;
 
 // Every length that a caller has to know (01: a pack's pieces, pack, store, key, request, slot).
 pub struct Sizes {

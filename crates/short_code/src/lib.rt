@@ -25,10 +25,7 @@ fn balancing_digit(n: usize, server: usize, key: &[u8]) -> usize
     ensures { λ r. ⌜ r ≡ balancing n server (now (key .entry)) ⌝ }
 {
     let sum = digits::digit_sum(n, key);
-    if sum <= server {
-        return server - sum;
-    }
-    server + (n - sum)
+    digits::subtract_modulo(n, server, sum)
 }
 
 // Whether a key of the right length is valid: all its digits are below n.
@@ -148,8 +145,6 @@ pub fn recover(
     ensures { λ _. ⌜ now (message .exit)
         ≡ lay 0 (recoverIn (shortScheme (sumOf op) n k s) n wanted (now (key .entry)) (now (answers .entry))) (now (message .entry)) ⌝ }
 {
-    let starts = recovering::slot_starts(s);
     let t = digits::digit_sum(n, key);
-    let empty = digits::all_below(1, key);
-    recovering::recover_row(op, n, s, t, empty, &starts, answers, message);
+    recovering::recover_slots(op, n, s, t, key, answers, message);
 }

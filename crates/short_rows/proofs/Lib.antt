@@ -1,3 +1,4 @@
 pub mod Gathering
 pub mod Places
+pub mod Parts
 pub mod Running

@@ -26,6 +26,13 @@ pub record Placed (N S : ℕ) (starts answers : List ℕ) : Type 0 where
   pub known : N ≤ length starts
   pub inside : (i : ℕ) → i < N → getD starts i 0 + S ≤ length answers
 
+-- the answers of N servers lie in slots of S bytes, and it has room for all of them
+pub record Slotted (N S : ℕ) (answers : List ℕ) : Type 0 where
+  pub few : N ≤ 16
+  pub some : 0 < S
+  pub small : S ≤ 1048576
+  pub room : N * S ≤ length answers
+
 -- where the slots of 16 servers begin, of S bytes each
 abbrev pub slotStarts : ℕ → List ℕ
 slotStarts S = map (λ i. i * S) (range 0 16)

@@ -2,7 +2,7 @@
 // (document 02, item 3; specs/Running.antt).
 ghost use mathlib.Core.Path.{_≡_};
 ghost use mathlib.Core.Bool.{true};
-ghost use Prim.Native.Nat.{_+_, _%_, _<_};
+ghost use Prim.Native.Nat.{_+_, _-_, _%_, _<_};
 ghost use lib.ListN.{length};
 ghost use Rattle.lists.specs.Below.{allBelow};
 ghost use Rattle.short_scheme.specs.Short.{digitSum};
@@ -32,6 +32,17 @@ pub fn add_modulo(n: usize, a: usize, b: usize) -> usize
         return a + b;
     }
     b - left
+}
+
+// (a - b) modulo n, without a division.
+pub fn subtract_modulo(n: usize, a: usize, b: usize) -> usize
+    requires { ⌜ (a < n) × (b < n) ⌝ }
+    ensures { λ r. ⌜ r ≡ (a + (n - b)) % n ⌝ }
+{
+    if b <= a {
+        return a - b;
+    }
+    a + (n - b)
 }
 
 // A turn of the loop below: from the running sum before digit i to the one after it. Both are below n.

@@ -9,10 +9,11 @@ ghost use Rattle.lists.specs.Parts.{cut, lay};
 ghost use Rattle.lists.specs.Ranges.{range};
 ghost use Rattle.symbol.specs.Sum.{less};
 ghost use Rattle.symbol.specs.Operations.{sumOf};
-ghost use Rattle.short_rows.specs.Steps.{Placed, slotStarts, fromPlaces};
+ghost use Rattle.short_scheme.specs.Short.{allZero};
+ghost use Rattle.short_rows.specs.Steps.{Placed, Slotted, slotStarts, fromPlaces};
 
 // Where the slots of 16 servers begin, if each has s bytes.
-pub fn slot_starts(s: usize) -> [usize; 16]
+fn slot_starts(s: usize) -> [usize; 16]
     requires { ⌜ s ≤ 1048576 ⌝ }
     ensures { λ r. ⌜ r ≡ slotStarts s ⌝ }
 {
@@ -80,4 +81,25 @@ pub fn recover_row(
         recover_symbol(op, s, empty, answers, from, other, at, message);
         d += 1;
     }
+}
+
+// The same from answers in slots of s bytes. Server t's is empty exactly if the row's other digits, the key's, are all 0.
+pub fn recover_slots(
+    op: Operation,
+    n: usize,
+    s: usize,
+    t: usize,
+    key: &[u8],
+    answers: &[u8],
+    message: &mut [u8],
+)
+    requires { ⌜ t < n ⌝ }
+    requires { ⌜ Slotted n s (now answers) ⌝ }
+    ensures { λ _. ⌜ now (message .exit)
+        ≡ lay 0 (flatMap (fromPlaces (sumOf op) n s t (allZero (now (key .entry))) (slotStarts s) (now (answers .entry))) (range 1 (n - 1)))
+        (now (message .entry)) ⌝ }
+{
+    let starts = slot_starts(s);
+    let empty = crate::digits::all_below(1, key);
+    recover_row(op, n, s, t, empty, &starts, answers, message);
 }

@@ -50,16 +50,6 @@ module _ (N n : ℕ) (key : List ℕ) (known : n < N) where
   pub balance-below : balancing N n key < N
   balance-below = mod-lt (n + (N - keySum N key)) (omega arith)
 
-  -- the balancing digit without a division
-  pub balance-low : keySum N key ≤ n → balancing N n key ≡ n - keySum N key
-  balance-low h =
-      let a = n + (N - keySum N key) in
-      let r = mod-lt (digitSum key) {m = N} (omega arith) in
-      once-around N a (omega arith) (omega arith) ∙ (let e : a - N ≡ n - keySum N key = omega arith in e)
-
-  pub balance-high : n < keySum N key → balancing N n key ≡ n + (N - keySum N key)
-  balance-high h = mod-eq-of-lt (let r = mod-lt (digitSum key) {m = N} (omega arith) in omega arith)
-
 -- Server (d + T) modulo N is asked for digit d, and server T for digit 0
 pub balance-turn : (N d : ℕ) (key : List ℕ) → d < N → balancing N ((d + keySum N key) % N) key ≡ d
 balance-turn N d key h =

@@ -24,13 +24,13 @@ admits-row N K n query e =
     let p = and-eq-true-iff (eqb (length query) K) (allBelow N query && eqb (digitSum query % N) n) .0 e in
     record { long = eqb-true (length query) K (p .0); digits = and-eq-true-iff (allBelow N query) (eqb (digitSum query % N) n) .0 (p .1) .0 }
 
-admits-sum : (N K n : ℕ) (query : List ℕ) → shortAdmits N K n query ≡ true → digitSum query % N ≡ n
+pub admits-sum : (N K n : ℕ) (query : List ℕ) → shortAdmits N K n query ≡ true → digitSum query % N ≡ n
 unfolding shortAdmits
 admits-sum N K n query e =
     let p = and-eq-true-iff (eqb (length query) K) (allBelow N query && eqb (digitSum query % N) n) .0 e in
     eqb-true (digitSum query % N) n (and-eq-true-iff (allBelow N query) (eqb (digitSum query % N) n) .0 (p .1) .1)
 
-admitted : (N K n : ℕ) (query : List ℕ) → DigitRow N K query → digitSum query % N ≡ n → shortAdmits N K n query ≡ true
+pub admitted : (N K n : ℕ) (query : List ℕ) → DigitRow N K query → digitSum query % N ≡ n → shortAdmits N K n query ≡ true
 unfolding shortAdmits
 admitted N K n query row e = rw (eq-eqb (length query) K (row .long), row .digits, eq-eqb (digitSum query % N) n e)
 

@@ -6,7 +6,8 @@ use catalogue::Measured;
 use parameters::Sizes;
 use refusal::Outcome;
 use session::Session;
-use trials::draw;
+use trial_bytes::draw;
+use trial_bytes::input::Line;
 use trials::show;
 use trials::state::State;
 
@@ -148,7 +149,7 @@ fn exact(
 }
 
 // x WANTED LESS: a whole fetch with the lent key and store, all of it today. Refused by begin, it ends there.
-pub fn whole(
+fn whole(
     s: State,
     wanted: usize,
     less: usize,
@@ -180,4 +181,30 @@ pub fn whole(
         message,
     );
     show::end();
+}
+
+// A line that makes a whole fetch, with as much of the key and the store as is lent.
+pub fn on_fetch(
+    s: State,
+    line: Line,
+    key: &[u8],
+    store: &[u8],
+    query: &mut [u8],
+    answer: &mut [u8],
+    answers: &mut [u8],
+    message: &mut [u8],
+) {
+    let length = draw::at_most(s.key, key.len());
+    let stored = draw::at_most(s.store, store.len());
+    whole(
+        s,
+        line.a,
+        line.b,
+        &key[..length],
+        &store[..stored],
+        query,
+        answer,
+        answers,
+        message,
+    );
 }

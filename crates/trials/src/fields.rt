@@ -1,7 +1,7 @@
 // Sessions that no history gives: a field set to any value, nothing checked.
-use crate::draw;
 use catalogue::Catalogue;
 use session::Session;
+use trial_bytes::draw;
 
 // The session with another catalogue.
 pub fn catalogue(s: Session, c: Catalogue) -> Session {

@@ -94,11 +94,12 @@ pub fn total(sum: u64) {
     io::print_decimal(STDOUT_FILENO, sum);
 }
 
-// 0 for the short code, 1 for the even one.
+// 0 for the short code, 1 for the even one, 2 for the turning one.
 fn code_number(code: Code) -> usize {
     match code {
         Code::Short => 0,
         Code::Even => 1,
+        Code::Turn => 2,
     }
 }
 

@@ -1,7 +1,7 @@
--- Whole fetches run by computation, through the functions that the claim is about: bench cards B2 and B3 of document 01 (`b2`, `b3`), a fetch
--- from servers that add (`added`), B2 in a season and out of it (`in-season`, `out-of-season`), and that from servers that add of a message which ends
--- inside a word (`cut-short`). Each server is shown its query and writes its answer; the message that is wanted stands in the buffer at the end, but out
--- of season.
+-- Whole fetches run by computation, through the functions that the claim is about: bench cards B2 and B3 of document 01 (`b2`, `b3`), B3
+-- with a turn (`b3-turned`), a fetch from servers that add (`added`), B2 in a season and out of it (`in-season`, `out-of-season`), and that from servers
+-- that add of a message which ends inside a word (`cut-short`). Each server is shown its query and writes its answer; the message that is wanted stands
+-- in the buffer at the end, but out of season.
 use mathlib.Core.Path.{_≡_, refl}
 use mathlib.Core.Bool.{true}
 use mathlib.Core.List.{List, [], _∷_, map, flatMap}
@@ -14,7 +14,7 @@ use Rattle.refusal.specs.declared.Outcome.the-variants.{Value, Refused as NoVal
 use Rattle.refusal.specs.Numbers.{refusalOf}
 use Rattle.refusal.specs.Foremost.{foremost}
 use Rattle.parameters.specs.Bounds.{shortFits}
-use Rattle.parameters.specs.Measures.{shortSizes}
+use Rattle.parameters.specs.Measures.{shortSizes, turnSizes}
 use Rattle.symbol.specs.Sum.{total, totalFrom}
 use Rattle.symbol.specs.Xor.{xorBytes}
 use Rattle.symbol.specs.Words.{onWords}
@@ -24,9 +24,10 @@ use Rattle.calendar.specs.Calendar.{leapYear, daysIn, realDay, before, inSeason
 use Rattle.scheme.specs.Scheme.{answersIn}
 use Rattle.lengths.specs.Lengths.{lengthPlaces, noLengths, lengthsFit, lengthOf}
 use Rattle.catalogue.specs.declared.Catalogue.{Catalogue}
-use Rattle.catalogue.specs.declared.Code.the-variants.{Short}
+use Rattle.catalogue.specs.declared.Code.the-variants.{Short, Turn}
 use Rattle.catalogue.specs.Catalogue.{datesFit, sizesOf, catalogueVerdict}
 use Rattle.short_scheme.specs.Short.{digitSum, shortQuery, shortAdmits, shortAnswerLength, named, shortAnswer, orZeros, recovered, shortRecover}
+use Rattle.turn_code.specs.Turn.{turnQuery, turnAdmits, byPart, turnRecover}
 use Rattle.codes.specs.Codes.{schemeOf}
 use Rattle.server.specs.Answering.{answerVerdict, answering}
 use Rattle.session.specs.Calls.{beginVerdict, begin, issueVerdict, issue, takeVerdict, takeAnswer, recoverVerdict, recover}
@@ -82,6 +83,26 @@ unfolding foremost allBelow range every shortFits shortSizes
     shortAdmits shortAnswerLength named shortAnswer orZeros recovered shortRecover schemeOf
     answerVerdict answering beginVerdict begin issueVerdict issue takeVerdict takeAnswer recoverVerdict recover noMarks marksGood allTaken flatMap
 b3 = record { server-0 = refl; server-1 = refl; buffers = refl }
+
+abbrev turning : Catalogue
+turning = record { code = Turn; sum = ExclusiveOr; opening = noDay; closing = noDay; lengths = noLengths; servers = 2; messages = 2; symbol = 1 }
+
+-- B3 with turn 1: it is server 1 that gets the row of zeros and answers with no bytes
+pub b3-turned : Run turning store (record {
+  wanted = 0;
+  key = 0 ∷ 1 ∷ [];
+  answers = 7 ∷ 7 ∷ [];
+  calls = issuing 0 noDay (0 ∷ 0 ∷ []) noDay (0 ∷ []) ∷ issuing 1 noDay (0 ∷ 0 ∷ []) noDay (0 ∷ []) ∷ taking 0 (90 ∷ []) ∷ taking 1 []
+      ∷ recovering (9 ∷ 9 ∷ []) ∷ [];
+})
+    (asked (1 ∷ 0 ∷ []) (Value 1) (90 ∷ []) ∷ [])
+    (asked (0 ∷ 0 ∷ []) (Value 0) [] ∷ [])
+    ((1 ∷ 0 ∷ []) ∷ (0 ∷ 0 ∷ []) ∷ [] ∷ [] ∷ (90 ∷ 9 ∷ []) ∷ [])
+unfolding foremost allBelow range every shortFits shortSizes turnSizes
+    total totalFrom xorBytes answersIn isNone undated datesFit noLengths lengthsFit lengthOf sizesOf catalogueVerdict digitSum shortQuery
+    shortAnswerLength named shortAnswer orZeros recovered shortRecover turnQuery turnAdmits byPart turnRecover schemeOf
+    answerVerdict answering beginVerdict begin issueVerdict issue takeVerdict takeAnswer recoverVerdict recover noMarks marksGood allTaken flatMap
+b3-turned = record { server-0 = refl; server-1 = refl; buffers = refl }
 
 -- two servers that add, two messages of one symbol of two bytes: the words 255 and 1
 abbrev adding : Catalogue

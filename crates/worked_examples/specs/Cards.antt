@@ -63,7 +63,7 @@ abbrev pub cat : Code → ℕ → ℕ → ℕ → Catalogue
 cat code N K S = record { code = code; sum = ExclusiveOr; opening = noDay; closing = noDay; lengths = noLengths; servers = N; messages = K; symbol = S }
 
 -- the messages 5A and C3 (hex) of B2 and B3
-abbrev pair : List ℕ
+abbrev pub pair : List ℕ
 pair = 90 ∷ 195 ∷ []
 
 -- a store of three messages of eight bytes, none of them 0, since B4 to B6 name none

@@ -17,6 +17,12 @@ enum-told-2 c = search needs
 sizes-requires-2 : tie.Need-sizes-requires-2
 sizes-requires-2 c κs = rw (c .enum-told2 .given .1) at (c .before .before .pre)
 
+enum-told-3 : tie.Need-enum-told-3
+enum-told-3 c = search needs
+
+sizes-requires-3 : tie.Need-sizes-requires-3
+sizes-requires-3 c κs = rw (c .enum-told3 .given .1) at (c .before .before .pre)
+
 returns : tie.Need-returns
 unfolding sizesOf
 returns c = c .sizes .ensures ∙ simp (c .before .enum-told .given .1)
@@ -25,5 +31,9 @@ returns-2 : tie.Need-returns-2
 unfolding sizesOf
 returns-2 c = c .sizes2 .ensures ∙ simp (c .before .enum-told2 .given .1)
 
+returns-3 : tie.Need-returns-3
+unfolding sizesOf
+returns-3 c = c .sizes3 .ensures ∙ simp (c .before .enum-told3 .given .1)
+
 pub sizes-of-spec : {M : Type 1} → statement M
-sizes-of-spec = tie.close (tie.spec enum-told sizes-requires enum-told-2 sizes-requires-2 returns returns-2)
+sizes-of-spec = tie.close (tie.spec enum-told sizes-requires enum-told-2 sizes-requires-2 enum-told-3 sizes-requires-3 returns returns-2 returns-3)

@@ -1,8 +1,9 @@
 -- `codes::answer` meets its contract: a query that the catalogue's code admits can be answered by that code.
-use Rattle.parameters.specs.Measures.{evenSizes}
+use Rattle.parameters.specs.Measures.{evenSizes, turnSizes}
 use Rattle.short_scheme.proofs.Queries.{admits-row}
 use Rattle.even_answer.proofs.Admission.{admitted-answerable}
-use Rattle.codes.proofs.Promises.{admitted-short, admitted-even, scheme-short, scheme-even}
+use Rattle.turn_code.proofs.Queries.{admitted-row}
+use Rattle.codes.proofs.Promises.{admitted-short, admitted-even, admitted-turn, scheme-short, scheme-even, scheme-turn}
 use borrow.Author.Needs.{needs}
 use Rattle.codes.proofs.answer.Statement.{statement}
 use Rattle.codes.proofs.answer.Tie as tie
@@ -31,6 +32,18 @@ answer-requires-2 c κs =
     admitted-answerable (a .c .servers) (a .c .messages) (a .c .symbol) (a .server) (a .store .now) (a .query .now) (a .out .now)
     (admitted-even (a .c) (start .pre .0) e) (p .1 .1 .0) (p .1 .0) (p .1 .1 .1)
 
+enum-told-3 : tie.Need-enum-told-3
+enum-told-3 c = search needs
+
+answer-requires-3 : tie.Need-answer-requires-3
+unfolding turnSizes
+answer-requires-3 c κs =
+    let start = c .before .before .before .before .before .before in
+    let a = start .args in
+    let e = c .before .enum-told3 .given .1 in
+    let p = rw (scheme-turn (a .c) e) at (start .pre) in
+    (admitted-turn (a .c) (start .pre .0) e, (p .1 .1 .0, (admitted-row (a .c .servers) (a .c .messages) (a .query .now) (p .1 .0), p .1 .1 .1)))
+
 same-length : tie.Need-same-length
 same-length c = search needs
 
@@ -47,6 +60,14 @@ returns-2 c =
     rw (scheme-even (c .before .before .before .before .before .before .before .before .before .args .c)
     (c .before .before .before .before .enum-told2 .given .1)) (c .before .before .answer2 .ensures)
 
+same-length-3 : tie.Need-same-length-3
+same-length-3 c = search needs
+
+returns-3 : tie.Need-returns-3
+returns-3 c =
+    rw (scheme-turn (c .before .before .before .before .before .before .before .before .before .args .c)
+    (c .before .before .before .before .enum-told3 .given .1)) (c .before .before .answer3 .ensures)
+
 pub answer-spec : {M : Type 1} → statement M
 answer-spec =
     tie.close
@@ -55,7 +76,11 @@ answer-spec =
     answer-requires
     enum-told-2
     answer-requires-2
+    enum-told-3
+    answer-requires-3
     same-length
     returns
     same-length-2
-    returns-2)
+    returns-2
+    same-length-3
+    returns-3)

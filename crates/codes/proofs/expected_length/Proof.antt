@@ -1,6 +1,8 @@
--- `codes::expected_length` meets its contract: the short code knows the length from the key and the server, and the even code's is a whole slot.
-use Rattle.parameters.specs.Measures.{evenSizes}
-use Rattle.codes.proofs.Promises.{scheme-short, scheme-even}
+-- `codes::expected_length` meets its contract: the short and the turning code know the length from the key and the server, and
+-- the even code's is a whole slot.
+use native.Mathlib.Omega.{arith}
+use Rattle.parameters.specs.Measures.{turnSizes, evenSizes}
+use Rattle.codes.proofs.Promises.{scheme-short, scheme-even, scheme-turn}
 use borrow.Author.Needs.{needs}
 use Rattle.codes.proofs.expected_length.Statement.{statement}
 use Rattle.codes.proofs.expected_length.Tie as tie
@@ -17,6 +19,18 @@ enum-told-2 c = search needs
 slot-requires : tie.Need-slot-requires
 slot-requires c κs = search needs
 
+enum-told-3 : tie.Need-enum-told-3
+enum-told-3 c = search needs
+
+expected-length-requires-2 : tie.Need-expected-length-requires-2
+unfolding turnSizes
+expected-length-requires-2 c κs =
+    let start = c .before .before .before in
+    let a = start .args in
+    let key = (rw (scheme-turn (a .c) (c .enum-told3 .given .1)) at (start .pre)) .1 .1 in
+    let long = key .long in
+    (start .pre .1 .0 .1, (omega arith, key .good))
+
 returns : tie.Need-returns
 returns c =
     rw (scheme-short (c .before .before .before .before .args .c) (c .before .enum-told .given .1)) (c .expected-length .ensures)
@@ -27,7 +41,11 @@ returns-2 c =
     let e = scheme-even (c .before .before .before .before .args .c) (c .before .enum-told2 .given .1) in
     rw e (rw e at (c .slot .ensures))
 
+returns-3 : tie.Need-returns-3
+returns-3 c =
+    rw (scheme-turn (c .before .before .before .before .args .c) (c .before .enum-told3 .given .1)) (c .expected-length2 .ensures)
+
 pub expected-length-spec : {M : Type 1} → statement M
 expected-length-spec =
     tie.close
-    (tie.spec enum-told expected-length-requires enum-told-2 slot-requires returns returns-2)
+    (tie.spec enum-told expected-length-requires enum-told-2 slot-requires enum-told-3 expected-length-requires-2 returns returns-2 returns-3)

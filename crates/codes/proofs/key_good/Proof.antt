@@ -1,6 +1,6 @@
 -- `codes::key_good` meets its contract: each arm asks the code that the catalogue names.
 use Rattle.parameters.specs.Measures.{evenSizes}
-use Rattle.codes.proofs.Promises.{scheme-short, scheme-even}
+use Rattle.codes.proofs.Promises.{scheme-short, scheme-even, scheme-turn}
 use borrow.Author.Needs.{needs}
 use Rattle.codes.proofs.key_good.Statement.{statement}
 use Rattle.codes.proofs.key_good.Tie as tie
@@ -20,13 +20,22 @@ key-good-requires-2 c κs =
     let start = c .before .before .before in
     rw (scheme-even (start .args .c) (c .enum-told2 .given .1)) at (start .pre .1)
 
+enum-told-3 : tie.Need-enum-told-3
+enum-told-3 c = search needs
+
+key-good-requires-3 : tie.Need-key-good-requires-3
+key-good-requires-3 c κs = search needs
+
 returns : tie.Need-returns
 returns c = rw (scheme-short (c .before .before .before .before .args .c) (c .before .enum-told .given .1)) (c .key-good .ensures)
 
 returns-2 : tie.Need-returns-2
 returns-2 c = rw (scheme-even (c .before .before .before .before .args .c) (c .before .enum-told2 .given .1)) (c .key-good2 .ensures)
 
+returns-3 : tie.Need-returns-3
+returns-3 c = rw (scheme-turn (c .before .before .before .before .args .c) (c .before .enum-told3 .given .1)) (c .key-good3 .ensures)
+
 pub key-good-spec : {M : Type 1} → statement M
 key-good-spec =
     tie.close
-    (tie.spec enum-told key-good-requires enum-told-2 key-good-requires-2 returns returns-2)
+    (tie.spec enum-told key-good-requires enum-told-2 key-good-requires-2 enum-told-3 key-good-requires-3 returns returns-2 returns-3)

@@ -1,10 +1,10 @@
 -- `codes::query` meets its contract: a valid key of the catalogue's code is what that code's query asks for.
 use Prim.Native.Nat.{_-_}
 use native.Mathlib.Omega.{arith}
-use Rattle.parameters.specs.Measures.{shortSizes, evenSizes}
+use Rattle.parameters.specs.Measures.{shortSizes, evenSizes, turnSizes}
 use Rattle.parameters.proofs.Bounds.{short-bounds, even-bounds}
 use Rattle.even_sets.proofs.Fits.{layout-fits}
-use Rattle.codes.proofs.Promises.{admitted-short, admitted-even, scheme-short, scheme-even}
+use Rattle.codes.proofs.Promises.{admitted-short, admitted-even, admitted-turn, scheme-short, scheme-even, scheme-turn}
 use borrow.Author.Needs.{needs}
 use Rattle.codes.proofs.query.Statement.{statement}
 use Rattle.codes.proofs.query.Tie as tie
@@ -47,6 +47,22 @@ query-requires-2 c κs =
       p .1 .1 .1,
     )
 
+enum-told-3 : tie.Need-enum-told-3
+enum-told-3 c = search needs
+
+query-requires-3 : tie.Need-query-requires-3
+unfolding turnSizes shortSizes
+query-requires-3 c κs =
+    let start = c .before .before .before .before .before in
+    let a = start .args in
+    let e = c .before .enum-told3 .given .1 in
+    let p = rw (scheme-turn (a .c) e) at (start .pre) in
+    let b = short-bounds (a .c .servers) (a .c .messages) (a .c .symbol) (admitted-turn (a .c) (start .pre .0) e) in
+    let key = p .1 .1 .0 in
+    let long = key .long in
+    let room = p .1 .1 .1 in
+    ((p .1 .0 .1, b .servers-high), (key .good, (omega arith, omega arith)))
+
 same-length : tie.Need-same-length
 same-length c = search needs
 
@@ -63,6 +79,14 @@ returns-2 c =
     rw (scheme-even (c .before .before .before .before .before .before .before .before .args .c) (c .before .before .before .before .enum-told2 .given .1))
     (c .before .before .query2 .ensures)
 
+same-length-3 : tie.Need-same-length-3
+same-length-3 c = search needs
+
+returns-3 : tie.Need-returns-3
+returns-3 c =
+    rw (scheme-turn (c .before .before .before .before .before .before .before .before .args .c) (c .before .before .before .before .enum-told3 .given .1))
+    (c .before .before .query3 .ensures)
+
 pub query-spec : {M : Type 1} → statement M
 query-spec =
     tie.close
@@ -71,7 +95,11 @@ query-spec =
     query-requires
     enum-told-2
     query-requires-2
+    enum-told-3
+    query-requires-3
     same-length
     returns
     same-length-2
-    returns-2)
+    returns-2
+    same-length-3
+    returns-3)

@@ -1,5 +1,5 @@
 -- `codes::recover` meets its contract: what the catalogue's code recovers stands at the start of the message, as far as that reaches.
-use Rattle.codes.proofs.Promises.{admitted-short, admitted-even, scheme-short, scheme-even}
+use Rattle.codes.proofs.Promises.{admitted-short, admitted-even, admitted-turn, scheme-short, scheme-even, scheme-turn}
 use borrow.Author.Needs.{needs}
 use Rattle.codes.proofs.recover.Statement.{statement}
 use Rattle.codes.proofs.recover.Tie as tie
@@ -26,6 +26,17 @@ recover-requires-2 c κs =
     let p = rw (scheme-even (a .c) e) at (start .pre) in
     (admitted-even (a .c) (start .pre .0) e, p .1)
 
+enum-told-3 : tie.Need-enum-told-3
+enum-told-3 c = search needs
+
+recover-requires-3 : tie.Need-recover-requires-3
+recover-requires-3 c κs =
+    let start = c .before .before .before .before .before .before in
+    let a = start .args in
+    let e = c .before .enum-told3 .given .1 in
+    let p = rw (scheme-turn (a .c) e) at (start .pre) in
+    (admitted-turn (a .c) (start .pre .0) e, p .1 .1)
+
 same-length : tie.Need-same-length
 same-length c = search needs
 
@@ -42,6 +53,14 @@ returns-2 c =
     rw (scheme-even (c .before .before .before .before .before .before .before .before .before .args .c)
     (c .before .before .before .before .enum-told2 .given .1)) (c .before .before .recover2 .ensures)
 
+same-length-3 : tie.Need-same-length-3
+same-length-3 c = search needs
+
+returns-3 : tie.Need-returns-3
+returns-3 c =
+    rw (scheme-turn (c .before .before .before .before .before .before .before .before .before .args .c)
+    (c .before .before .before .before .enum-told3 .given .1)) (c .before .before .recover3 .ensures)
+
 pub recover-spec : {M : Type 1} → statement M
 recover-spec =
     tie.close
@@ -50,7 +69,11 @@ recover-spec =
     recover-requires
     enum-told-2
     recover-requires-2
+    enum-told-3
+    recover-requires-3
     same-length
     returns
     same-length-2
-    returns-2)
+    returns-2
+    same-length-3
+    returns-3)

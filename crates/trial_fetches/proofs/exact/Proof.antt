@@ -1,5 +1,5 @@
 -- `trial_fetches::exact` is safe: each part that is lent is no longer than its buffer.
-use Rattle.trials.proofs.Taken.{taken}
+use Rattle.trial_bytes.proofs.Taken.{taken}
 use borrow.Author.Needs.{needs}
 use Rattle.trial_fetches.proofs.exact.Statement.{statement}
 use Rattle.trial_fetches.proofs.exact.Tie as tie

@@ -1,5 +1,5 @@
 -- `trial_fetches::exchange` is safe: the part of the answer that is lent is no longer than its buffer.
-use Rattle.trials.proofs.Taken.{taken}
+use Rattle.trial_bytes.proofs.Taken.{taken}
 use borrow.Author.Needs.{needs}
 use Rattle.trial_fetches.proofs.exchange.Statement.{statement}
 use Rattle.trial_fetches.proofs.exchange.Tie as tie

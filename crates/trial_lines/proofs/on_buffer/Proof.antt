@@ -1,5 +1,5 @@
 -- `on_buffer` is safe: each part that is lent is no longer than its buffer.
-use Rattle.trials.proofs.Taken.{taken}
+use Rattle.trial_bytes.proofs.Taken.{taken}
 use borrow.Author.Needs.{needs}
 use Rattle.trial_lines.proofs.on_buffer.Statement.{statement}
 use Rattle.trial_lines.proofs.on_buffer.Tie as tie

@@ -27,11 +27,33 @@ returns-2 c =
     let first = c .before .before .before in
     simp (sym (first .before .starts .ensures) ∙ first .if1 .left, sym (c .before .starts2 .ensures) ∙ c .if2 .taken)
 
+slice-aggregate-starts-3 : tie.Need-slice-aggregate-starts-3
+slice-aggregate-starts-3 c = search needs
+
+starts-requires-3 : tie.Need-starts-requires-3
+starts-requires-3 c κs = search needs
+
 returns-3 : tie.Need-returns-3
 unfolding codeLine
 returns-3 c =
-    let first = c .before .before .before in
-    simp (sym (first .before .starts .ensures) ∙ first .if1 .left, sym (c .before .starts2 .ensures) ∙ c .if2 .left)
+    let second = c .before .before .before in
+    let first = second .before .before .before in
+    simp (
+      sym (first .before .starts .ensures) ∙ first .if1 .left,
+      sym (second .before .starts2 .ensures) ∙ second .if2 .left,
+      sym (c .before .starts3 .ensures) ∙ c .if3 .taken,
+    )
+
+returns-4 : tie.Need-returns-4
+unfolding codeLine
+returns-4 c =
+    let second = c .before .before .before in
+    let first = second .before .before .before in
+    simp (
+      sym (first .before .starts .ensures) ∙ first .if1 .left,
+      sym (second .before .starts2 .ensures) ∙ second .if2 .left,
+      sym (c .before .starts3 .ensures) ∙ c .if3 .left,
+    )
 
 pub code-line-spec : {M : Type 1} → statement M
 code-line-spec =
@@ -43,4 +65,7 @@ code-line-spec =
     slice-aggregate-starts-2
     starts-requires-2
     returns-2
-    returns-3)
+    slice-aggregate-starts-3
+    starts-requires-3
+    returns-3
+    returns-4)
