@@ -61,7 +61,8 @@ pub fn expected_length(n: usize, s: usize, wanted: usize, server: usize, key: &[
 }
 
 // Writes as much of the wanted message as `message` has room for, from the slots of the answer buffer. The server that was asked for none of it
-// is the one that plays server t of the short code, t being the sum of the key's other digits; from there on they go around as in the short code.
+// is the one that plays server t of the short code, t being the sum of the key's other digits; from there on they go around as in the short code. The
+// key is enough: k and `wanted` say which fetch it is.
 pub fn recover(
     op: Operation,
     n: usize,

@@ -15,7 +15,7 @@ use Rattle.symbol.specs.Operations.{sumOf}
 use Rattle.symbol.proofs.Operations.{group-of}
 use Rattle.short_scheme.specs.Short.{allZero, digitSum}
 use Rattle.short_rows.specs.Steps.{Slotted, slotStarts, fromPlaces}
-use Rattle.short_code.proofs.Slots.{recover-slots}
+use Rattle.short_code.proofs.Slots.{fits-slotted, recover-slots}
 use Rattle.short_code.proofs.recover.Statement.{statement}
 use Rattle.short_code.proofs.recover.Tie as tie
 
@@ -24,9 +24,7 @@ bounds c = short-bounds (c .args .n) (c .args .k) (c .args .s) (c .pre .0)
 
 slotted : (c : tie.Start) → Slotted (c .args .n) (c .args .s) (c .args .answers .now)
 unfolding shortSizes
-slotted c =
-    let b = bounds c in
-    record { few = b .servers-high; some = b .symbol-low; small = omega (arith, b .symbol-high); room = c .pre .1 .1 }
+slotted c = fits-slotted (c .args .n) (c .args .k) (c .args .s) (c .args .answers .now) (c .pre .0) (c .pre .1 .1)
 
 digit-sum-requires : tie.Need-digit-sum-requires
 digit-sum-requires c κs = c .before .before .before .pre .1 .0 .good

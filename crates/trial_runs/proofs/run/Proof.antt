@@ -8,7 +8,8 @@ use Rattle.trial_runs.proofs.run.Tie as tie
 
 abbrev Inv-loop : tie.InvT-loop
 Inv-loop text key₀ store₀ query₀ answer₀ answers₀ message₀ s₀ at₀ key store query answer answers message s at =
-    (length key ≡ length key₀) × (length store ≡ length store₀) × (length query ≡ length query₀) × (length answer ≡ length answer₀) × (length answers ≡ length answers₀) × (length message ≡ length message₀)
+    (length key ≡ length key₀) × (length store ≡ length store₀) × (length query ≡ length query₀) × (length answer ≡ length answer₀)
+    × (length answers ≡ length answers₀) × (length message ≡ length message₀)
 
 abbrev μ-loop : tie.MeasureT-loop
 μ-loop text key₀ store₀ query₀ answer₀ answers₀ message₀ s₀ at₀ key store query answer answers message s at = length text - at

@@ -1,4 +1,5 @@
--- `turn_code::part` meets its contract: the turn, the key's last digit, is below n as all its digits are.
+-- `turn_code::part` meets its contract: the turn is added to the server's number, modulo n, and as the key's last digit it is below n as all of
+-- them are.
 use borrow.Author.Needs.{needs}
 use Prim.Native.Nat.{_-_}
 use native.Mathlib.Omega.{arith}

@@ -16,6 +16,7 @@ use Rattle.symbol.specs.Operations.{sumOf}
 use Rattle.symbol.proofs.Operations.{group-of}
 use Rattle.short_scheme.specs.Short.{allZero, digitSum}
 use Rattle.short_rows.specs.Steps.{Slotted, slotStarts, fromPlaces}
+use Rattle.short_code.proofs.Slots.{fits-slotted}
 use Rattle.turn_code.specs.Turn.{turnOf, otherDigits}
 use Rattle.turn_code.proofs.Keys.{others-length, others-good, turn-below}
 use Rattle.turn_code.proofs.Slots.{recover-turned}
@@ -34,9 +35,7 @@ low c = turn-below (c .args .n) (c .args .key .now) (c .pre .1 .0 .good) (some c
 
 slotted : (c : tie.Start) → Slotted (c .args .n) (c .args .s) (c .args .answers .now)
 unfolding turnSizes shortSizes
-slotted c =
-    let b = bounds c in
-    record { few = b .servers-high; some = b .symbol-low; small = omega (arith, b .symbol-high); room = c .pre .1 .1 }
+slotted c = fits-slotted (c .args .n) (c .args .k) (c .args .s) (c .args .answers .now) (c .pre .0) (c .pre .1 .1)
 
 bytes : (c : tie.After-shared-slice-known2) → Below 256 (c .before .before .args .answers .now)
 bytes c i h = omega (arith, c .shared-slice-known2 .given i)
