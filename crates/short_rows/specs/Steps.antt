@@ -26,7 +26,7 @@ pub record Placed (N S : ℕ) (starts answers : List ℕ) : Type 0 where
   pub known : N ≤ length starts
   pub inside : (i : ℕ) → i < N → getD starts i 0 + S ≤ length answers
 
--- the answers of N servers lie in slots of S bytes, and it has room for all of them
+-- the answers of N servers lie in slots of S bytes, one after another, and the answer buffer has room for all of them
 pub record Slotted (N S : ℕ) (answers : List ℕ) : Type 0 where
   pub few : N ≤ 16
   pub some : 0 < S
