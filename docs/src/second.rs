@@ -2,13 +2,14 @@
 //!
 //! Words here are document 01's: mirror, pack, piece, request. The short code follows the formulas of source 000, section III-B;
 //! the even code runs the process of document 01 with counters, row by row, and finds rows again by comparing them; the turning code makes what
-//! all mirrors of the short one are sent and turns that list, and turns the list of answers back. A day is looked up in a list of all days of the
-//! calendar, walked month by month; no date is compared or tested by its numbers. Lines `length=` are collected, however many there are, and
+//! all mirrors of the short one are sent and turns that list, and turns the list of answers back; the round code looks its rows up in a list of all
+//! rows, cuts the store into one of the short code for each block, and recovers by walking along all answers at once. A day is looked up in a list
+//! of all days of the calendar, walked month by month; no date is compared or tested by its numbers. Lines `length=` are collected, however many there are, and
 //! counted afterwards; a pack is recovered whole and then cut. Each module of the folder `second` says in its first line what it holds.
 //!
 //!     rustc --edition 2021 -O docs/src/second.rs -o second
-//!     ./second self               checks it against the bench cards and the papers' tables, balancing digits, turns, the rules of seasons and
-//!                                 lengths, and that fetches recover
+//!     ./second self               checks it against the bench cards and the papers' tables, balancing digits, turns, rounds, the rules of
+//!                                 seasons and lengths, and that fetches recover
 //!     ./second printer FOLDER     writes inputs of the request printer, and what it must print for each
 //!     ./second cases PROGRAM      prints the calls that the program `conformance` or `conformance_codes` makes (its `stdin`)
 //!     ./second expected PROGRAM   prints what they must give (its `stdout`)
@@ -26,6 +27,8 @@ mod sums;
 mod even;
 #[path = "second/rows.rs"]
 mod rows;
+#[path = "second/round.rs"]
+mod round;
 #[path = "second/codes.rs"]
 mod codes;
 #[path = "second/session.rs"]

@@ -1,19 +1,21 @@
 //! The catalogue as a value: what it holds, and which values are turned away, by which number.
 use crate::days::{Day, NO_DAY, place};
+use crate::round::blocks;
 use crate::sizes::pack_length;
 
-/// The codes: the two of document 01, and the turning one (02, item 4).
+/// The codes: the two of document 01, the turning one (02, item 4), and the round one (02, item 8).
 #[derive(Clone, Copy, PartialEq, Debug)]
 pub enum Code {
     Short,
     Even,
     Turn,
+    Round,
 }
 
-pub use Code::{Even, Short, Turn};
+pub use Code::{Even, Round, Short, Turn};
 
 /// The codes with their words in a catalogue's text. A line of the conformance program's input gives a code by its place here.
-pub const CODES: [(Code, &str); 3] = [(Short, "short"), (Even, "even"), (Turn, "turn")];
+pub const CODES: [(Code, &str); 4] = [(Short, "short"), (Even, "even"), (Turn, "turn"), (Round, "round")];
 
 #[derive(Clone, Copy, PartialEq, Debug)]
 pub struct Catalogue {
@@ -67,11 +69,12 @@ pub fn unmeasured(c: Catalogue) -> Catalogue {
 
 pub const ZERO: Catalogue = plain(Short, 0, 0, 0);
 
-/// The bounds of document 01, which a single pack keeps; the turning code has the short one's (02, item 4).
+/// The bounds of document 01, which a single pack keeps; the turning code has the short one's (02, item 4), the round code its own (02, item 8).
 pub fn within(c: Catalogue) -> bool {
     let packs = match c.code {
         Short | Turn => (1..=32).contains(&c.k),
         Even => c.k >= 1 && c.k <= 8 && c.n.saturating_pow(c.k as u32) <= 256,
+        Round => c.k >= 1 && blocks(c.n, c.k).is_some(),
     };
     (2..=16).contains(&c.n) && (1..=4096).contains(&c.s) && packs
 }

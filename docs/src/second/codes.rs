@@ -1,10 +1,11 @@
 //! All codes by their names: requests, admission, answers, recovery, and the answering end.
 use crate::Bytes;
-use crate::catalogue::{Catalogue, Even, Short, Turn, in_season, judged};
+use crate::catalogue::{Catalogue, Even, Round, Short, Turn, in_season, judged};
 use crate::days::Day;
 use crate::even::{even_answer, even_recover, layout, listed, process};
+use crate::round::{answered, round_admits, round_answers, round_recover, round_rows};
 use crate::rows::{parted, row_answer, short_recover, short_requests};
-use crate::sizes::{ceiling, pack_length, pieces, request_length, slot};
+use crate::sizes::{pack_length, pieces, request_ceiling, request_length, slot};
 
 pub fn request(c: Catalogue, wanted: usize, mirror: usize, key: &[u8]) -> Bytes {
     match c.code {
@@ -20,11 +21,12 @@ pub fn request(c: Catalogue, wanted: usize, mirror: usize, key: &[u8]) -> Bytes 
             let m = pieces(c);
             listed(&process(c, wanted)[mirror]).iter().flatten().map(|&(p, place)| key[p * m + place]).collect()
         }
+        Round => round_rows(c, wanted, mirror, key).concat(),
     }
 }
 
 pub fn admits(c: Catalogue, mirror: usize, request: &[u8]) -> bool {
-    let formed = request.len() == request_length(c) && request.iter().all(|&x| (x as usize) < ceiling(c));
+    let formed = request.len() == request_length(c) && request.iter().all(|&x| (x as usize) < request_ceiling(c));
     formed && match c.code {
         Short => request.iter().map(|&d| d as usize).sum::<usize>() % c.n == mirror,
         Turn => true,
@@ -34,6 +36,7 @@ pub fn admits(c: Catalogue, mirror: usize, request: &[u8]) -> bool {
             seen.sort();
             seen.windows(2).all(|w| w[0] != w[1])
         }
+        Round => round_admits(c, mirror, request),
     }
 }
 
@@ -41,12 +44,14 @@ pub fn answer(c: Catalogue, store: &[u8], request: &[u8]) -> Bytes {
     match c.code {
         Short | Turn => row_answer(c, store, request),
         Even => even_answer(c, store, request),
+        Round => round_answers(c, store, request).concat(),
     }
 }
 
 pub fn answer_length(c: Catalogue, request: &[u8]) -> usize {
     match c.code {
         Short | Turn if request.iter().all(|&d| d == 0) => 0,
+        Round => answered(c, request) * c.s,
         _ => slot(c),
     }
 }
@@ -63,6 +68,7 @@ pub fn recover(c: Catalogue, wanted: usize, key: &[u8], answers: &[Bytes]) -> By
             short_recover(c, digits, &parts)
         }
         Even => even_recover(c, wanted, key, answers),
+        Round => round_recover(c, wanted, key, answers),
     }
 }
 

@@ -1,7 +1,7 @@
 //! Numbers that look random: those that choose the cases, and those that the conformance program draws as well.
 use crate::Bytes;
-use crate::catalogue::{Catalogue, Even};
-use crate::sizes::{key_length, pieces};
+use crate::catalogue::Catalogue;
+use crate::sizes::{ceiling, key_length, permuted};
 
 /// Numbers that look random and are the same in every run.
 pub struct Draw(pub u64);
@@ -13,12 +13,12 @@ impl Draw {
     }
 
     pub fn key(&mut self, c: Catalogue) -> Vec<usize> {
-        if c.code != Even {
+        if !permuted(c) {
             return (0..key_length(c)).map(|_| self.below(c.n)).collect();
         }
         let mut key = Vec::new();
-        for _ in 0..c.k {
-            let mut permutation: Vec<usize> = (0..pieces(c)).collect();
+        while key.len() < key_length(c) {
+            let mut permutation: Vec<usize> = (0..ceiling(c)).collect();
             for i in (1..permutation.len()).rev() {
                 permutation.swap(i, self.below(i + 1));
             }
@@ -48,14 +48,14 @@ pub fn fill_drawn(seed: u64, n: usize, out: &mut [u8]) {
 /// A key of the catalogue's code, and more of the same up to `length` bytes; for the seed 0, zeros or permutations in order.
 pub fn drawn_key(seed: u64, c: Catalogue, length: usize) -> Bytes {
     let mut out = vec![0; length];
-    if c.code != Even {
+    if !permuted(c) {
         if seed > 0 {
             fill_drawn(seed, c.n, &mut out);
         }
         return out;
     }
     let mut x = seed;
-    for permutation in out.chunks_exact_mut(pieces(c)) {
+    for permutation in out.chunks_exact_mut(ceiling(c)) {
         for (i, entry) in permutation.iter_mut().enumerate() {
             *entry = i as u8;
         }

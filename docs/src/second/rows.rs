@@ -15,6 +15,15 @@ pub fn short_requests(c: Catalogue, wanted: usize, digits: &[u8]) -> Vec<Bytes> 
     (0..c.n).map(|mirror| with((mirror + c.n - t) % c.n)).collect()
 }
 
+/// Every row of so many digits below N, counted up.
+pub fn all_rows(n: usize, digits: usize) -> Vec<Bytes> {
+    let mut all = vec![Vec::new()];
+    for _ in 0..digits {
+        all = all.into_iter().flat_map(|row: Bytes| (0..n as u8).map(move |digit| [&row[..], &[digit]].concat())).collect();
+    }
+    all
+}
+
 /// The key of the turning code taken apart: the other digits, and the last one, the turn (02, item 4).
 pub fn parted(key: &[u8]) -> (&[u8], usize) {
     let (&turn, digits) = key.split_last().unwrap();

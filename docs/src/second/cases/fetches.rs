@@ -1,8 +1,8 @@
 //! Whole fetches, in both sums, and by keys whose sums come to N.
 use crate::cases::Cases;
-use crate::catalogue::{Catalogue, Even, Short, adding, plain};
+use crate::catalogue::{Catalogue, Short, adding, plain};
 use crate::samples::keys::{all_even, fitted, some, sum_keys};
-use crate::sizes::{key_length, pack_length};
+use crate::sizes::{key_length, pack_length, permuted};
 
 impl Cases {
     /// Whole fetches: every (N, K) of the even code, every wanted pack; a spread of the short one; two keys each, one in order or of zeros.
@@ -18,7 +18,7 @@ impl Cases {
         self.catalogue(c);
         let (store, other) = (1 + self.draw.below(9999), self.draw.below(c.k));
         self.put(format!("s {store} {}", c.k * pack_length(c)));
-        for wanted in (0..c.k).filter(|&w| c.code == Even || w == 0 || w == c.k / 2 || w + 1 == c.k) {
+        for wanted in (0..c.k).filter(|&w| permuted(c) || w == 0 || w == c.k / 2 || w + 1 == c.k) {
             let key = 1 + self.draw.below(9999);
             self.put(format!("k {key} {}\nx {wanted}", key_length(c)));
         }

@@ -1,5 +1,5 @@
 //! Lines about lengths (02, item 6).
-use crate::cases::{Cases, titled};
+use crate::cases::{Cases, some_answer, titled};
 use crate::catalogue::{Catalogue, Even, Short, adding, dated, measured, plain, unmeasured};
 use crate::samples::keys::fitted;
 use crate::samples::lengths::{counted, counted_lines, ends, late_faults, length_faults, moved_lengths, other_lengths, placed, with_some};
@@ -123,6 +123,7 @@ impl Cases {
     pub fn length_days(&mut self, c: Catalogue) {
         self.put(format!("# lengths and days {}", titled(c)));
         let (asked, room, slots, pack) = (request_length(c), slot(c), c.n * slot(c), pack_end(c, 1));
+        let taken = some_answer(c, 0);
         self.today(c.open);
         self.all_taken(c);
         for day in [c.open, c.close, UNREAL[2]] {
@@ -131,7 +132,7 @@ impl Cases {
                 self.catalogue(c);
                 self.put(format!("a 0 {asked} {room}\na 17 0 0\nx 1\nx 1 {}", pack_length(c) - pack + 1));
                 self.hold(c);
-                self.put(format!("i 0 {asked}\ni 17 0\nh 0 {room} {slots}\nr {slots} {pack}\nr {slots} {}", pack - 1));
+                self.put(format!("i 0 {asked}\ni 17 0\nh 0 {taken} {slots}\nr {slots} {pack}\nr {slots} {}", pack - 1));
             }
         }
     }

@@ -2,6 +2,7 @@
 mod texts;
 mod fetches;
 mod turns;
+mod rounds;
 mod refusals;
 mod seasons;
 mod lengths;
@@ -9,12 +10,17 @@ mod sessions;
 
 use crate::Bytes;
 use crate::bench::given;
-use crate::catalogue::{Catalogue, Even, Short, Turn, ZERO, adding, dated, has_dates, measured, plain};
+use crate::catalogue::{Catalogue, Even, Round, Short, Turn, ZERO, adding, dated, has_dates, measured, plain};
 use crate::days::{Day, spelled};
 use crate::draws::Draw;
 use crate::samples::lengths::with_some;
 use crate::samples::seasons::SEASONS;
-use crate::sizes::{key_length, pack_length};
+use crate::sizes::{key_length, pack_length, slot};
+
+/// A length that a mirror's answer may have: in the round code the only one, in the even code, too; in the others it may be empty as well.
+pub fn some_answer(c: Catalogue, mirror: usize) -> usize {
+    slot(c) - if c.code == Round && mirror == 0 { c.s } else { 0 }
+}
 
 /// A catalogue in the title of a section.
 pub fn titled(c: Catalogue) -> String {
@@ -106,6 +112,15 @@ impl Cases {
         self.put(format!("k {key} {}", key_length(c)));
     }
 
+    /// A mirror's answer taken, whichever of the lengths that an answer may have it is of: the others are refused.
+    pub fn take_any(&mut self, c: Catalogue, mirror: usize) {
+        let slots = c.n * slot(c);
+        if c.code == Round {
+            self.put(format!("h {mirror} {} {slots}", slot(c) - c.s));
+        }
+        self.put(format!("h {mirror} {} {slots}\nh {mirror} 0 {slots}", slot(c)));
+    }
+
     /// A good text, written into each of these rooms, and at the start of more.
     pub fn written(&mut self, text: &str, rooms: &[usize], more: &[&str]) {
         self.text(text.as_bytes());
@@ -124,7 +139,10 @@ pub fn cases(program: &str) -> Bytes {
     let mut cases = Cases { out: Vec::new(), draw: Draw(7), last: ZERO };
     match program {
         "conformance" => first_codes(&mut cases),
-        "conformance_codes" => turning(&mut cases),
+        "conformance_codes" => {
+            turning(&mut cases);
+            going_round(&mut cases);
+        }
         _ => panic!("no such program: {program}"),
     }
     cases.out
@@ -189,6 +207,42 @@ fn turning(cases: &mut Cases) {
     }
     cases.session(dated(plain(Turn, 3, 2, 3), open, close), 24);
     cases.session(measured(adding(plain(Turn, 3, 2, 4)), &[5, 7]), 24);
+}
+
+/// The lines about the round code (02, item 8): its own, then those of the others once more.
+fn going_round(cases: &mut Cases) {
+    cases.round_texts();
+    cases.round_bounds();
+    cases.round_lengths();
+    cases.table_4();
+    cases.round_lists();
+    cases.round_keys();
+    cases.round_takes();
+    cases.round_fetches();
+    cases.one_pack(plain(Round, 2, 2, 2));
+    cases.odd_piece(adding(plain(Round, 3, 2, 2)));
+    let few = [plain(Round, 2, 2, 1), adding(plain(Round, 3, 2, 2)), plain(Round, 2, 4, 3), with_some(plain(Round, 3, 2, 2)), with_some(plain(Round, 2, 3, 3))];
+    for c in few.into_iter().chain([plain(Round, 2, 7, 1), plain(Round, 4, 3, 1), plain(Round, 16, 2, 1), adding(plain(Round, 8, 3, 2))]) {
+        cases.refusals(c);
+    }
+    let (open, close) = SEASONS[1];
+    cases.season_orders(dated(plain(Round, 3, 2, 2), open, close));
+    for c in [plain(Round, 3, 2, 2), adding(plain(Round, 2, 3, 2))] {
+        cases.across(dated(c, open, close));
+    }
+    cases.length_days(with_some(dated(plain(Round, 2, 3, 3), open, close)));
+    cases.same_exchanges(plain(Round, 3, 3, 2));
+    for (n, k, s) in [(2, 2, 3), (3, 2, 4), (2, 4, 1), (4, 2, 6)] {
+        let c = Catalogue { add: s > 3, ..plain(Round, n, k, s) };
+        cases.cut_session(c, false);
+        cases.cut_session(c, true);
+    }
+    for (n, k, s) in [(2, 2, 1), (3, 2, 2), (2, 3, 4096), (3, 3, 1), (4, 2, 6), (16, 2, 1), (2, 7, 2), (3, 2, 4096)] {
+        cases.session(Catalogue { add: s % 4 == 2, ..plain(Round, n, k, s) }, 40);
+    }
+    cases.session(dated(plain(Round, 2, 2, 3), open, close), 32);
+    cases.session(measured(adding(plain(Round, 2, 3, 4)), &[5, 16, 11]), 32);
+    cases.session(dated(measured(plain(Round, 3, 2, 3), &[18, 7]), open, close), 32);
 }
 
 /// The lines about days and seasons (02, item 1).

@@ -1,10 +1,10 @@
 //! Every refusal of every call, from both sides, and each beside the others.
 use crate::bench::given;
-use crate::cases::{Cases, titled};
-use crate::catalogue::{Catalogue, Even, Turn, adding, admitted};
+use crate::cases::{Cases, some_answer, titled};
+use crate::catalogue::{Catalogue, Round, Turn, adding, admitted};
 use crate::codes::request;
 use crate::draws::drawn_key;
-use crate::sizes::{ceiling, key_length, pack_end, pack_length, pieces, request_length, slot};
+use crate::sizes::{ceiling, key_length, pack_end, pack_length, permuted, request_ceiling, request_length, slot};
 use crate::text::write_text;
 
 impl Cases {
@@ -29,7 +29,7 @@ impl Cases {
         }
         self.put(format!("k 3 {}", key_length(c)));
         let most = ceiling(c);
-        for place in [Some(0), (c.code == Turn).then(|| key_length(c) - 1)].into_iter().flatten() {
+        for place in [Some(0), matches!(c.code, Turn | Round).then(|| key_length(c) - 1)].into_iter().flatten() {
             for value in [most - 1, most, 255] {
                 self.put(format!("k 3 {}\no {place} {value}\nb 0", key_length(c)));
             }
@@ -40,7 +40,7 @@ impl Cases {
         self.put(format!("a {last} {asked} {0}\na {last} {asked} {1}\na {last} {asked} {2}\na {3} {asked} {0}", slot(c), slot(c) - 1, slot(c) + 2, c.n));
         self.put(format!("a {last} {} {}\na {last} {} {}", asked + 1, slot(c), asked - 1, slot(c)));
         self.put(format!("a 0 {asked} {}", slot(c)));
-        self.put(format!("q {} {most}\na {last} {asked} {}", asked - 1, slot(c)));
+        self.put(format!("q {} {}\na {last} {asked} {}", asked - 1, request_ceiling(c), slot(c)));
         for length in [stored + 1, stored - 1, 0, stored] {
             self.put(format!("s 7 {length}\ni {last} {asked}\na {last} {asked} {}", slot(c)));
         }
@@ -52,23 +52,24 @@ impl Cases {
     pub fn refused_answers(&mut self, c: Catalogue) {
         let (asked, slots, pack, last) = (request_length(c), c.n * slot(c), pack_end(c, 0), c.n - 1);
         // take: 3, 9, 10, 11, and a second one
-        self.put(format!("h 0 {} {slots}", slot(c)));
+        self.put(format!("h 0 {} {slots}", some_answer(c, 0)));
         self.put(format!("h {last} {0} {slots}\nh {last} {1} {slots}\nh {2} {0} {slots}\nh {last} {0} {3}", slot(c) + 1, slot(c) - 1, c.n, slots - 1));
         self.put(format!("r {slots} {pack}"));
         self.put(format!("h {last} {0} {slots}\nh {last} {0} {slots}", slot(c)));
         // recover: 12, 9, then done, into more room, and again
         for mirror in 0..last {
-            self.put(format!("r {slots} {pack}\ni {mirror} {asked}\na {mirror} {asked} {0}\nh {mirror} {0} {slots}\nh {mirror} 0 {slots}", slot(c)));
+            self.put(format!("r {slots} {pack}\ni {mirror} {asked}\na {mirror} {asked} {}", slot(c)));
+            self.take_any(c, mirror);
         }
         self.put(format!("r {} {pack}\nr {slots} {}\nr {slots} {pack}\nr {slots} {}", slots - 1, pack - 1, pack + 1));
     }
 
     /// Every field of a session set to what no history gives: 2, 17, 4, 6, 11 of each call, and the places that are not used.
     pub fn fields(&mut self, c: Catalogue, asked: usize, slots: usize, pack: usize) {
-        let calls = format!("i 0 {asked}\nh 0 {} {slots}\nr {slots} {pack}", slot(c));
+        let calls = format!("i 0 {asked}\nh 0 {} {slots}\nr {slots} {pack}", some_answer(c, 0));
         let set_cat = |n: usize, k: usize, s: usize| format!("g {}", given(Catalogue { n, k, s, ..c }));
         self.optional(c);
-        let most = ceiling(c);
+        let (most, key) = (ceiling(c), drawn_key(3, c, key_length(c)));
         let mut sets = vec![
             (set_cat(17, c.k, c.s), set_cat(c.n, c.k, c.s)),
             (set_cat(c.n, 0, c.s), set_cat(c.n, c.k, c.s)),
@@ -78,11 +79,18 @@ impl Cases {
             ("u 0 0".to_string(), "u 0 1".to_string()),
             ("j 0 0".to_string(), "j 0 1".to_string()),
             ("y 2047 9".to_string(), "y 2047 0".to_string()),
-            (format!("y 0 {most}"), format!("y 0 {}", most - 1)),
+            (format!("y 0 {most}"), format!("y 0 {}", if c.code == Round { key[0] as usize } else { most - 1 })),
         ];
         if c.code == Turn {
             let (turn, unused) = (c.k - 1, c.k);
             sets.push((format!("y {turn} {most}"), format!("y {turn} 1")));
+            sets.push((format!("y {unused} 255"), format!("y {unused} 0")));
+        }
+        if c.code == Round {
+            // an entry twice, an entry of two bits more, and the first place that is not used
+            let (last, unused) = (key_length(c) - 1, key_length(c));
+            sets.push((format!("y 0 {}", key[1]), format!("y 0 {}", key[0])));
+            sets.push((format!("y {last} {}", key[last] | 192), format!("y {last} {}", key[last])));
             sets.push((format!("y {unused} 255"), format!("y {unused} 0")));
         }
         if c.n < 16 {
@@ -139,7 +147,7 @@ impl Cases {
         let (asked, room) = (request_length(like), slot(like));
         let lend = |length: usize| {
             // a key is drawn for an admitted catalogue alone; else its entries are set: zeros, or permutations in order
-            let entries: String = (0..key).map(|i| format!("\no {i} {}", if like.code == Even { i % pieces(like) } else { 0 })).collect();
+            let entries: String = (0..key).map(|i| format!("\no {i} {}", if permuted(like) { i % ceiling(like) } else { 0 })).collect();
             format!("k 0 {length}{}", if admitted(like) { "" } else { entries.as_str() })
         };
         self.catalogue(c);
@@ -168,11 +176,12 @@ impl Cases {
 
     /// A session for pack 1 that takes all answers.
     pub fn all_taken(&mut self, two: Catalogue) {
-        let (asked, room, slots) = (request_length(two), slot(two), two.n * slot(two));
+        let (asked, room) = (request_length(two), slot(two));
         self.catalogue(two);
         self.put(format!("s 5 {}\nk 0 {}\nb 1", two.k * pack_length(two), key_length(two)));
         for mirror in 0..two.n {
-            self.put(format!("i {mirror} {asked}\na {mirror} {asked} {room}\nh {mirror} {room} {slots}\nh {mirror} 0 {slots}"));
+            self.put(format!("i {mirror} {asked}\na {mirror} {asked} {room}"));
+            self.take_any(two, mirror);
         }
     }
 

@@ -1,5 +1,5 @@
 //! Lines about days and seasons (02, item 1).
-use crate::cases::{Cases, titled};
+use crate::cases::{Cases, some_answer, titled};
 use crate::catalogue::{Catalogue, Even, Short, adding, dated, plain, undated};
 use crate::codes::request;
 use crate::days::{Day, NO_DAY, later, spelled};
@@ -139,6 +139,7 @@ impl Cases {
     pub fn season_orders(&mut self, c: Catalogue) {
         self.put(format!("# orders {}", titled(c)));
         let (asked, room, slots, pack, last) = (request_length(c), slot(c), c.n * slot(c), pack_length(c), c.n - 1);
+        let taken = some_answer(c, 0);
         let faulty = [Catalogue { n: 17, ..c }, Catalogue { k: 1, ..c }, adding(Catalogue { s: c.s | 1, ..c }), dated(c, c.close, c.open)];
         self.today(c.open);
         self.all_taken(c);
@@ -163,7 +164,7 @@ impl Cases {
             self.held_calls(c, &held);
             for c in faulty {
                 self.hold(c);
-                self.put(format!("i 0 {asked}\ni 17 0\nh 0 {room} {slots}\nr {slots} {pack}"));
+                self.put(format!("i 0 {asked}\ni 17 0\nh 0 {taken} {slots}\nr {slots} {pack}"));
             }
         }
         // begin, and a whole fetch with its refusals
@@ -204,7 +205,9 @@ impl Cases {
         self.today(before);
         self.catalogue(c);
         self.lend(c);
-        self.put(format!("z 77\nb 1\ni 0 {asked}\nh 0 {room} {slots}\nh 0 0 {slots}\nr {slots} {pack}"));
+        self.put(format!("z 77\nb 1\ni 0 {asked}"));
+        self.take_any(c, 0);
+        self.put(format!("r {slots} {pack}"));
         for mirror in 0..c.n {
             let (issue, ask) = (format!("i {mirror} {asked}"), format!("a {mirror} {asked} {room}"));
             for (day, calls) in [(first, &format!("{issue}\n{ask}")), (after, &ask), (UNREAL[mirror], &ask), (last, &ask), (after, &issue)] {
@@ -215,7 +218,8 @@ impl Cases {
             self.today(last);
             self.put(format!("{issue}\n{ask}"));
             self.today([after, before, UNREAL[2]][mirror % 3]);
-            self.put(format!("h {mirror} {room} {slots}\nh {mirror} 0 {slots}\nr {slots} {pack}"));
+            self.take_any(c, mirror);
+            self.put(format!("r {slots} {pack}"));
         }
         for day in [after, NO_DAY, HUGE[5], first] {
             self.today(day);

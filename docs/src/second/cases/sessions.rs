@@ -1,5 +1,5 @@
 //! Sessions with calls in any order, recovery with other lengths, the same exchanges with lengths and without.
-use crate::cases::{Cases, titled};
+use crate::cases::{Cases, some_answer, titled};
 use crate::catalogue::{Catalogue, has_dates, measured};
 use crate::days::{Day, later};
 use crate::draws::drawn_key;
@@ -18,7 +18,8 @@ impl Cases {
         self.put(format!("s {store} {}\nk {key} {}\nz 255\nb {wanted}", c.k * whole, key_length(c)));
         for mirror in 0..c.n {
             let answer = if honest { format!("a {mirror} {asked} {room}") } else { format!("e {}", 1 + self.draw.below(9999)) };
-            self.put(format!("i {mirror} {asked}\n{answer}\nh {mirror} {room} {slots}\nh {mirror} 0 {slots}"));
+            self.put(format!("i {mirror} {asked}\n{answer}"));
+            self.take_any(c, mirror);
         }
         for start in (0..ends.len()).step_by(2) {
             let some: Vec<usize> = ends.iter().cycle().skip(start).take(c.k).copied().collect();
@@ -79,7 +80,7 @@ impl Cases {
                 _ => length,
             };
             let (asked, room, slots, pack) = (near(request_length(c)), near(slot(c)), near(c.n * slot(c)), near(pack_end(c, wanted)));
-            let size = near(slot(c));
+            let size = near(some_answer(c, mirror));
             let line = match self.draw.below(12) {
                 0 | 1 => format!("i {mirror} {asked}"),
                 2 => format!("h {mirror} {size} {slots}"),
@@ -88,7 +89,7 @@ impl Cases {
                 5 => format!("r {slots} {pack}"),
                 6 => format!("q {} {}", self.draw.below(request_length(c)), self.draw.below(c.n + 1)),
                 7 => format!("a {mirror} {asked} {room}"),
-                _ => format!("i {mirror} {0}\na {mirror} {0} {1}\nh {mirror} {1} {slots}", request_length(c), slot(c)),
+                _ => format!("i {mirror} {0}\na {mirror} {0} {1}\nh {mirror} {2} {slots}", request_length(c), slot(c), some_answer(c, mirror)),
             };
             self.put(line);
         }

@@ -2,9 +2,10 @@
 mod papers;
 mod rules;
 mod turns;
+mod rounds;
 
 use crate::Bytes;
-use crate::catalogue::{Catalogue, Even, Short, Turn, adding, admitted, dated, has_dates, measured, plain};
+use crate::catalogue::{Catalogue, Even, Round, Short, Turn, adding, admitted, dated, has_dates, measured, plain};
 use crate::codes::{answering, request};
 use crate::days::{NO_DAY, later};
 use crate::draws::Draw;
@@ -22,13 +23,14 @@ pub fn all() {
     rules::balancing_digits();
     turns::turning_cards();
     turns::turns();
+    rounds::rounds();
     added_words();
     rules::days();
     rules::season_rules();
     rules::length_rules();
     fetches();
     cut_packs();
-    println!("second implementation: the papers' tables, the bench cards, balancing digits, turns, the calendar, lengths and whole fetches agree");
+    println!("second implementation: the papers' tables, the bench cards, balancing digits, turns, rounds, the calendar, lengths and whole fetches agree");
 }
 
 /// The sum of 02, item 2, by its words: low byte first, carried into the high one, wrapping at 65,536, nothing carried into the next word.
@@ -47,15 +49,15 @@ pub fn added_words() {
     }
 }
 
-/// Whole fetches: every (N, K) of the even code and a spread of the short and the turning one recover each wanted pack, in both sums, by the same
+/// Whole fetches: every (N, K) of the even and the round code and a spread of the short and the turning one recover each wanted pack, in both sums, by the same
 /// requests; with a season too, on its days and on no other.
 pub fn fetches() {
     let mut draw = Draw(1);
     for n in 2..=16 {
-        let even = (2..=8).map(|k| plain(Even, n, k, 2));
+        let permuted = (2..=8).flat_map(|k| [Even, Round].map(|code| plain(code, n, k, 2)));
         let rows = [2, 5, 32].into_iter().flat_map(|k| [Short, Turn].map(|code| (code, k)));
         let rows = rows.flat_map(|(code, k)| [plain(code, n, k, 3), plain(code, n, k, 6)]);
-        let both = even.chain(rows).flat_map(|c| [c, adding(c)]);
+        let both = permuted.chain(rows).flat_map(|c| [c, adding(c)]);
         let (open, close) = SEASONS[n % SEASONS.len()];
         let all = both.flat_map(|c| [c, dated(c, open, close)]).filter(|&c| admitted(c));
         for c in all.collect::<Vec<_>>() {
@@ -106,7 +108,7 @@ pub fn fetched(c: Catalogue, store: &[u8], wanted: usize, key: &[u8], room: usiz
 pub fn cut_packs() {
     let mut draw = Draw(6);
     for (code, n, k, s) in [(Short, 2, 2, 1), (Short, 4, 3, 5), (Short, 3, 32, 4), (Even, 2, 3, 2), (Even, 3, 2, 3), (Even, 2, 2, 4),
-        (Turn, 4, 3, 5), (Turn, 3, 2, 4)] {
+        (Turn, 4, 3, 5), (Turn, 3, 2, 4), (Round, 2, 3, 5), (Round, 3, 2, 4)] {
         let c = Catalogue { add: s % 2 == 0, ..plain(code, n, k, s) };
         let (whole, store): (usize, Bytes) = (pack_length(c), (0..k * pack_length(c)).map(|_| draw.below(256) as u8).collect());
         for length in 1..=whole {

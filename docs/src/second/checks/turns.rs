@@ -3,19 +3,11 @@ use crate::Bytes;
 use crate::catalogue::{Catalogue, Short, Turn, adding, judged, plain};
 use crate::checks::fetched;
 use crate::codes::{admits, request};
+use crate::rows::all_rows;
 use crate::samples::lines::OTHER_CODES;
 use crate::session::begin;
 use crate::sizes::pack_length;
 use crate::text::{read, write_text};
-
-/// Every row of K digits below N.
-fn all_rows(n: usize, k: usize) -> Vec<Bytes> {
-    let mut all = vec![Vec::new()];
-    for _ in 0..k {
-        all = all.into_iter().flat_map(|row: Bytes| (0..n as u8).map(move |digit| [&row[..], &[digit]].concat())).collect();
-    }
-    all
-}
 
 /// The turning code by numbers worked out by hand (02, item 4): the fetches of B1 and B3, turned; its key's length and digits, its texts.
 pub fn turning_cards() {

@@ -5,14 +5,14 @@ mod lines;
 use crate::Bytes;
 use crate::catalogue::{Catalogue, Even, Short, plain, within};
 use crate::draws::Draw;
-use crate::inputs::codes::printer_turns;
+use crate::inputs::codes::{printer_rounds, printer_turns};
 use crate::inputs::lines::{printer_lengths, printer_seasons, printer_sums};
 use crate::samples::keys::sum_keys;
-use crate::sizes::ceiling;
+use crate::sizes::{ceiling, permuted};
 use crate::text::write_text;
 
 /// Inputs of the printer: every (N, K) of the even code and a spread of the short one, single packs too, every wanted pack; each refusal
-/// from both sides of its condition; damaged texts; then the turning code's.
+/// from both sides of its condition; damaged texts; then the turning code's and the round code's.
 pub fn printer_inputs() -> Vec<Bytes> {
     let mut draw = Draw(2026);
     let mut all: Vec<Bytes> = Vec::new();
@@ -63,6 +63,7 @@ pub fn printer_inputs() -> Vec<Bytes> {
     all.push([good.as_bytes(), &vec![b' '; 65537 - good.len()]].concat());
     all.push((0..=255).collect());
     printer_turns(&mut draw, &mut all);
+    printer_rounds(&mut draw, &mut all);
     all
 }
 
@@ -86,7 +87,7 @@ pub fn printer_keys(draw: &mut Draw, all: &mut Vec<Bytes>, c: Catalogue) {
             all.push(input(c, 0, &broken).into_bytes());
         }
     }
-    if c.code == Even {
+    if permuted(c) && key.len() > 1 {
         let mut twice = key.clone();
         twice[0] = twice[1];
         all.push(input(c, 0, &twice).into_bytes());

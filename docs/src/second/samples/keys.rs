@@ -1,6 +1,6 @@
 //! Keys whose digits sum up to N or nearly, and spreads of catalogues.
 use crate::bench::LENGTHS;
-use crate::catalogue::{Catalogue, Code, Even, admitted, plain, within};
+use crate::catalogue::{Catalogue, Code, Even, Round, admitted, plain, within};
 use crate::sizes::{pack_length, slot};
 
 /// Keys whose digits, summed up one by one, come to N exactly, stop one short of it or pass it by one (02, item 3): at the first step that can, at
@@ -24,9 +24,17 @@ pub fn some(code: Code, packs: &[usize]) -> Vec<Catalogue> {
     (2..=16).flat_map(|n| packs.iter().map(move |&k| plain(code, n, k, 1))).collect()
 }
 
+/// Every N and K of a code of few packs.
+fn all_pairs(code: Code) -> Vec<Catalogue> {
+    (2..=16).flat_map(|n| (2..=8).map(move |k| plain(code, n, k, 1))).filter(|&c| within(c)).collect()
+}
+
 pub fn all_even() -> Vec<Catalogue> {
-    let pairs = (2..=16).flat_map(|n| (2..=8).map(move |k| plain(Even, n, k, 1)));
-    pairs.filter(|&c| within(c)).collect()
+    all_pairs(Even)
+}
+
+pub fn all_round() -> Vec<Catalogue> {
+    all_pairs(Round)
 }
 
 /// The catalogue with the largest piece, up to `s`, that is admitted and for which the buffers of `conformance` have room.
