@@ -38,9 +38,11 @@ enum gozimpe_refusal {
  *
  * catalogue: the catalogue's text, four lines to seven and then one for each pack or none, each ended by a newline
  *            (byte 10), nothing after them:
- *                code=short          (or code=even, or code=turn) which requests are admitted, and what is sent; see below
+ *                code=short          (or code=even, code=turn, code=round) which requests are admitted, and what is sent;
+ *                                    see below
  *                mirrors=3           N, 2 to 16
  *                packs=3             K: short and turn, 2 to 32; even, 2 or more with N to the power of K at most 256;
+ *                                    round, 2 or more with V, which is N to the power of K-1, at most 64;
  *                                    1 is refused by a number of its own (GOZIMPE_ONE_PACK)
  *                piece=4             S, 1 to 4096: the bytes of a piece
  *                open=2026-03-01     the season: its first day, and
@@ -65,12 +67,13 @@ enum gozimpe_refusal {
  *            has a season, a request is answered on the days of it alone: 13 is given for a day that does not exist,
  *            14 for one outside. Without the two lines the three numbers are not looked at, whatever they are.
  * mirror:    which mirror this is, 0 to N-1.
- * store:     the packs. A pack has N-1 pieces in the short and the turning code and N to the power of K in the
- *            even code, each of S bytes: the store has K x pieces x S bytes, whatever the lengths are.
+ * store:     the packs. A pack has N-1 pieces in the short and the turning code, N to the power of K in the
+ *            even code, and V x (N-1) in the round code, V blocks of N-1 one after another, each piece of S
+ *            bytes: the store has K x pieces x S bytes, whatever the lengths are.
  * request:   the request's bytes as they came. Any bytes of any length are safe to pass.
  * answer:    where the answer is written, from its first byte on. As long as gozimpe_longest_answer says is
  *            always enough: S bytes in the short and the turning code; in the even code, rows x S, where rows
- *            is N^(K-1) + (N^(K-1) - 1)/(N - 1).
+ *            is N^(K-1) + (N^(K-1) - 1)/(N - 1); in the round code V x S.
  *
  * What a code means for a mirror:
  *     code=short  It admits the rows of K numbers below N whose sum modulo N is its own number. The row of zeros,
@@ -81,13 +84,17 @@ enum gozimpe_refusal {
  *                 not always fall to mirror 0.
  *     code=even   It admits the lists of K x N^(K-1) numbers below N^K in which no number stands twice for the
  *                 same pack. Every answer has rows x S bytes, and none is empty.
+ *     code=round  It admits the lists of V rows, one for each block of a pack, that hold each of the rows which it
+ *                 admits in the short code once, in any order. Row i is answered from block i of each pack, as in
+ *                 the short code, and the answers follow in the order of the rows; that to the row of zeros takes
+ *                 no bytes. So mirror 0 always sends (V-1) x S bytes, and any other mirror V x S.
  *
  * Returns the length of the answer, 0 or more, or a refusal number with a minus sign. Where several
  * refusals apply, the first of 1, 2, 17, 15, 13, 14, 3, 7, 8, 9 is given.
  *
  * An answer of n bytes is written to answer[0] .. answer[n-1], and nothing else is written. 0 means an
- * empty answer, that to the row of zeros in the short and the turning code, and then no room is needed. A
- * refusal writes nothing.
+ * empty answer, that to the row of zeros in the short and the turning code, and then no room is needed; in the
+ * other two codes no answer is empty. A refusal writes nothing.
  *
  * Nothing outside the four buffers is read or written, no memory is allocated, no state is kept, and the
  * call always returns. Several threads may call it at once, with answer buffers of their own. The answer
@@ -95,7 +102,7 @@ enum gozimpe_refusal {
  * store that is a mapped file must not be written or made shorter meanwhile. The pointer of a buffer of
  * length 0 may be anything, NULL too.
  *
- * Have 16 KiB of stack left at each call. Measured: 5,409 bytes; 8,360 in a process's first call, in which
+ * Have 16 KiB of stack left at each call. Measured: 5,537 bytes; 8,488 in a process's first call, in which
  * the loader may look up memcpy.
  */
 int64_t gozimpe_answer(const uint8_t *catalogue, size_t catalogue_len,

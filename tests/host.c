@@ -3,6 +3,7 @@
  * `exact` each is an allocation of just its length instead, so that valgrind sees every byte outside. A call with buffers of
  * length 0 is made once for each choice of those whose pointer is NULL, none and all of them included. Catalogues without a season are
  * asked on days of every kind, real or not. Whatever a catalogue without lengths gives, it has to give with lengths of every kind, too.
+ * host_round.c has what is the round code's alone.
  */
 #define _DEFAULT_SOURCE
 #include <inttypes.h>
@@ -12,6 +13,7 @@
 #include <time.h>
 
 #include "gozimpe.h"
+#include "host.h"
 
 enum { GUARD = 64, FILL = 0xA5 };
 
@@ -29,7 +31,7 @@ static const struct day days[] = {{0, 0, 0}, {2024, 2, 29}, {2023, 2, 29}, {1999
 /* what a call is made with, where the words for it do not say so */
 static const char *beside = "";
 
-static void expect(int ok, const char *what, long detail) {
+void expect(int ok, const char *what, long detail) {
     checks++;
     if (ok) return;
     failures++;
@@ -120,8 +122,9 @@ static long length_of(enum kind kind, int p, int k, long whole) {
 
 /* the bytes of a pack, padding included: pieces x S; of numbers out of bounds, something that a line can hold, and one more, too */
 static long whole_pack(const char *code, int n, int k, int s) {
+    const int factors = code[0] == 'e' ? k : code[0] == 'r' ? k - 1 : 0;
     long whole = code[0] == 'e' ? 1 : n - 1;
-    for (int i = 0; code[0] == 'e' && i < k && whole < MOST_LENGTH; i++) whole *= n;
+    for (int i = 0; i < factors && whole < MOST_LENGTH; i++) whole *= n;
     whole *= s;
     return whole < 1 ? 1 : whole < MOST_LENGTH ? whole : MOST_LENGTH - 1;
 }
@@ -133,7 +136,7 @@ static char *put_lengths(char *at, enum kind kind, int from, int to, int k, long
 }
 
 /* where this is set, every call is made once more with lengths behind the catalogue: the next kind of them each time, and nothing may change */
-static int lengths_too = 1;
+int lengths_too = 1;
 
 /* the text with a line for each pack behind it, and its length; 0 if it does not say how many packs there are, or none, or too many */
 static size_t with_lengths(char *out, const char *catalogue, size_t length) {
@@ -146,8 +149,8 @@ static size_t with_lengths(char *out, const char *catalogue, size_t length) {
     return (size_t)(put_lengths(out + length, (enum kind)(turn++ % KINDS), 0, k, k, whole_pack(code, n, k, s)) - out);
 }
 
-static void call(const char *what, const char *catalogue, size_t catalogue_len, uint64_t mirror, const uint8_t *store, size_t store_len,
-                 const uint8_t *request, size_t request_len, size_t room, int64_t want, const uint8_t *bytes) {
+void call(const char *what, const char *catalogue, size_t catalogue_len, uint64_t mirror, const uint8_t *store, size_t store_len,
+          const uint8_t *request, size_t request_len, size_t room, int64_t want, const uint8_t *bytes) {
     char lined[MOST_TEXT];
     size_t lined_len = with_lengths(lined, catalogue, catalogue_len);
     each(what, catalogue, catalogue_len, mirror, store, store_len, request, request_len, room, want, bytes);
@@ -165,7 +168,7 @@ static void longest_once(const char *what, const char *catalogue, size_t length,
     free(c.base);
 }
 
-static void longest(const char *what, const char *catalogue, size_t length, int64_t want) {
+void longest(const char *what, const char *catalogue, size_t length, int64_t want) {
     char lined[MOST_TEXT];
     size_t lined_len = with_lengths(lined, catalogue, length);
     longest_once(what, catalogue, length, want);
@@ -175,26 +178,26 @@ static void longest(const char *what, const char *catalogue, size_t length, int6
     beside = "";
 }
 
-static void text(char *out, const char *code, int n, int k, int s, int add) {
+void text(char *out, const char *code, int n, int k, int s, int add) {
     sprintf(out, "code=%s\nmirrors=%d\npacks=%d\npiece=%d\n%s", code, n, k, s, add ? "sum=add\n" : "");
 }
 
 /* ---- the reference: the combined pieces of a request, by the rules */
 
 static uint32_t state = 1;
-static unsigned draw(unsigned below) {
+unsigned draw(unsigned below) {
     state = state * 1664525u + 1013904223u;
     return (state >> 8) % below;
 }
 
-static int power(int n, int k) {
+int power(int n, int k) {
     int r = 1;
     while (k-- > 0) r *= n;
     return r;
 }
 
 /* one piece more: by exclusive or, or as a long row of bytes to be added, whose carry is dropped behind every second byte */
-static void add_piece(uint8_t *to, const uint8_t *store, size_t number, int s, int add) {
+void add_piece(uint8_t *to, const uint8_t *store, size_t number, int s, int add) {
     const uint8_t *piece = store + number * (size_t)s;
     unsigned carry = 0;
     for (int i = 0; i < s; i++) {
@@ -370,7 +373,7 @@ static void even(int n, int k, int s, int add) {
     free(store), free(answer);
 }
 
-static void refused_text(const char *what, const char *cat, size_t len, int64_t want) {
+void refused_text(const char *what, const char *cat, size_t len, int64_t want) {
     uint8_t digit = 1, room[1];
     call(what, cat, len, 0, &digit, 1, &digit, 1, sizeof room, want, NULL);
     longest(what, cat, len, want);
@@ -384,6 +387,9 @@ static void catalogues(void) {
         "code=short\nmirrors=2\npacks=100000\npiece=1\n", "code=other\nmirrors=2\npacks=2\npiece=1\n",
         "code=turns\nmirrors=2\npacks=2\npiece=1\n", "code=tur\nmirrors=2\npacks=2\npiece=1\n", "code=Turn\nmirrors=2\npacks=2\npiece=1\n",
         "code=turn \nmirrors=2\npacks=2\npiece=1\n", "code=TURN\nmirrors=2\npacks=2\npiece=1\n", "code=turning\nmirrors=2\npacks=2\npiece=1\n",
+        "code=rounds\nmirrors=2\npacks=2\npiece=1\n", "code=roun\nmirrors=2\npacks=2\npiece=1\n", "code=Round\nmirrors=2\npacks=2\npiece=1\n",
+        "code=round \nmirrors=2\npacks=2\npiece=1\n", "code=ROUND\nmirrors=2\npacks=2\npiece=1\n", "code=around\nmirrors=2\npacks=2\npiece=1\n",
+        "code=round\nmirrors=2\npacks=2\npiece=1", "code=round\nmirrors=2\npacks=1\npiece=1\n\n", "code=turn\ncode=round\nmirrors=2\npacks=2\npiece=1\n",
         "code=turn\nmirrors=2\npacks=2\npiece=1", "code=turn\nmirrors=2\npacks=1\npiece=1\n\n", "code=short\ncode=turn\nmirrors=2\npacks=2\npiece=1\n",
         "code=short\npacks=2\nmirrors=2\npiece=1\n", "code=short\nmirrors=\npacks=2\npiece=1\n", "code=short \nmirrors=2\npacks=2\npiece=1\n",
         "code=short\nmirrors=2\npacks=2\npiece=2\nsum=xor\n", "code=short\nmirrors=2\npacks=2\npiece=2\nsum=\n", "code=short\nmirrors=2\npacks=2\npiece=2\nsum=add",
@@ -493,11 +499,12 @@ static void one_pack(const char *code, int n, int s) {
 /* an odd piece where words are added, with what would be right for it: its own number, and before every other but 1, 2 and 17 */
 static void odd_piece(const char *code, int n, int s) {
     char odd[64];
-    size_t even_code = code[0] == 'e', store_len = 2 * (size_t)((even_code ? n * n : n - 1) * s), len, room = (size_t)(even_code ? (n + 1) * s : s);
+    const int even_code = code[0] == 'e', round_code = code[0] == 'r', rows = even_code ? n + 1 : round_code ? n : 1;
+    size_t store_len = 2 * (size_t)whole_pack(code, n, 2, s), len, room = (size_t)(rows * s), asked = even_code || round_code ? 2 * (size_t)n : 2;
     uint8_t *store = calloc(1, store_len), request[64] = {0};
     for (int i = 0; i < 2 * n; i++) request[i] = (uint8_t)(i / 2);
     if (!even_code) request[0] = 1;
-    size_t asked = even_code ? 2 * (size_t)n : 2;
+    if (round_code) round_list(request, n, 2, 1);
     uint64_t mirror = 1;
     text(odd, code, n, 2, s, 0);
     len = strlen(odd);
@@ -552,24 +559,35 @@ static void dated(char *out, const char *code, int n, int k, int s, int add, str
 
 /* one day: refused 13 or 14, or answered; and before what the number comes, where there is one */
 static void one_day(struct day on, struct day opening, struct day closing) {
-    static const uint8_t store[] = {1, 2, 3, 4}, both[] = {1, 1}, wrong[] = {9, 9}, sums[][2] = {{1 ^ 3, 2 ^ 4}, {4, 6}};
+    static const uint8_t store[] = {1, 2, 3, 4}, blocks[] = {1, 2, 7, 7, 3, 4, 7, 7}, both[] = {1, 1}, list[] = {1, 1, 0, 0}, wrong[] = {9, 9, 0, 0};
+    static const uint8_t sums[][2] = {{1 ^ 3, 2 ^ 4}, {4, 6}};
+    static const struct { const char *code; const uint8_t *store, *request; size_t stored, asked, most; } codes[] = {
+        {"short", store, both, 4, 2, 2}, {"turn", store, both, 4, 2, 2}, {"round", blocks, list, 8, 4, 4}};
     int64_t at = start_of(on), refusal = at < 0 ? -13 : at < start_of(opening) || at >= start_of(closing) ? -14 : 0;
     char cat[128];
     today = on;
-    for (int i = 0; i < 4; i++) {
-        const int add = i % 2, turn = i / 2;
-        dated(cat, turn ? "turn" : "short", 2, 2, 2, add, opening, closing);
+    for (size_t i = 0; i < 2 * sizeof codes / sizeof *codes; i++) {
+        const char *code = codes[i / 2].code;
+        const uint8_t *kept = codes[i / 2].store, *request = codes[i / 2].request;
+        const size_t add = i % 2, stored = codes[i / 2].stored, asked = codes[i / 2].asked;
+        dated(cat, code, 2, 2, 2, (int)add, opening, closing);
         size_t len = strlen(cat);
-        longest("season: longest", cat, len, 2);
-        call("season", cat, len, 0, store, 4, both, 2, 2, refusal < 0 ? refusal : 2, sums[add]);
-        call("season, mirror 1", cat, len, 1, store, 4, both, 2, 2, refusal < 0 ? refusal : turn ? 2 : -7, sums[add]);
-        call("season before 3", cat, len, 2, store, 4, both, 2, 2, refusal < 0 ? refusal : -3, NULL);
-        call("season before 7", cat, len, 0, store, 4, wrong, 2, 2, refusal < 0 ? refusal : -7, NULL);
-        call("season before 8", cat, len, 0, store, 3, both, 2, 2, refusal < 0 ? refusal : -8, NULL);
-        call("season before 9", cat, len, 0, store, 4, both, 2, 1, refusal < 0 ? refusal : -9, NULL);
+        longest("season: longest", cat, len, (int64_t)codes[i / 2].most);
+        call("season", cat, len, 0, kept, stored, request, asked, 2, refusal < 0 ? refusal : 2, sums[add]);
+        call("season, mirror 1", cat, len, 1, kept, stored, request, asked, 2, refusal < 0 ? refusal : code[0] == 't' ? 2 : -7, sums[add]);
+        call("season before 3", cat, len, 2, kept, stored, request, asked, 2, refusal < 0 ? refusal : -3, NULL);
+        call("season before 7", cat, len, 0, kept, stored, wrong, asked, 2, refusal < 0 ? refusal : -7, NULL);
+        call("season before 8", cat, len, 0, kept, stored - 1, request, asked, 2, refusal < 0 ? refusal : -8, NULL);
+        call("season before 9", cat, len, 0, kept, stored, request, asked, 1, refusal < 0 ? refusal : -9, NULL);
         call("season before all", cat, len, UINT64_MAX, NULL, 0, NULL, 0, 0, refusal < 0 ? refusal : -3, NULL);
-        call("1 before the season", cat, len - 1, 0, store, 4, both, 2, 2, -1, NULL);
+        call("1 before the season", cat, len - 1, 0, kept, stored, request, asked, 2, -1, NULL);
     }
+    dated(cat, "round", 2, 1, 1, 1, opening, closing);
+    call("17 before the season", cat, strlen(cat), 0, store, 4, both, 2, 2, -17, NULL);
+    dated(cat, "round", 2, 2, 1, 1, opening, closing);
+    call("15 before the season", cat, strlen(cat), 0, store, 4, both, 2, 2, -15, NULL);
+    dated(cat, "round", 2, 8, 2, 0, opening, closing);
+    call("2 before the season", cat, strlen(cat), 0, store, 4, both, 2, 2, -2, NULL);
     dated(cat, "turn", 2, 1, 1, 1, opening, closing);
     call("17 before the season", cat, strlen(cat), 0, store, 4, both, 2, 2, -17, NULL);
     dated(cat, "short", 17, 2, 2, 0, opening, closing);
@@ -605,9 +623,9 @@ struct shape {
     enum season season;
 };
 
-/* a store, a request that a mirror admits, and the answer by the reference */
+/* a store, a request that a mirror admits, the answer by the reference, and the longest that an answer can be */
 struct served {
-    size_t store_len, request_len, answer_len;
+    size_t store_len, request_len, answer_len, slot;
     uint64_t mirror;
     uint8_t *store, *answer, request[1024 + 1];
 };
@@ -631,7 +649,7 @@ static void serve_row(struct shape c, struct served *v) {
     unsigned total = row_answer(v->answer, v->store, v->request, c.n, c.k, c.s, c.add);
     v->mirror = (c.code[0] == 't' ? draw((unsigned)c.n) : total) % (unsigned)c.n;
     v->request_len = (size_t)c.k;
-    v->answer_len = (size_t)c.s;
+    v->answer_len = v->slot = (size_t)c.s;
 }
 
 static void serve_even(struct shape c, struct served *v) {
@@ -640,7 +658,14 @@ static void serve_even(struct shape c, struct served *v) {
     struct walk w = {c.n, c.k, c.s, c.add, 0, 0, v->store, v->request, v->answer};
     for (int b = 1; b <= c.k; b++) sets(&w, list, 0, 0, b);
     v->mirror = draw((unsigned)c.n);
-    v->answer_len = (size_t)(w.rows * c.s);
+    v->answer_len = v->slot = (size_t)(w.rows * c.s);
+}
+
+static void serve_round(struct shape c, struct served *v) {
+    v->mirror = draw((unsigned)c.n);
+    v->request_len = round_list(v->request, c.n, c.k, (int)v->mirror);
+    v->answer_len = round_answer(v->answer, v->store, v->request, c.n, c.k, c.s, c.add);
+    v->slot = (size_t)(power(c.n, c.k - 1) * c.s);
 }
 
 static struct served serve(struct shape c) {
@@ -651,20 +676,23 @@ static struct served serve(struct shape c) {
     if (v.store == NULL || v.answer == NULL) exit(2);
     for (size_t i = 0; i < v.store_len; i++) v.store[i] = (uint8_t)draw(256);
     if (c.code[0] == 'e') serve_even(c, &v);
+    else if (c.code[0] == 'r') serve_round(c, &v);
     else serve_row(c, &v);
     return v;
 }
 
 /* a text that the mirror serves by: the same answer, and the same numbers for what is wrong in the call */
 static void goes_by(const char *what, const char *cat, size_t len, struct shape c, const struct served *v) {
-    static const uint8_t zeros[32] = {0};
+    static const uint8_t zeros[1024] = {0};
     size_t room = v->answer_len, store = v->store_len, asked = v->request_len;
-    longest(what, cat, len, (int64_t)room);
+    const int of_rows = c.code[0] == 's' || c.code[0] == 't';
+    longest(what, cat, len, (int64_t)v->slot);
     any_day = c.season == NEVER;
     today = opening_day;
     call(what, cat, len, v->mirror, v->store, store, v->request, asked, room, (int64_t)room, v->answer);
     call(what, cat, len, v->mirror, v->store, store, v->request, asked, room + 5, (int64_t)room, v->answer);
-    for (uint64_t m = 0; c.code[0] != 'e' && m < (uint64_t)c.n && admits(c.code, c.n, m, 0); m++) {
+    if (c.code[0] == 'r') call(what, cat, len, v->mirror, v->store, store, zeros, asked, room, -7, NULL);
+    for (uint64_t m = 0; of_rows && m < (uint64_t)c.n && admits(c.code, c.n, m, 0); m++) {
         call(what, cat, len, m, v->store, store, zeros, asked, 0, 0, NULL);
         call(what, cat, len, m, v->store, store, zeros, asked, room, 0, NULL);
     }
@@ -831,12 +859,18 @@ static void own_numbers(int add, enum season season, const struct served *v) {
         {"even", 6, 4, 4, add, season}, {"even", 16, 3, 4, add, season}, {"even", 2, 33, 4, add, season}, {"even", 2, 40, 4, add, season},
         {"turn", 1, 2, 4, add, season}, {"turn", 17, 2, 4, add, season}, {"turn", 2, 2, 0, add, season}, {"turn", 2, 2, 4097, add, season},
         {"turn", 2, 0, 4, add, season}, {"turn", 2, 33, 4, add, season}, {"turn", 16, 40, 4096, add, season},
+        {"round", 1, 2, 4, add, season}, {"round", 17, 2, 4, add, season}, {"round", 2, 2, 0, add, season}, {"round", 2, 2, 4097, add, season},
+        {"round", 2, 0, 4, add, season}, {"round", 2, 8, 4, add, season}, {"round", 3, 5, 4, add, season}, {"round", 8, 4, 4096, add, season},
+        {"round", 9, 3, 4, add, season}, {"round", 16, 17, 4, add, season}, {"round", 2, 33, 4, add, season},
         {"short", 2, 2, 4, add, CLOSES_FIRST}, {"even", 2, 1, 3, add, CLOSES_FIRST}, {"short", 17, 1, 3, add, season}, {"turn", 3, 2, 4, add, CLOSES_FIRST},
+        {"round", 3, 2, 4, add, CLOSES_FIRST},
     };
     const struct shape one[] = {{"short", 2, 1, 4, add, season}, {"short", 16, 1, 3, add, season}, {"turn", 2, 1, 4, add, season}, {"turn", 16, 1, 3, add, season},
-                                {"even", 2, 1, 4, add, season}, {"even", 16, 1, 3, add, season}};
+                                {"even", 2, 1, 4, add, season}, {"even", 16, 1, 3, add, season},
+                                {"round", 2, 1, 4, add, season}, {"round", 16, 1, 3, add, season}};
     const struct shape odd[] = {{"short", 2, 2, 3, 1, season}, {"short", 3, 32, 4095, 1, season}, {"turn", 2, 2, 3, 1, season}, {"turn", 3, 32, 4095, 1, season},
-                                {"even", 2, 2, 1, 1, season}, {"even", 2, 8, 3, 1, season}};
+                                {"even", 2, 2, 1, 1, season}, {"even", 2, 8, 3, 1, season}, {"round", 2, 2, 1, 1, season},
+                                {"round", 8, 3, 4095, 1, season}};
     for (size_t i = 0; i < sizeof out / sizeof *out; i++) turned_away(out[i], v, -2);
     for (size_t i = 0; i < sizeof one / sizeof *one; i++) turned_away(one[i], v, -17);
     for (size_t i = 0; i < sizeof odd / sizeof *odd; i++) turned_away(odd[i], v, -15);
@@ -845,9 +879,9 @@ static void own_numbers(int add, enum season season, const struct served *v) {
 /* more packs than a catalogue can have: a line behind the 32nd is looked at for its form, too */
 static void many_packs(const struct served *v) {
     char cat[MOST_TEXT];
-    static const char *codes[] = {"short", "even", "turn"};
+    static const char *codes[] = {"short", "even", "turn", "round"};
     for (int packs = 33; packs <= 40; packs++) {
-        const struct shape c = {codes[packs % 3], 2, packs, 4, packs / 2 % 2, packs / 4 % 2 ? SEASON : NEVER};
+        const struct shape c = {codes[packs % 4], 2, packs, 4, packs / 2 % 2, packs / 4 % 2 ? SEASON : NEVER};
         one_form(c, v);
         comes_first("lengths: 33rd, form", cat, one_other(cat, c, ONES, 32, "length=10000000\n"), v, -1);
         comes_first("lengths: 33rd, most", cat, one_other(cat, c, ONES, 32, "length=9999999\n"), v, -2);
@@ -855,11 +889,12 @@ static void many_packs(const struct served *v) {
     }
     turned_away((struct shape){"short", 2, 99999, 1, 0, NEVER}, v, -2);
     turned_away((struct shape){"even", 2, 65568, 1, 0, NEVER}, v, -2);
+    turned_away((struct shape){"round", 2, 65538, 1, 0, NEVER}, v, -2);
 }
 
 /* the largest length of a catalogue, and one more, at one pack of any */
 static void largest(struct shape c) {
-    int rows = c.code[0] == 'e' ? power(c.n, c.k - 1) + (power(c.n, c.k - 1) - 1) / (c.n - 1) : 1, pack = (int)draw((unsigned)c.k);
+    int part = power(c.n, c.k - 1), rows = c.code[0] == 'e' ? part + (part - 1) / (c.n - 1) : c.code[0] == 'r' ? part : 1, pack = (int)draw((unsigned)c.k);
     char cat[MOST_TEXT], line[32];
     sprintf(line, "length=%ld\n", whole_of(c));
     longest_once("lengths: largest", cat, one_other(cat, c, ONES, pack, line), (int64_t)rows * c.s);
@@ -873,6 +908,7 @@ static void largest_lengths(int n, int most_even) {
         const enum season season = n % 3 ? SEASON : NEVER;
         for (int k = 2; k <= 32; k++) largest((struct shape){"short", n, k, s, add, season}), largest((struct shape){"turn", n, k, s, add, season});
         for (int k = 2; k <= most_even; k++) largest((struct shape){"even", n, k, s, add, season});
+        for (int k = 2; power(n, k - 1) <= 64; k++) largest((struct shape){"round", n, k, s, add, season});
     }
 }
 
@@ -900,7 +936,8 @@ static void longest_texts(void) {
 static void lengths(void) {
     static const struct { const char *code; int n, k, s; } some[] = {{"short", 2, 2, 2}, {"short", 3, 3, 4}, {"short", 16, 32, 6},
                                                                       {"even", 2, 2, 2}, {"even", 3, 3, 2}, {"even", 2, 8, 2},
-                                                                      {"turn", 2, 2, 2}, {"turn", 3, 3, 4}, {"turn", 16, 32, 6}};
+                                                                      {"turn", 2, 2, 2}, {"turn", 3, 3, 4}, {"turn", 16, 32, 6},
+                                                                      {"round", 3, 2, 2}, {"round", 2, 7, 2}};
     lengths_too = 0;
     for (int add = 0; add <= 1; add++)
         for (enum season season = NEVER; season <= SEASON; season++)
@@ -952,13 +989,15 @@ int main(int argc, char **argv) {
     cards();
     turned();
     catalogues();
-    first_line("short"), first_line("even"), first_line("turn");
+    first_line("short"), first_line("even"), first_line("turn"), first_line("round");
     words();
     seasons();
     lengths();
+    round_once();
     for (int n = 2; n <= 16; n++) {
-        one_pack("short", n, 3), one_pack("turn", n, 3), one_pack("even", n, 3);
-        odd_piece("short", n, n % 2 ? 1 : 4095), odd_piece("turn", n, n % 2 ? 4095 : 1), odd_piece("even", n, 3);
+        one_pack("short", n, 3), one_pack("turn", n, 3), one_pack("even", n, 3), one_pack("round", n, 3);
+        odd_piece("short", n, n % 2 ? 1 : 4095), odd_piece("turn", n, n % 2 ? 4095 : 1), odd_piece("even", n, 3), odd_piece("round", n, n % 2 ? 3 : 4095);
+        rounds(n);
         largest_lengths(n, most[n]);
         for (int k = 2; k <= most[n]; k++) even(n, k, n == 4 && k == 4 ? 64 : 3, 0), even(n, k, n == 4 && k == 4 ? 64 : 6, 1);
         for (size_t c = 0; c < sizeof row_codes / sizeof *row_codes; c++) {

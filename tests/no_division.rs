@@ -1,6 +1,7 @@
 //! Shows from the sources that no division and no remainder stands in a function that an issue under the short code runs to find the balancing digit
 //! (document 02, item 3), nor in one that an issue under the turning code runs for it, the turn included (item 4). It finds them itself, by their calls,
-//! through all crates: those on a way from `ISSUE` to one of the `QUERIES`, and all that these reach, `DIGIT` and what is below it among them.
+//! through all crates: those on a way from `ISSUE` to one of the `QUERIES`, and all that these reach, `DIGIT` and what is below it among them. A way
+//! through `OTHER` is not one of these codes' issues: the round code asks for rows of the short code, by keys that it writes in base N, for which it divides.
 //!
 //!     rustc --edition 2021 -O tests/no_division.rs -o no_division
 //!     ./no_division crates          reads the sources; then plants divisions, calls and gaps in what it has read, each of which it must find
@@ -13,6 +14,7 @@ use std::collections::{BTreeMap, BTreeSet};
 /// The call, the functions of the short and the turning code that it comes to, and the one that finds the digit.
 const ISSUE: &str = "session::Session::issue";
 const QUERIES: [&str; 2] = ["short_code::query", "turn_code::query"];
+const OTHER: &str = "round_code::query";
 const DIGIT: &str = "short_code::balancing_digit";
 
 /// Operators that divide, and words that no name may have as one of its parts.
@@ -33,11 +35,12 @@ fn reached(calls: &Calls, from: &[&str]) -> BTreeMap<String, usize> {
 
 /// The functions that have to do without a division, from the call down: those on a way from `ISSUE` to one of the `QUERIES`, and those that these reach.
 fn finding(calls: &Calls) -> Vec<String> {
-    let leads = |name: &str| reached(calls, &[name]).keys().any(|name| QUERIES.contains(&name.as_str()));
-    let mut all = reached(calls, &[ISSUE]);
+    let own: Calls = calls.iter().filter(|(name, _)| *name != OTHER).map(|(name, called)| (name.clone(), called.clone())).collect();
+    let leads = |name: &str| reached(&own, &[name]).keys().any(|name| QUERIES.contains(&name.as_str()));
+    let mut all = reached(&own, &[ISSUE]);
     all.retain(|name, _| leads(name));
     let start = all.values().max().copied().unwrap_or(0);
-    for (name, depth) in reached(calls, &QUERIES).into_iter().filter(|(_, depth)| *depth > 0) {
+    for (name, depth) in reached(&own, &QUERIES).into_iter().filter(|(_, depth)| *depth > 0) {
         all.entry(name).or_insert(start + depth);
     }
     let mut sorted: Vec<(usize, String)> = all.into_iter().map(|(name, depth)| (depth, name)).collect();
@@ -59,6 +62,9 @@ fn judged(read: &Read) -> (Vec<String>, Vec<String>) {
         calls.insert(name.clone(), read.calls(name, unread.entry(name.clone()).or_insert(Vec::new())));
     }
     let found = finding(&calls);
+    if !read.functions.contains_key(OTHER) {
+        faults.push(format!("{OTHER} is not found"));
+    }
     for name in QUERIES.into_iter().chain([ISSUE, DIGIT]).filter(|&name| !found.iter().any(|f| f == name) || !read.functions.contains_key(name)) {
         faults.push(format!("{name} is not found, or not called"));
     }

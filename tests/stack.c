@@ -82,6 +82,13 @@ int main(void) {
     measure("answer, even 2 8 4096 add", answering);
     request[1023] = request[1022 - 8];
     measure("answer refused, even 2 8 4096", answering);
+    catalogue = "code=round\nmirrors=2\npacks=7\npiece=4096\n", store_len = (size_t)7 * 64 * 4096, request_len = 448;
+    for (int row = 0; row < 64; row++)
+        for (int p = 0; p < 7; p++) request[row * 7 + p] = (uint8_t)(p < 6 ? row >> p & 1 : __builtin_popcount((unsigned)row) & 1);
+    measure("answer, round 2 7 4096", answering);
+    measure("longest answer, round", longest);
+    catalogue = "code=round\nmirrors=2\npacks=7\npiece=4096\nsum=add\n";
+    measure("answer, round 2 7 4096 add", answering);
     free(store), free(answer);
     return 0;
 }

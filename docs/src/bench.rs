@@ -20,9 +20,16 @@ const REQUESTS: usize = 16;
 /// A batch of calls takes about this long, so that reading the clock costs nothing beside it.
 const BATCH_NANOSECONDS: f64 = 200_000.0;
 
+#[derive(Clone, Copy, PartialEq)]
+enum Code {
+    Short,
+    Even,
+    Round,
+}
+
 #[derive(Clone, Copy)]
 struct Shape {
-    even: bool,
+    code: Code,
     n: usize,
     k: usize,
     s: usize,
@@ -30,29 +37,35 @@ struct Shape {
 }
 
 const fn short(n: usize, k: usize, s: usize) -> Shape {
-    Shape { even: false, n, k, s, add: false }
+    Shape { code: Code::Short, n, k, s, add: false }
 }
 
 const fn even(n: usize, k: usize, s: usize) -> Shape {
-    Shape { even: true, n, k, s, add: false }
+    Shape { code: Code::Even, n, k, s, add: false }
+}
+
+const fn round(n: usize, k: usize, s: usize) -> Shape {
+    Shape { code: Code::Round, n, k, s, add: false }
 }
 
 const fn adding(shape: Shape) -> Shape {
     Shape { add: true, ..shape }
 }
 
-/// Stores of 1 MiB or more, three of them with pieces that begin at odd offsets, four of them added.
-const LARGE: [Shape; 14] = [
+/// Stores of 1 MiB or more, four of them with pieces that begin at odd offsets, five of them added.
+const LARGE: [Shape; 20] = [
     short(16, 32, 4096), short(9, 32, 4096), short(16, 32, 2300), short(16, 32, 4095), even(2, 8, 4096),
     even(16, 2, 4096), even(4, 4, 1024), even(6, 3, 4096), even(3, 5, 1001), even(2, 8, 512),
     adding(short(16, 32, 4096)), adding(short(16, 32, 2300)), adding(even(2, 8, 4096)), adding(even(4, 4, 1024)),
+    round(8, 3, 4096), round(2, 7, 4096), round(4, 4, 4096), round(16, 2, 4096), round(4, 4, 1601), adding(round(8, 3, 4096)),
 ];
 
 /// Short pieces: what a call costs beside its bytes.
-const SMALL: [Shape; 15] = [
+const SMALL: [Shape; 20] = [
     short(2, 2, 1), short(16, 32, 1), short(16, 32, 16), short(16, 32, 64), even(2, 2, 1), even(2, 3, 16),
     even(2, 8, 1), even(2, 8, 16), even(2, 8, 64), even(4, 4, 16), even(16, 2, 16), even(16, 2, 64),
     adding(short(2, 2, 2)), adding(short(16, 32, 64)), adding(even(2, 8, 64)),
+    round(2, 2, 1), round(2, 7, 1), round(2, 7, 64), round(8, 3, 16), round(16, 2, 64),
 ];
 
 /// Xorshift: the same stores and requests in each run.
@@ -68,20 +81,46 @@ impl Random {
 }
 
 impl Shape {
+    /// The blocks of a pack: several in the round code alone.
+    fn blocks(self) -> usize {
+        if self.code == Code::Round { self.n.pow(self.k as u32 - 1) } else { 1 }
+    }
+
     fn pieces(self) -> usize {
-        if self.even { self.n.pow(self.k as u32) } else { self.n - 1 }
+        if self.code == Code::Even { self.n.pow(self.k as u32) } else { self.blocks() * (self.n - 1) }
+    }
+
+    /// Which mirror is asked. In the round code mirror 0 has nothing to send for one row; the others answer each.
+    fn mirror(self) -> usize {
+        (self.code == Code::Round) as usize
+    }
+
+    /// The piece that a number names in a row of a request; in the codes over rows of digits, 0 names none.
+    fn piece(self, row: usize, number: usize) -> Option<usize> {
+        match self.code {
+            Code::Even => Some(number),
+            _ => number.checked_sub(1).map(|d| row * (self.n - 1) + d),
+        }
+    }
+
+    fn name(self) -> &'static str {
+        match self.code {
+            Code::Short => "short",
+            Code::Even => "even",
+            Code::Round => "round",
+        }
     }
 
     fn text(self) -> String {
-        let code = if self.even { "even" } else { "short" };
+        let code = self.name();
         let sum = if self.add { "sum=add\n" } else { "" };
         format!("code={code}\nmirrors={}\npacks={}\npiece={}\n{sum}", self.n, self.k, self.s)
     }
 
     /// The packs of each row of a request, in order.
     fn rows(self) -> Vec<Vec<usize>> {
-        if !self.even {
-            return vec![(0..self.k).collect()];
+        if self.code != Code::Even {
+            return vec![(0..self.k).collect(); self.blocks()];
         }
         let mut sets: Vec<Vec<usize>> =
             (1..1usize << self.k).map(|set| (0..self.k).filter(|p| set >> p & 1 == 1).collect()).collect();
@@ -89,9 +128,29 @@ impl Shape {
         sets.iter().flat_map(|set| vec![set.clone(); (self.n - 1).pow(set.len() as u32 - 1)]).collect()
     }
 
-    /// A request that mirror 0 admits and that has a piece to answer with.
+    /// The rows of the mirror's set in a drawn order, each once.
+    fn round_request(self, random: &mut Random) -> Vec<u8> {
+        let mut left: Vec<usize> = (0..self.blocks()).collect();
+        (0..self.blocks()).flat_map(|_| {
+            let i = random.below(left.len());
+            let mut rest = left.swap_remove(i);
+            let mut row = vec![0; self.k];
+            for digit in row[..self.k - 1].iter_mut() {
+                *digit = (rest % self.n) as u8;
+                rest /= self.n;
+            }
+            let sum: usize = row.iter().map(|&d| d as usize).sum();
+            row[self.k - 1] = ((self.mirror() + self.k * self.n - sum) % self.n) as u8;
+            row
+        }).collect()
+    }
+
+    /// A request that the mirror admits and that has a piece to answer with.
     fn request(self, rows: &[Vec<usize>], random: &mut Random) -> Vec<u8> {
-        if !self.even {
+        if self.code == Code::Round {
+            return self.round_request(random);
+        }
+        if self.code == Code::Short {
             let mut row: Vec<u8> = (1..self.k).map(|_| random.below(self.n) as u8).collect();
             row[0] = 1 + random.below(self.n - 1) as u8;
             let sum: usize = row.iter().map(|&d| d as usize).sum();
@@ -108,18 +167,18 @@ impl Shape {
     /// Where the pieces that a request names begin in the store, row by row.
     fn starts(self, rows: &[Vec<usize>], request: &[u8]) -> Vec<Vec<usize>> {
         let mut numbers = request.iter().map(|&x| x as usize);
-        rows.iter().map(|row| row.iter().filter_map(|&p| {
+        rows.iter().enumerate().map(|(i, row)| row.iter().filter_map(|&p| {
             let x = numbers.next().unwrap();
-            if self.even { Some(x) } else { x.checked_sub(1) }.map(|piece| (p * self.pieces() + piece) * self.s)
+            self.piece(i, x).map(|piece| (p * self.pieces() + piece) * self.s)
         }).collect()).collect()
     }
 }
 
 /// The library's call.
-fn library(text: &str, store: &[u8], request: &[u8], answer: &mut [u8]) -> i64 {
+fn library(text: &str, mirror: usize, store: &[u8], request: &[u8], answer: &mut [u8]) -> i64 {
     unsafe {
         gozimpe_answer(
-            text.as_ptr(), text.len(), 2026, 11, 16, 0, store.as_ptr(), store.len(),
+            text.as_ptr(), text.len(), 2026, 11, 16, mirror as u64, store.as_ptr(), store.len(),
             request.as_ptr(), request.len(), answer.as_mut_ptr(), answer.len(),
         )
     }
@@ -134,13 +193,9 @@ fn plain(shape: Shape, rows: &[Vec<usize>], store: &[u8], request: &[u8], answer
         let out = &mut answer[row * s..(row + 1) * s];
         out.fill(0);
         for (&pack, &number) in packs.iter().zip(&mut numbers) {
-            let mut piece = number as usize;
-            if !shape.even {
-                if piece == 0 {
-                    continue;
-                }
-                piece -= 1;
-            }
+            let Some(piece) = shape.piece(row, number as usize) else {
+                continue;
+            };
             let start = (pack * pieces + piece) * s;
             let piece = &store[start..start + s];
             if shape.add {
@@ -205,7 +260,7 @@ impl Case {
     fn check(&mut self) {
         let mut expected = self.answer.clone();
         for request in &self.requests {
-            assert_eq!(library(&self.text, &self.store, request, &mut self.answer), expected.len() as i64);
+            assert_eq!(library(&self.text, self.shape.mirror(), &self.store, request, &mut self.answer), expected.len() as i64);
             plain(self.shape, &self.rows, &self.store, request, &mut expected);
             assert!(self.answer == expected, "the two sides write different answers");
         }
@@ -217,7 +272,7 @@ impl Case {
         for call in 0..calls {
             let (request, starts) = (black_box(&self.requests[call % REQUESTS]), black_box(&self.starts[call % REQUESTS]));
             match side {
-                0 => drop(black_box(library(&self.text, &self.store, request, black_box(&mut self.answer)))),
+                0 => drop(black_box(library(&self.text, self.shape.mirror(), &self.store, request, black_box(&mut self.answer)))),
                 1 => plain(self.shape, &self.rows, &self.store, request, black_box(&mut self.answer)),
                 2 => drop(black_box(words(self.shape.s, &self.store, starts))),
                 _ => copies(self.shape.s, &self.store, starts, black_box(&mut self.answer)),
@@ -274,7 +329,7 @@ fn ratio_text(ratios: &[f64]) -> String {
 }
 
 fn name(shape: Shape) -> String {
-    let (code, sum) = (if shape.even { "even" } else { "short" }, if shape.add { " add" } else { "" });
+    let (code, sum) = (shape.name(), if shape.add { " add" } else { "" });
     format!("{code} {} {} {}{sum}", shape.n, shape.k, shape.s)
 }
 

@@ -8,15 +8,15 @@ use borrow.Author.Tests.{eqb-false, not-false}
 use Rattle.lists.proofs.Both.{both-true}
 use Rattle.refusal.proofs.Accepted.{accepted-none}
 use Rattle.parameters.specs.Bounds.{shortFits}
-use Rattle.parameters.proofs.Bounds.{short-bounds, even-bounds}
+use Rattle.parameters.proofs.Bounds.{short-bounds, even-bounds, round-bounds}
 use Rattle.lengths.specs.Lengths.{lengthOf}
 use Rattle.lengths.proofs.Fits.{length-within}
 use Rattle.catalogue.specs.declared.Code.{Code}
-use Rattle.catalogue.specs.declared.Code.the-variants.{Short, Even, Turn}
+use Rattle.catalogue.specs.declared.Code.the-variants.{Short, Even, Turn, Round}
 use Rattle.catalogue.specs.declared.Catalogue.{Catalogue}
 use Rattle.catalogue.specs.Catalogue.{fits, numbersFit, datesFit, messagesEnd, inBounds, catalogueFaults, catalogueVerdict}
 use Rattle.catalogue.specs.Catalogue.{Admitted, sizesBy, sizesOf}
-use Rattle.parameters.proofs.SmallSizes.{Small, short-small, turn-small, even-small}
+use Rattle.parameters.proofs.SmallSizes.{Small, short-small, turn-small, even-small, round-small}
 
 -- the numbers of an admitted catalogue, in every code
 pub record Numbers (N K S : ℕ) : Type 0 where
@@ -34,11 +34,13 @@ pub fits-numbers : (code : Code) (N K S : ℕ) → fits code N K S ≡ true → 
 fits-numbers Short N K S e more = short-numbers N K S e more
 fits-numbers Even N K S e more = let b = even-bounds N K S e in omega arith
 fits-numbers Turn N K S e more = short-numbers N K S e more
+fits-numbers Round N K S e more = let b = round-bounds N K S e in omega arith
 
 fits-small : (code : Code) (N K S : ℕ) → fits code N K S ≡ true → Small N (sizesBy code N K S)
 fits-small Short N K S e = short-small N K S (short-bounds N K S e)
 fits-small Even N K S e = even-small N K S (even-bounds N K S e)
 fits-small Turn N K S e = turn-small N K S (short-bounds N K S e)
+fits-small Round N K S e = round-small N K S (round-bounds N K S e)
 
 admitted-bounds : (c : Catalogue) → Admitted c → (numbersFit c ≡ true) × (datesFit (c .opening) (c .closing) && messagesEnd c ≡ true)
 unfolding catalogueVerdict

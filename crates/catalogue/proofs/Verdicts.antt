@@ -4,7 +4,7 @@ use mathlib.Core.Path.{_≡_, refl, sym, _∙_}
 use mathlib.Core.Bool.{Bool, true, false, true≢false, not, _&&_}
 use mathlib.Core.Logic.{_↔_}
 use Prim.Native.Nat.{ℕ, _%_, _^_, _≤_}
-use native.Mathlib.Nat.{pow-le-pow-left}
+use native.Mathlib.Nat.{pow-zero, pow-le-pow-left}
 use native.Mathlib.Omega.{arith}
 use borrow.Author.Tests.{eqb-true, eqb-false, eq-eqb, ne-eqb, leb-true, le-leb}
 use lib.Dec.{eqb, leb}
@@ -13,12 +13,12 @@ use Rattle.refusal.specs.declared.Verdict.the-variants.{Accepted}
 use Rattle.refusal.specs.Chain.{refused, refuseIf}
 use Rattle.refusal.specs.Numbers.{refusalOf}
 use Rattle.refusal.proofs.Chain.{not-refused, other-number}
-use Rattle.parameters.specs.Bounds.{serversFit, symbolFits, shortFits, evenFits}
+use Rattle.parameters.specs.Bounds.{serversFit, symbolFits, shortFits, evenFits, roundFits}
 use Rattle.symbol.specs.declared.Operation.{Operation}
 use Rattle.symbol.specs.declared.Operation.the-variants.{ExclusiveOr, Addition}
 use Rattle.symbol.proofs.Operations.{not-added}
 use Rattle.catalogue.specs.declared.Code.{Code}
-use Rattle.catalogue.specs.declared.Code.the-variants.{Short, Even, Turn}
+use Rattle.catalogue.specs.declared.Code.the-variants.{Short, Even, Turn, Round}
 use Rattle.catalogue.specs.declared.Catalogue.{Catalogue}
 use Rattle.catalogue.specs.Catalogue.{fits, numbersFit, datesFit, messagesEnd, inBounds, wholeWords, catalogueVerdict, Admitted}
 use Rattle.catalogue.proofs.Admitted.{fits-numbers}
@@ -115,9 +115,10 @@ one-short N S n s = rw (n, s)
 
 -- one message is within the bounds of every code, where N and S are
 one-fits : (code : Code) (N S : ℕ) → serversFit N ≡ true → symbolFits S ≡ true → fits code N 1 S ≡ true
-unfolding evenFits
+unfolding evenFits roundFits
 one-fits Short N S n s = one-short N S n s
 one-fits Turn N S n s = one-short N S n s
+one-fits Round N S n s = rw (n, s, pow-zero N)
 one-fits Even N S n s =
     let high = leb-true N 16 (both-true (leb 2 N) (leb N 16) n .1) in
     let small : N ^ 1 ≤ 16 ^ 1 = pow-le-pow-left high 1 in

@@ -1,4 +1,4 @@
--- Catalogue values: which are admitted, and the sizes that follow (document 01, 'Catalogue'; document 02, items 1, 2, 4, 6 and 9).
+-- Catalogue values: which are admitted, and the sizes that follow (document 01, 'Catalogue'; document 02, items 1, 2, 4, 6, 8 and 9).
 use mathlib.Core.Path.{_≡_}
 use mathlib.Core.Bool.{Bool, true, not, _&&_, _||_}
 use mathlib.Core.List.{List, [], _∷_}
@@ -8,15 +8,15 @@ use Rattle.refusal.specs.declared.Verdict.{Verdict}
 use Rattle.refusal.specs.declared.Verdict.the-variants.{Accepted, Refused}
 use Rattle.refusal.specs.Foremost.{Fault, fault, foremost}
 use Rattle.parameters.specs.declared.Sizes.{Sizes}
-use Rattle.parameters.specs.Bounds.{shortFits, evenFits}
-use Rattle.parameters.specs.Measures.{shortSizes, evenSizes, turnSizes}
+use Rattle.parameters.specs.Bounds.{shortFits, evenFits, roundFits}
+use Rattle.parameters.specs.Measures.{shortSizes, evenSizes, turnSizes, roundSizes}
 use Rattle.calendar.specs.declared.Day.{Day}
 use Rattle.calendar.specs.Calendar.{realDay, before, noDay, undated}
 use Rattle.lengths.specs.Lengths.{noLengths, lengthsFit}
 use Rattle.symbol.specs.declared.Operation.{Operation}
 use Rattle.symbol.specs.declared.Operation.the-variants.{ExclusiveOr, Addition}
 use Rattle.catalogue.specs.declared.Code.{Code}
-use Rattle.catalogue.specs.declared.Code.the-variants.{Short, Even, Turn}
+use Rattle.catalogue.specs.declared.Code.the-variants.{Short, Even, Turn, Round}
 use Rattle.catalogue.specs.declared.Catalogue.{Catalogue}
 use Rattle.catalogue.specs.declared.Measured.{Measured}
 use Rattle.catalogue.specs.declared.Measured.the-variants.{Of, Refused as NotMeasured}
@@ -26,6 +26,7 @@ abbrev pub fits : Code → ℕ → ℕ → ℕ → Bool
 fits Short = shortFits
 fits Even = evenFits
 fits Turn = shortFits
+fits Round = roundFits
 
 -- the catalogue's numbers are within the bounds of its code
 abbrev pub numbersFit : Catalogue → Bool
@@ -39,6 +40,7 @@ abbrev pub sizesBy : Code → ℕ → ℕ → ℕ → Sizes
 sizesBy Short = shortSizes
 sizesBy Even = evenSizes
 sizesBy Turn = turnSizes
+sizesBy Round = roundSizes
 
 -- the sizes of a catalogue, from its numbers alone
 unfoldable pub sizesOf : Catalogue → Sizes

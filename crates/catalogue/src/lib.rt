@@ -19,6 +19,8 @@ pub enum Code {
     Even,
     // The code of Tian, Sun and Chen with a turn of the servers in the key (02, item 4: `code=turn`).
     Turn,
+    // The code of Tian, Sun and Chen block by block, each of its keys for one block (02, item 8: `code=round`).
+    Round,
 }
 
 pub struct Catalogue {
@@ -53,6 +55,7 @@ fn numbers_fit(c: Catalogue) -> bool
         Code::Short => parameters::short::fits(c.servers, c.messages, c.symbol),
         Code::Even => parameters::even::fits(c.servers, c.messages, c.symbol),
         Code::Turn => parameters::short::fits(c.servers, c.messages, c.symbol),
+        Code::Round => parameters::round::fits(c.servers, c.messages, c.symbol),
     }
 }
 
@@ -82,6 +85,7 @@ fn sizes_of(c: Catalogue) -> Sizes
         Code::Short => parameters::short::sizes(c.servers, c.messages, c.symbol),
         Code::Even => parameters::even::sizes(c.servers, c.messages, c.symbol),
         Code::Turn => parameters::turn::sizes(c.servers, c.messages, c.symbol),
+        Code::Round => parameters::round::sizes(c.servers, c.messages, c.symbol),
     }
 }
 

@@ -14,7 +14,7 @@ use Rattle.text_lines.specs.Lines.{numberText, begins, numberLine}
 use Rattle.text_lines.proofs.Begins.{begins-split}
 use Rattle.text_lines.proofs.RoundTrip.{LineRead, line-written, line-read}
 use Rattle.catalogue.specs.declared.Code.{Code}
-use Rattle.catalogue.specs.declared.Code.the-variants.{Short, Even, Turn}
+use Rattle.catalogue.specs.declared.Code.the-variants.{Short, Even, Turn, Round}
 use Rattle.catalogue_text.specs.declared.First.{First}
 use Rattle.catalogue_text.specs.declared.First.the-variants.{Of}
 use Rattle.catalogue_text.specs.Text.{codeText, serversName, messagesName, symbolName}
@@ -23,26 +23,30 @@ use Rattle.catalogue_text.proofs.TextParts.{firstText, first-length}
 
 -- ---- the first line
 
-pub code-turn : (n : ℕ) → (n ≡ 0 → ⊥) → (n ≡ 1 → ⊥) → Turn ≡ codeNamed n
-code-turn zero h i = absurd (h refl)
-code-turn (suc zero) h i = absurd (i refl)
-code-turn (suc (suc n)) h i = refl
+pub code-round : (n : ℕ) → (n ≡ 0 → ⊥) → (n ≡ 1 → ⊥) → (n ≡ 2 → ⊥) → Round ≡ codeNamed n
+code-round zero h i j = absurd (h refl)
+code-round (suc zero) h i j = absurd (i refl)
+code-round (suc (suc zero)) h i j = absurd (j refl)
+code-round (suc (suc (suc n))) h i j = refl
 
 abbrev codeNumber : Code → ℕ
 codeNumber Short = 0
 codeNumber Even = 1
 codeNumber Turn = 2
+codeNumber Round = 3
 
 code-number : (code : Code) → codeNamed (codeNumber code) ≡ code
 code-number Short = refl
 code-number Even = refl
 code-number Turn = refl
+code-number Round = refl
 
 code-written : (code : Code) (rest : List ℕ) → codeLine (codeText code ++ rest) ≡ Value (codeNumber code) (length (codeText code))
 unfolding codeLine begins
 code-written Short rest = refl
 code-written Even rest = refl
 code-written Turn rest = refl
+code-written Round rest = refl
 
 -- a first line that was read
 record CodeRead (text : List ℕ) (code next : ℕ) : Type 0 where
@@ -51,23 +55,29 @@ record CodeRead (text : List ℕ) (code next : ℕ) : Type 0 where
 
 code-read : (text : List ℕ) (code next : ℕ) → codeLine text ≡ Value code next → CodeRead text code next
 unfolding codeLine
-code-read text code next e = go (begins (codeText Short) text) (begins (codeText Even) text) (begins (codeText Turn) text) refl refl refl e
+code-read text code next e =
+    go (begins (codeText Short) text) (begins (codeText Even) text) (begins (codeText Turn) text) (begins (codeText Round) text) refl refl refl refl e
   where
-    go : (s t u : Bool) → begins (codeText Short) text ≡ s → begins (codeText Even) text ≡ t → begins (codeText Turn) text ≡ u
-        → cond s (Value 0 11) (cond t (Value 1 10) (cond u (Value 2 10) Refused)) ≡ Value code next → CodeRead text code next
-    go true t u short even turn e =
+    go : (s t u v : Bool) → begins (codeText Short) text ≡ s → begins (codeText Even) text ≡ t → begins (codeText Turn) text ≡ u
+        → begins (codeText Round) text ≡ v → cond s (Value 0 11) (cond t (Value 1 10) (cond u (Value 2 10) (cond v (Value 3 11) Refused))) ≡ Value code next
+        → CodeRead text code next
+    go true t u v short even turn round e =
         let c : code ≡ 0 = cc in
         let n : next ≡ 11 = cc in
         rw (c, n) (record { next-is = refl; here = begins-split (codeText Short) text short })
-    go false true u short even turn e =
+    go false true u v short even turn round e =
         let c : code ≡ 1 = cc in
         let n : next ≡ 10 = cc in
         rw (c, n) (record { next-is = refl; here = begins-split (codeText Even) text even })
-    go false false true short even turn e =
+    go false false true v short even turn round e =
         let c : code ≡ 2 = cc in
         let n : next ≡ 10 = cc in
         rw (c, n) (record { next-is = refl; here = begins-split (codeText Turn) text turn })
-    go false false false short even turn e = let z : _≡_ {A = ℕ} 0 1 = cc in absurd (let w : ⊥ = omega arith in w)
+    go false false false true short even turn round e =
+        let c : code ≡ 3 = cc in
+        let n : next ≡ 11 = cc in
+        rw (c, n) (record { next-is = refl; here = begins-split (codeText Round) text round })
+    go false false false false short even turn round e = let z : _≡_ {A = ℕ} 0 1 = cc in absurd (let w : ⊥ = omega arith in w)
 
 -- ---- the four lines
 

@@ -19,7 +19,7 @@ use Rattle.season_text.specs.SeasonLines.{inForm, seasonText}
 use Rattle.lengths.specs.Lengths.{numbersOf}
 use Rattle.length_text.proofs.Fitting.{numbers-in-form, kept-numbers, numbers-kept}
 use Rattle.catalogue.specs.declared.Code.{Code}
-use Rattle.catalogue.specs.declared.Code.the-variants.{Short, Even, Turn}
+use Rattle.catalogue.specs.declared.Code.the-variants.{Short, Even, Turn, Round}
 use Rattle.catalogue.specs.declared.Catalogue.{Catalogue}
 use Rattle.catalogue.specs.Catalogue.{datesFit, sizesOf, Admitted}
 use Rattle.catalogue.proofs.Admitted.{admitted-numbers, admitted-dates, admitted-lengths, admitted-small}
@@ -29,6 +29,7 @@ pub code-most : (code : Code) → length (codeText code) ≤ 11
 code-most Short = omega arith
 code-most Even = omega arith
 code-most Turn = omega arith
+code-most Round = omega arith
 
 pub sum-most : (sum : Operation) → length (sumText sum) ≤ 8
 sum-most ExclusiveOr = omega arith

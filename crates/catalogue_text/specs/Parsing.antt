@@ -1,4 +1,4 @@
--- Reading catalogue text (document 01, 'Catalogue' and 'Numbers a call can give'; document 02, items 1, 2, 4 and 6): each line yields its value and
+-- Reading catalogue text (document 01, 'Catalogue' and 'Numbers a call can give'; document 02, items 1, 2, 4, 6 and 8): each line yields its value and
 -- where the next line begins, or ends the reading. `readOf` is the reading of a whole text, `linesOf` that of its start.
 use Prim.Native.Nat.{ℕ, zero, suc, _+_}
 use mathlib.Core.Bool.{cond, not}
@@ -14,7 +14,7 @@ use Rattle.refusal.specs.Chain.{refuses}
 use Rattle.symbol.specs.declared.Operation.{Operation}
 use Rattle.symbol.specs.declared.Operation.the-variants.{ExclusiveOr, Addition}
 use Rattle.catalogue.specs.declared.Code.{Code}
-use Rattle.catalogue.specs.declared.Code.the-variants.{Short, Even, Turn}
+use Rattle.catalogue.specs.declared.Code.the-variants.{Short, Even, Turn, Round}
 use Rattle.catalogue.specs.declared.Catalogue.{Catalogue}
 use Rattle.catalogue.specs.Catalogue.{catalogueFaults, zeroCatalogue}
 use Rattle.text_lines.specs.declared.Line.{Line}
@@ -33,18 +33,20 @@ use Rattle.catalogue_text.specs.declared.Lines.{Lines}
 use Rattle.catalogue_text.specs.declared.Reading.{Reading}
 use Rattle.catalogue_text.specs.Text.{codeText, serversName, messagesName, symbolName, sumName, sumText}
 
--- the code of a first line's value: 0 is short, 1 is even, 2 is turning (02, item 4)
+-- the code of a first line's value: 0 is short, 1 is even, 2 is turning (02, item 4), 3 is round (item 8)
 abbrev pub codeNamed : ℕ → Code
 codeNamed zero = Short
 codeNamed (suc zero) = Even
-codeNamed (suc (suc n)) = Turn
+codeNamed (suc (suc zero)) = Turn
+codeNamed (suc (suc (suc n))) = Round
 
 -- the first line
 unfoldable pub codeLine : List ℕ → Line
 codeLine text =
     cond (begins (codeText Short) text) (Value 0 (length (codeText Short)))
     (cond (begins (codeText Even) text) (Value 1 (length (codeText Even)))
-    (cond (begins (codeText Turn) text) (Value 2 (length (codeText Turn))) NoLine))
+    (cond (begins (codeText Turn) text) (Value 2 (length (codeText Turn)))
+    (cond (begins (codeText Round) text) (Value 3 (length (codeText Round))) NoLine)))
 
 -- the sum of its line's value: 0 is exclusive or, 1 is addition
 abbrev pub sumNamed : ℕ → Operation

@@ -1,5 +1,6 @@
 -- A catalogue's text: four lines, each ended by byte 10 (document 01, 'Catalogue'), then two with its dates, if it has any, one more where words are
--- added, and one for each message's length, if it has lengths (document 02, items 1, 2 and 6). The first names one of three codes (02, item 4).
+-- added, and one for each message's length, if it has lengths (document 02, items 1, 2 and 6). The first names one of four codes (02, items 4
+-- and 8).
 use Prim.Native.Nat.{ℕ, _<_}
 use mathlib.Core.Path.{_≡_}
 use mathlib.Core.Bool.{Bool, true, false, _&&_, _||_}
@@ -8,18 +9,19 @@ use Rattle.lists.specs.Ascii.{ascii}
 use Rattle.symbol.specs.declared.Operation.{Operation}
 use Rattle.symbol.specs.declared.Operation.the-variants.{ExclusiveOr, Addition}
 use Rattle.catalogue.specs.declared.Code.{Code}
-use Rattle.catalogue.specs.declared.Code.the-variants.{Short, Even, Turn}
+use Rattle.catalogue.specs.declared.Code.the-variants.{Short, Even, Turn, Round}
 use Rattle.catalogue.specs.declared.Catalogue.{Catalogue}
 use Rattle.text_lines.specs.Lines.{numberText, begins}
 use Rattle.season_text.specs.SeasonLines.{inForm, seasonText, datesGoOn}
 use Rattle.lengths.specs.Lengths.{numbersOf}
 use Rattle.length_text.specs.LengthLines.{lengthName, lengthText, InForm, kept}
 
--- the first line; the third code is that of document 02, item 4
+-- the first line; the third code is that of document 02, item 4, the fourth that of item 8
 abbrev pub codeText : Code → List ℕ
 codeText Short = ascii "code=short\n"
 codeText Even = ascii "code=even\n"
 codeText Turn = ascii "code=turn\n"
+codeText Round = ascii "code=round\n"
 
 -- the names of N, K and S (01: mirrors, packs, piece)
 abbrev pub serversName : List ℕ

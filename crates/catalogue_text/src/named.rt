@@ -10,7 +10,7 @@ ghost use Rattle.lists.specs.Parts.{put};
 ghost use Rattle.catalogue_text.specs.Text.{codeText, sumText};
 ghost use Rattle.catalogue_text.specs.Parsing.{codeNamed, codeLine, sumNamed, sumLine};
 
-// The first line of a catalogue: 0 for the short code, 1 for the even one, 2 for the turning one.
+// The first line of a catalogue: 0 for the short code, 1 for the even one, 2 for the turning one, 3 for the round one.
 pub fn code_line(text: &[u8]) -> Line
     ensures { λ r. ⌜ r ≡ codeLine (now (text .entry)) ⌝ }
 {
@@ -23,6 +23,9 @@ pub fn code_line(text: &[u8]) -> Line
     if text_lines::starts(b"code=turn\n", text) {
         return Line::Value { value: 2, next: 10 };
     }
+    if text_lines::starts(b"code=round\n", text) {
+        return Line::Value { value: 3, next: 11 };
+    }
     Line::Refused
 }
 
@@ -33,7 +36,10 @@ pub fn code_named(value: usize) -> Code
     if value == 0 {
         return Code::Short;
     }
-    if value == 1 { Code::Even } else { Code::Turn }
+    if value == 1 {
+        return Code::Even;
+    }
+    if value == 2 { Code::Turn } else { Code::Round }
 }
 
 // The line of the sum at place `at`: 0 if no line of that name begins there, 1 for addition.
@@ -76,6 +82,7 @@ pub fn put_code(out: &mut [u8], code: Code) -> usize
         Code::Short => text_lines::put_bytes(out, 0, b"code=short\n"),
         Code::Even => text_lines::put_bytes(out, 0, b"code=even\n"),
         Code::Turn => text_lines::put_bytes(out, 0, b"code=turn\n"),
+        Code::Round => text_lines::put_bytes(out, 0, b"code=round\n"),
     }
 }
 
@@ -99,6 +106,7 @@ pub fn code_length(code: Code) -> usize
         Code::Short => 11,
         Code::Even => 10,
         Code::Turn => 10,
+        Code::Round => 11,
     }
 }
 

@@ -9,7 +9,7 @@ use Rattle.symbol.specs.Operations.{sumOf}
 use Rattle.symbol.specs.declared.Operation.the-variants.{ExclusiveOr}
 use Rattle.symbol.proofs.Operations.{not-added}
 use Rattle.catalogue.specs.declared.Code.{Code}
-use Rattle.catalogue.specs.declared.Code.the-variants.{Short, Even, Turn}
+use Rattle.catalogue.specs.declared.Code.the-variants.{Short, Even, Turn, Round}
 use Rattle.catalogue.specs.declared.Catalogue.{Catalogue}
 use Rattle.catalogue.specs.Catalogue.{Admitted, sizesOf}
 use Rattle.catalogue.proofs.Verdicts.{admitted-exactly}
@@ -32,6 +32,13 @@ any-sum Even one other N K S = record {
   lengths = λ query. refl;
 }
 any-sum Turn one other N K S = record {
+  sizes = refl;
+  keys = λ key. refl;
+  queries = λ wanted server key. refl;
+  admission = λ server query. refl;
+  lengths = λ query. refl;
+}
+any-sum Round one other N K S = record {
   sizes = refl;
   keys = λ key. refl;
   queries = λ wanted server key. refl;

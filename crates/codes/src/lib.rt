@@ -22,6 +22,7 @@ pub fn key_good(c: Catalogue, key: &[u8]) -> bool
         Code::Short => short_code::key_good(c.servers, key),
         Code::Even => even_key::key_good(c.servers, c.messages, key),
         Code::Turn => short_code::key_good(c.servers, key),
+        Code::Round => permutation::is_permutation(key.len(), key),
     }
 }
 
@@ -38,6 +39,7 @@ pub fn query(c: Catalogue, wanted: usize, server: usize, key: &[u8], out: &mut [
         Code::Short => short_code::query(c.servers, wanted, server, key, out),
         Code::Even => even_query::query(c.servers, c.messages, wanted, server, key, out),
         Code::Turn => turn_code::query(c.servers, wanted, server, key, out),
+        Code::Round => round_code::query(c.servers, c.messages, wanted, server, key, out),
     }
 }
 
@@ -51,6 +53,7 @@ pub fn admits(c: Catalogue, server: usize, query: &[u8]) -> bool
         Code::Short => short_code::admits(c.servers, c.messages, server, query),
         Code::Even => even_admission::admits(c.servers, c.messages, server, query),
         Code::Turn => turn_code::admits(c.servers, c.messages, query),
+        Code::Round => round_code::admits(c.servers, c.messages, server, query),
     }
 }
 
@@ -75,6 +78,7 @@ pub fn answer_length(c: Catalogue, query: &[u8]) -> usize
         Code::Short => short_code::answer_length(c.symbol, query),
         Code::Even => slot(c),
         Code::Turn => short_code::answer_length(c.symbol, query),
+        Code::Round => round_code::answer_length(c.servers, c.messages, c.symbol, query),
     }
 }
 
@@ -90,6 +94,14 @@ pub fn expected_length(c: Catalogue, wanted: usize, server: usize, key: &[u8]) -
         Code::Short => short_code::expected_length(c.servers, c.symbol, wanted, server, key),
         Code::Even => slot(c),
         Code::Turn => turn_code::expected_length(c.servers, c.symbol, wanted, server, key),
+        Code::Round => round_code::expected_length(
+            c.servers,
+            c.messages,
+            c.symbol,
+            wanted,
+            server,
+            key,
+        ),
     }
 }
 
@@ -107,6 +119,7 @@ pub fn answer(c: Catalogue, server: usize, store: &[u8], query: &[u8], out: &mut
         Code::Short => short_code::answer(op, c.servers, c.messages, c.symbol, store, query, out),
         Code::Even => even_answer::answer(op, c.servers, c.messages, c.symbol, store, query, out),
         Code::Turn => short_code::answer(op, c.servers, c.messages, c.symbol, store, query, out),
+        Code::Round => round_code::answer(op, c.servers, c.messages, c.symbol, store, query, out),
     }
 }
 
@@ -143,6 +156,16 @@ pub fn recover(c: Catalogue, wanted: usize, key: &[u8], answers: &[u8], message:
             message,
         ),
         Code::Turn => turn_code::recover(
+            op,
+            c.servers,
+            c.messages,
+            c.symbol,
+            wanted,
+            key,
+            answers,
+            message,
+        ),
+        Code::Round => round_code::recover(
             op,
             c.servers,
             c.messages,

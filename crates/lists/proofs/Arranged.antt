@@ -1,7 +1,7 @@
 -- Permutations as lists: what the test says by places (`permutation-facts`), that every number below the size stands in one (`covers`),
--- and the laws of `arranged` (`arranged-at`, `arranged-only`, `arranged-permutation`) and `picked`.
+-- that ascending numbers are one (`range-permutation`), and the laws of `arranged` (`arranged-at`, `arranged-only`, `arranged-permutation`) and `picked`.
 use Prim.Native.Nat.{ℕ, zero, suc, _≤_, _<_}
-use native.Mathlib.Nat.{not-suc-le-zero}
+use native.Mathlib.Nat.{not-suc-le-zero, mul-one}
 use native.Mathlib.Omega.{arith}
 use mathlib.Core.Path.{_≡_, refl, sym, ap, _∙_, subst}
 use mathlib.Core.Bool.{Bool, true, false, _&&_}
@@ -20,7 +20,8 @@ use Rattle.lists.proofs.Bits.{bit-small, bit-one}
 use Rattle.lists.proofs.Both.{both-true}
 use Rattle.lists.proofs.Distinct.{place-of, distinct-apart, apart-distinct, stands-count}
 use Rattle.lists.proofs.Mapped.{map-at, mapped-length, mapped-at}
-use Rattle.lists.proofs.Sums.{sum-next}
+use Rattle.lists.proofs.Ranges.{range-length, range-at}
+use Rattle.lists.proofs.Sums.{sum-next, sum-most}
 
 -- every number below the size, each at one place
 pub record Permutation (size : ℕ) (l : List ℕ) : Type 0 where
@@ -50,18 +51,21 @@ facts-permutation size l p =
     let t = permutation-tests size l p in
     rw (eq-eqb (length l) size (p .long), below-allBelow size l (t .0), t .1)
 
--- as many terms as their sum, none above 1: all are 1
-few : (f : ℕ → ℕ) → ((v : ℕ) → f v ≤ 1) → (m : ℕ) → sum f (range 0 m) ≤ m
-unfolding sum range
-few f b zero = omega arith
-few f b (suc m) = omega (arith, sum-next f m, few f b m, b m)
+-- the numbers in ascending order
+pub range-permutation : (size : ℕ) → Permutation size (range 0 size)
+range-permutation size = record {
+  long = range-length 0 size;
+  low = λ i h. omega (arith, range-at 0 size i 0 h);
+  apart = λ i j h k e. omega (arith, range-at 0 size i 0 h, range-at 0 size j 0 k);
+}
 
+-- as many terms as their sum, none above 1: all are 1
 all-one : (f : ℕ → ℕ) → ((v : ℕ) → f v ≤ 1) → (m : ℕ) → sum f (range 0 m) ≡ m → (v : ℕ) → v < m → f v ≡ 1
 all-one f b zero e v h = absurd (not-suc-le-zero h)
 all-one f b (suc m) e v h = go (eqb v m) refl (all-one f b m rest v)
   where
     rest : sum f (range 0 m) ≡ m
-    rest = omega (arith, e, sum-next f m, few f b m, b m)
+    rest = omega (arith, e, sum-next f m, sum-most f 1 m b, mul-one m, b m)
 
     go : (t : Bool) → eqb v m ≡ t → (v < m → f v ≡ 1) → f v ≡ 1
     go true q ih = ap f (eqb-true v m q) ∙ omega (arith, e, sum-next f m, rest)

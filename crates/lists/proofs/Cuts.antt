@@ -1,15 +1,17 @@
--- Parts that are read (`cut`): their length and elements, a part of a part, a part up to the end, and parts of one size side by side:
--- each is the part at its own place (`flatMap-cut`), and a list is its parts joined (`joined-cuts`).
+-- Parts that are read (`cut`): their length and elements, a part of a part, a part up to the end, and parts side by side: each is the part at its
+-- own place, where they are of one size (`flatMap-cut`) and of any sizes (`flatMap-part`), and a list is its parts of one size joined (`joined-cuts`).
 use Prim.Native.Nat.{ℕ, zero, suc, _+_, _-_, _*_, _≤_, _<_}
 use native.Mathlib.Nat.{mul-le-mul-right, suc-mul, zero-mul, not-suc-le-zero, le-of-eq}
 use native.Mathlib.Omega.{arith}
 use mathlib.Core.Path.{_≡_, refl, sym, ap, _∙_}
 use mathlib.Core.List.{List, [], _∷_, _++_, flatMap}
 use lib.ListN.{length, getD, take, drop, length-append, length-drop}
-use lib.Seq.{length-take-le, take-all, take-at, take-add, take-take, drop-drop, drop-append-add, drop-append-seam, getD-take, getD-drop}
+use lib.Seq.{length-take-le, take-all, take-at, take-add, take-take, drop-at, drop-drop, drop-append-add, drop-append-seam, getD-take, getD-drop}
 use Rattle.lists.specs.Parts.{cut}
 use Rattle.lists.specs.Ranges.{range}
-use Rattle.lists.specs.Sums.{All, allNil, allCons}
+use Rattle.lists.specs.Sums.{sum, All, allNil, allCons}
+use Rattle.lists.proofs.Joined.{flatMap-append}
+use Rattle.lists.proofs.Ranges.{range-around, All-range}
 
 pub cut-length : (at size : ℕ) (buffer : List ℕ) → at + size ≤ length buffer → length (cut at size buffer) ≡ size
 cut-length at size buffer h = length-take-le size (drop at buffer) (let e = length-drop at buffer in omega arith)
@@ -59,6 +61,23 @@ module _ {A : Type 0} (f : A → List ℕ) (size : ℕ) where
       ap (λ (n : ℕ). cut n size (f x ++ flatMap f xs)) (let s : suc i * size ≡ length (f x) + i * size = omega (arith, suc-mul i size) in s)
       ∙ ap (λ (l : List ℕ). cut 0 size l) (drop-append-add (f x) (flatMap f xs) (i * size))
       ∙ flatMap-cut d a i (omega arith)
+
+-- how long lists are together
+pub flatMap-lengths : {A B : Type 0} (g : A → List B) (w : A → ℕ) {xs : List A} → All (λ x. length (g x) ≡ w x) xs → length (flatMap g xs) ≡ sum w xs
+unfolding flatMap sum
+flatMap-lengths g w allNil = refl
+flatMap-lengths g w (allCons {x = x} {xs = xs} e a) = omega (arith, length-append (g x) (flatMap g xs), flatMap-lengths g w a)
+
+-- lists of bytes of any sizes: each is its part of them joined
+pub flatMap-part : (g : ℕ → List ℕ) (w : ℕ → ℕ) (n : ℕ) → ((i : ℕ) → i < n → length (g i) ≡ w i) → (i : ℕ) → i < n
+    → cut (sum w (range 0 i)) (w i) (flatMap g (range 0 n)) ≡ g i
+unfolding flatMap
+flatMap-part g w n long i h =
+    let rest = flatMap g (range (suc i) (n - suc i)) in
+    ap (λ l. cut (sum w (range 0 i)) (w i) (flatMap g l)) (range-around n i h)
+    ∙ ap (cut (sum w (range 0 i)) (w i)) (flatMap-append g (range 0 i) (i ∷ range (suc i) (n - suc i)))
+    ∙ ap (take (w i)) (drop-at (flatMap g (range 0 i)) (g i ++ rest) (sum w (range 0 i)) (flatMap-lengths g w (All-range i (λ j k. long j (omega arith)))))
+    ∙ take-at (g i) rest (w i) (long i h)
 
 -- parts of one size, side by side, are one part
 pub cut-join : (size from count : ℕ) (buffer : List ℕ)

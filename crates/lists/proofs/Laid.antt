@@ -1,18 +1,18 @@
 -- Parts that are written as far as the buffer reaches (`lay`): they leave its length (`lay-length`), and are what the first bytes of a buffer
 -- with room for all would hold (`lay-take`). So what holds of `put` holds of `lay` without a condition on the room: parts side by side are one
 -- (`lay-next`), and parts that cover a message are the message, cut where the buffer ends (`lay-all`). What a part that was lent and written
--- leaves in its buffer: `lay-part`, `lay-front`.
+-- leaves in its buffer: `lay-part`, `lay-front`, `lay-rest`.
 use mathlib.Core.Path.{_≡_, refl, sym, ap, ap₂, _∙_}
 use mathlib.Core.List.{List, [], _∷_, _++_, append-assoc}
 use Prim.Native.Nat.{ℕ, zero, suc, _+_, _-_, _≤_, min}
 use native.Mathlib.Nat.{min-zero, suc-min-suc, zero-sub, suc-sub-suc}
 use native.Mathlib.Omega.{arith}
-use lib.ListN.{length, take, drop, replicate, length-append, length-take, length-replicate, take-append-drop}
+use lib.ListN.{length, take, drop, replicate, length-append, length-take, length-drop, length-replicate, take-append-drop}
 use lib.Seq.{length-take-le, take-nil, take-append-seam, drop-append-le}
 use Rattle.lists.specs.Parts.{put, lay}
 use Rattle.lists.specs.Assembled.{Part, assembleBy, assemble, layAll}
 use Rattle.lists.specs.Sums.{All, allNil, allCons}
-use Rattle.lists.proofs.Puts.{put-length, put-nil, put-put, put-part}
+use Rattle.lists.proofs.Puts.{put-length, put-nil, put-put, put-part, rest-written}
 use Rattle.lists.proofs.Assembled.{PartWithin, Covers, still, assemble-length, assemble-anywhere}
 
 -- writing nothing
@@ -127,3 +127,11 @@ lay-front n bytes buffer h =
     ∙ ap (λ (l : List ℕ). some ++ l)
     (sym (drop-append-le (length some) front (drop n buffer) (omega (arith, length-take-le n buffer h)))
     ∙ ap (drop (length some)) (take-append-drop n buffer))
+
+-- the rest of a buffer from a place on is lent
+pub lay-rest : (at : ℕ) (bytes buffer : List ℕ)
+    → take at buffer ++ (lay 0 bytes (drop at buffer) ++ drop (length buffer - at) (drop at buffer)) ≡ lay at bytes buffer
+lay-rest at bytes buffer =
+    ap (λ (n : ℕ). take at buffer ++ (put 0 (take n bytes) (drop at buffer) ++ drop (length buffer - at) (drop at buffer)))
+    (let e : length (drop at buffer) - 0 ≡ length buffer - at = omega (arith, length-drop at buffer) in e)
+    ∙ rest-written at (take (length buffer - at) bytes) buffer

@@ -6,6 +6,7 @@ pub mod Each
 pub mod Any
 pub mod Ranges
 pub mod Mapped
+pub mod Filled
 pub mod Joined
 pub mod Keep
 pub mod Sums

@@ -1,6 +1,6 @@
 -- Sums: over joined, mapped, repeated and kept lists (`sum-append`, `sum-flatMap`, `sum-keep`), of equal terms (`sum-all`), in two
--- orders (`sum-swap`), of bits, and over ranges (`sum-range`).
-use Prim.Native.Nat.{ℕ, zero, suc, _+_, _*_, _≤_, _<_}
+-- orders (`sum-swap`), of bits, and over ranges (`sum-range`, `sum-most`, `sum-grows`).
+use Prim.Native.Nat.{ℕ, zero, suc, _+_, _-_, _*_, _≤_, _<_}
 use native.Mathlib.Nat.{mul-add, mul-zero, mul-one, zero-mul, one-mul, suc-mul}
 use native.Mathlib.Omega.{arith}
 use mathlib.Core.Path.{_≡_, refl, sym, ap, _∙_, fun-ext}
@@ -10,7 +10,7 @@ use lib.ListN.{length, getD, replicate}
 use Rattle.lists.specs.Sums.{All, allNil, allCons, bit, keep, keepIf, sum}
 use Rattle.lists.specs.Ranges.{range}
 use Rattle.lists.proofs.Bits.{bit-zero}
-use Rattle.lists.proofs.Ranges.{range-length, range-next, All-range}
+use Rattle.lists.proofs.Ranges.{range-length, range-next, range-around, All-range}
 
 module _ {A : Type 0} where
   pub sum-append : (f : A → ℕ) (xs ys : List A) → sum f (xs ++ ys) ≡ sum f xs + sum f ys
@@ -108,6 +108,19 @@ sum-same c n = sum-const c (range 0 n) ∙ ap (λ m. m * c) (range-length 0 n)
 -- two sums over a range are equal where their terms are
 pub sum-range : (f g : ℕ → ℕ) (n : ℕ) → ((i : ℕ) → i < n → f i ≡ g i) → sum f (range 0 n) ≡ sum g (range 0 n)
 sum-range f g n h = sum-all f g (All-range n h)
+
+-- terms of at most c
+pub sum-most : (f : ℕ → ℕ) (c n : ℕ) → ((i : ℕ) → f i ≤ c) → sum f (range 0 n) ≤ n * c
+unfolding sum range
+sum-most f c zero h = omega arith
+sum-most f c (suc n) h = omega (arith, sum-next f n, sum-most f c n h, h n, suc-mul n c)
+
+-- a longer sum is no smaller
+pub sum-grows : (f : ℕ → ℕ) (i n : ℕ) → i < n → sum f (range 0 i) + f i ≤ sum f (range 0 n)
+unfolding sum
+sum-grows f i n h =
+    let rest = range (suc i) (n - suc i) in
+    omega (arith, ap (sum f) (range-around n i h), sum-append f (range 0 i) (i ∷ rest))
 
 -- a sum over a list, place by place
 pub sum-at : {A : Type 0} (w : A → ℕ) (d : A) (l : List A) → sum w l ≡ sum (λ i. w (getD l i d)) (range 0 (length l))

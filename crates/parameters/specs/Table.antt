@@ -1,17 +1,23 @@
--- The greatest number of messages in the even code (document 01, 'Catalogue': the largest K, looked up by N).
+-- The greatest number of messages where a power of N bounds it: in the even code (document 01, 'Catalogue': the largest K, looked up by N) and in
+-- the round code (document 02, item 8).
 use mathlib.Core.List.{List, [], _∷_}
-use Prim.Native.Nat.{ℕ, _+_, _-_, _^_, _≤_, _<_}
+use Prim.Native.Nat.{ℕ, _+_, _-_, _≤_, _<_}
 use lib.ListN.{getD}
 
--- for N = 2, 3, .., 16
-abbrev pub table : List ℕ
-table = 8 ∷ 5 ∷ 4 ∷ 3 ∷ 3 ∷ 2 ∷ 2 ∷ 2 ∷ 2 ∷ 2 ∷ 2 ∷ 2 ∷ 2 ∷ 2 ∷ 2 ∷ []
+-- in the even code, for N = 2, 3, .., 16
+abbrev pub evenTable : List ℕ
+evenTable = 8 ∷ 5 ∷ 4 ∷ 3 ∷ 3 ∷ 2 ∷ 2 ∷ 2 ∷ 2 ∷ 2 ∷ 2 ∷ 2 ∷ 2 ∷ 2 ∷ 2 ∷ []
+
+-- in the round code
+abbrev pub roundTable : List ℕ
+roundTable = 7 ∷ 4 ∷ 4 ∷ 3 ∷ 3 ∷ 3 ∷ 3 ∷ 2 ∷ 2 ∷ 2 ∷ 2 ∷ 2 ∷ 2 ∷ 2 ∷ 2 ∷ []
 
 -- N's entry
-abbrev pub mostMessages : ℕ → ℕ
-mostMessages N = getD table (N - 2) 0
+abbrev pub mostMessages : List ℕ → ℕ → ℕ
+mostMessages table N = getD table (N - 2) 0
 
--- the table's rule: K messages have at most 256 symbols each, and with one message more they have more
-pub record Most (N K : ℕ) : Type 0 where
-  pub within : N ^ K ≤ 256
-  pub beyond : 256 < N ^ (K + 1)
+-- a table's rule: what K messages ask for is within the limit, and with one message more it is not. In the even code that is N^K symbols, at
+-- most 256, and in the round code N^(K-1) blocks, at most 64
+pub record Most (limit : ℕ) (asked : ℕ → ℕ) (K : ℕ) : Type 0 where
+  pub within : asked K ≤ limit
+  pub beyond : limit < asked (K + 1)

@@ -4,7 +4,7 @@ ghost use mathlib.Core.Path.{_≡_};
 ghost use mathlib.Core.Bool.{true};
 ghost use Prim.Native.Nat.{_≤_};
 ghost use Rattle.parameters.specs.Bounds.{evenFits};
-ghost use Rattle.parameters.specs.Table.{mostMessages};
+ghost use Rattle.parameters.specs.Table.{evenTable, mostMessages};
 ghost use Rattle.parameters.specs.Measures.{evenSizes};
 
 // The greatest K of the even code for each N from 2 to 16 (01: largest K).
@@ -13,7 +13,7 @@ const MOST_MESSAGES: [usize; 15] = [8, 5, 4, 3, 3, 2, 2, 2, 2, 2, 2, 2, 2, 2, 2]
 // The greatest K of the even code, looked up by N.
 fn most_messages(n: usize) -> usize
     requires { ⌜ (2 ≤ n) × (n ≤ 16) ⌝ }
-    ensures { λ r. ⌜ r ≡ mostMessages n ⌝ }
+    ensures { λ r. ⌜ r ≡ mostMessages evenTable n ⌝ }
 {
     MOST_MESSAGES[n - 2]
 }

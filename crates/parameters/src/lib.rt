@@ -6,6 +6,7 @@ ghost use Prim.Native.Nat.{_^_, _<_};
 ghost use Rattle.parameters.specs.Bounds.{serversFit, symbolFits};
 
 pub mod even;
+pub mod round;
 pub mod short;
 pub mod turn;
 

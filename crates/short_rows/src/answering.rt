@@ -64,7 +64,7 @@ pub fn gather(
     }
 }
 
-// Writes the answer to the row: nothing for the row of zeros.
+// Writes the answer to the row, nothing for the row of zeros, and gives its length.
 pub fn answer(
     op: Operation,
     first: usize,
@@ -73,15 +73,17 @@ pub fn answer(
     store: &[u8],
     row: &[u8],
     out: &mut [u8],
-)
+) -> usize
     requires { ⌜ 0 < s ⌝ }
     requires { ⌜ RowStored first stride s (now store) (now row) ⌝ }
     requires { ⌜ shortAnswerLength s (now row) ≤ length (now out) ⌝ }
+    ensures { λ r. ⌜ r ≡ shortAnswerLength s (now (row .entry)) ⌝ }
     ensures { λ _. ⌜ now (out .exit) ≡ put 0 (stridedAnswer (sumOf op) first stride s (now (store .entry)) (now (row .entry))) (now (out .entry)) ⌝ }
 {
     let empty = crate::digits::all_below(1, row);
     if empty {
-        return;
+        return 0;
     }
     gather(op, first, stride, s, store, row, &mut out[..s]);
+    s
 }

@@ -1,11 +1,11 @@
 -- Recovery: server (d + T) modulo N is asked for what server T is asked for and the symbol of digit d besides, so the difference of
--- their answers is that symbol: `found`, wherever the messages lie, and `message-recovered` for the short code. Only the laws of an
--- abelian group are used.
+-- their answers is that symbol (`found`), and the symbols together are what the store holds there, wherever the messages lie: `row-recovered`, and
+-- `message-recovered` for the short code. Only the laws of an abelian group are used.
 use mathlib.Core.Path.{_≡_, ap, ap₂, _∙_}
 use mathlib.Core.Bool.{true}
 use mathlib.Core.List.{List, [], _∷_, _++_}
 use Prim.Native.Nat.{ℕ, suc, _+_, _-_, _*_, _%_, _≤_, _<_}
-use native.Mathlib.Nat.{mod-lt, mul-assoc}
+use native.Mathlib.Nat.{zero-add, add-comm, mod-lt, mul-assoc}
 use native.Mathlib.Numerals.{add-one}
 use native.Mathlib.Omega.{arith}
 use lib.ListN.{length, getD}
@@ -65,6 +65,29 @@ module _ (sum : Sum) (first stride N S : ℕ) (group : AbelianGroup sum S) (stor
           ≡ symbolAt S store (first + wanted * stride + d)
       last ps (allCons x qs) = total-found sum S group x ps qs
 
+  -- the honest answers of all servers, and what the reconstruction makes of them
+  module _ (answers : List (List ℕ)) (honest : (n : ℕ) → n < N → getD answers n [] ≡ stridedAnswer sum first stride S store (shortQuery N wanted n key)) where
+    asked : (n d : ℕ) → n < N → balancing N n key ≡ d → orZeros S (getD answers n []) ≡ askedFor d
+    unfolding shortQuery
+    asked n d h e = ap (orZeros S) (honest n h) ∙ ap askedFor e
+
+    symbol-recovered : (d : ℕ) → suc d < N → recovered sum N S (keySum N key) answers (suc d) ≡ symbolAt S store (first + wanted * stride + d)
+    unfolding recovered
+    symbol-recovered d h =
+        ap₂ (sum .minus)
+        (asked ((suc d + keySum N key) % N) (suc d) (mod-lt (suc d + keySum N key) (omega arith)) (balance-turn N (suc d) key h))
+        (asked (keySum N key) 0 (mod-lt (digitSum key) (omega arith)) (balance-none N key (omega arith)))
+        ∙ found d h
+
+    pub row-recovered : shortRecover sum N S key answers ≡ cut ((first + wanted * stride) * S) ((N - 1) * S) store
+    unfolding shortRecover
+    row-recovered =
+        let from = first + wanted * stride in
+        let f = recovered sum N S (keySum N key) answers in
+        joined-equal f (symbolAt S store) 1 from (N - 1)
+        (λ i h. ap f (add-one i) ∙ symbol-recovered i (omega arith) ∙ ap (symbolAt S store) (add-comm from i))
+        ∙ cut-join S from (N - 1) store
+
 module _ (sum : Sum) (N K S : ℕ) (group : AbelianGroup sum S) (store : List ℕ) (whole : length store ≡ K * ((N - 1) * S)) (some : 0 < S)
     (bytes : Below 256 store) (wanted : ℕ) (message : wanted < K) (key : List ℕ) (long : length key ≡ K - 1) (good : allBelow N key ≡ true) where
   stored : (d : ℕ) → d < N → RowStored 0 (N - 1) S store (insertAt wanted d key)
@@ -72,32 +95,10 @@ module _ (sum : Sum) (N K S : ℕ) (group : AbelianGroup sum S) (store : List �
       digits-stored N K S store whole 0 0 (omega arith) (insertAt wanted d key) (omega (arith, insert-length wanted d key))
       (insert-below N wanted d key h (allBelow-below N key good))
 
-  -- the honest answer of a server, by the digit that it was asked for
-  honest : (n d : ℕ) → n < N → balancing N n key ≡ d
-      → getD (honestAnswers (shortScheme sum N K S) N store wanted key) n [] ≡ stridedAnswer sum 0 (N - 1) S store (insertAt wanted d key)
-  unfolding honestAnswers shortQuery shortAnswer
-  honest n d h e =
-      mapped-at (λ (i : ℕ). stridedAnswer sum 0 (N - 1) S store (insertAt wanted (balancing N i key) key)) [] N n h
-      ∙ ap (λ (x : ℕ). stridedAnswer sum 0 (N - 1) S store (insertAt wanted x key)) e
-
-  symbol-recovered : (d : ℕ) → suc d < N
-      → recovered sum N S (keySum N key) (honestAnswers (shortScheme sum N K S) N store wanted key) (suc d)
-      ≡ symbolAt S store (0 + wanted * (N - 1) + d)
-  unfolding recovered
-  symbol-recovered d h =
-      ap₂ (λ (x y : List ℕ). sum .minus (orZeros S x) (orZeros S y))
-      (honest ((suc d + keySum N key) % N) (suc d) (mod-lt (suc d + keySum N key) (omega arith)) (balance-turn N (suc d) key h))
-      (honest (keySum N key) 0 (mod-lt (digitSum key) (omega arith)) (balance-none N key (omega arith)))
-      ∙ found sum 0 (N - 1) N S group store some bytes wanted key (omega arith) stored d h
-
   pub message-recovered : shortRecover sum N S key (honestAnswers (shortScheme sum N K S) N store wanted key)
       ≡ cut (wanted * ((N - 1) * S)) ((N - 1) * S) store
-  unfolding shortRecover
+  unfolding honestAnswers shortAnswer
   message-recovered =
-      let b = wanted * (N - 1) in
-      let f = recovered sum N S (keySum N key) (honestAnswers (shortScheme sum N K S) N store wanted key) in
-      joined-equal f (symbolAt S store) 1 b (N - 1)
-      (λ i h.
-      ap f (add-one i) ∙ symbol-recovered i (omega arith) ∙ ap (symbolAt S store) (let e : 0 + b + i ≡ i + b = omega arith in e))
-      ∙ cut-join S b (N - 1) store
-      ∙ ap (λ (n : ℕ). cut n ((N - 1) * S) store) (mul-assoc wanted (N - 1) S)
+      row-recovered sum 0 (N - 1) N S group store some bytes wanted key (omega arith) stored (honestAnswers (shortScheme sum N K S) N store wanted key)
+      (λ n h. mapped-at (λ (i : ℕ). stridedAnswer sum 0 (N - 1) S store (shortQuery N wanted i key)) [] N n h)
+      ∙ ap (λ (n : ℕ). cut n ((N - 1) * S) store) (ap (λ (n : ℕ). n * S) (zero-add (wanted * (N - 1))) ∙ mul-assoc wanted (N - 1) S)

@@ -29,11 +29,12 @@ pub fn text(s: State, text: &[u8]) -> State {
     s.with_catalogue(c)
 }
 
-// The code of a number: 0 short, 2 turning, else even.
+// The code of a number: 0 short, 2 turning, 3 round, else even.
 fn code_of(n: usize) -> Code {
     match n {
         0 => Code::Short,
         2 => Code::Turn,
+        3 => Code::Round,
         _ => Code::Even,
     }
 }

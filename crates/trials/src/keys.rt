@@ -13,5 +13,6 @@ pub fn key(seed: u64, c: Catalogue, out: &mut [u8]) {
     match code {
         Code::Short | Code::Turn => draw::digits(seed, c.servers, out),
         Code::Even => draw::permutations(seed, sizes.symbols, out),
+        Code::Round => draw::permutations(seed, sizes.key, out),
     }
 }

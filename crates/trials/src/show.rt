@@ -94,12 +94,13 @@ pub fn total(sum: u64) {
     io::print_decimal(STDOUT_FILENO, sum);
 }
 
-// 0 for the short code, 1 for the even one, 2 for the turning one.
+// 0 for the short code, 1 for the even one, 2 for the turning one, 3 for the round one.
 fn code_number(code: Code) -> usize {
     match code {
         Code::Short => 0,
         Code::Even => 1,
         Code::Turn => 2,
+        Code::Round => 3,
     }
 }
 

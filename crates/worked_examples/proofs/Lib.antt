@@ -1,3 +1,4 @@
 pub mod Cards
 pub mod Runs
 pub mod Turned
+pub mod Rounds

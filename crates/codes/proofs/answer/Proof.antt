@@ -3,7 +3,8 @@ use Rattle.parameters.specs.Measures.{evenSizes, turnSizes}
 use Rattle.short_scheme.proofs.Queries.{admits-row}
 use Rattle.even_answer.proofs.Admission.{admitted-answerable}
 use Rattle.turn_code.proofs.Queries.{admitted-row}
-use Rattle.codes.proofs.Promises.{admitted-short, admitted-even, admitted-turn, scheme-short, scheme-even, scheme-turn}
+use Rattle.round_code.proofs.Fits.{admitted-digits}
+use Rattle.codes.proofs.Promises.{admitted-short, admitted-even, admitted-turn, admitted-round, scheme-short, scheme-even, scheme-turn, scheme-round}
 use borrow.Author.Needs.{needs}
 use Rattle.codes.proofs.answer.Statement.{statement}
 use Rattle.codes.proofs.answer.Tie as tie
@@ -44,6 +45,19 @@ answer-requires-3 c κs =
     let p = rw (scheme-turn (a .c) e) at (start .pre) in
     (admitted-turn (a .c) (start .pre .0) e, (p .1 .1 .0, (admitted-row (a .c .servers) (a .c .messages) (a .query .now) (p .1 .0), p .1 .1 .1)))
 
+enum-told-4 : tie.Need-enum-told-4
+enum-told-4 c = search needs
+
+answer-requires-4 : tie.Need-answer-requires-4
+answer-requires-4 c κs =
+    let start = c .before .before .before .before .before .before in
+    let a = start .args in
+    let e = c .before .enum-told4 .given .1 in
+    let p = rw (scheme-round (a .c) e) at (start .pre) in (
+      admitted-round (a .c) (start .pre .0) e,
+      (p .1 .1 .0, (admitted-digits (a .c .servers) (a .c .messages) (a .server) (a .query .now) (p .1 .0), p .1 .1 .1)),
+    )
+
 same-length : tie.Need-same-length
 same-length c = search needs
 
@@ -68,6 +82,14 @@ returns-3 c =
     rw (scheme-turn (c .before .before .before .before .before .before .before .before .before .args .c)
     (c .before .before .before .before .enum-told3 .given .1)) (c .before .before .answer3 .ensures)
 
+same-length-4 : tie.Need-same-length-4
+same-length-4 c = search needs
+
+returns-4 : tie.Need-returns-4
+returns-4 c =
+    rw (scheme-round (c .before .before .before .before .before .before .before .before .before .args .c)
+    (c .before .before .before .before .enum-told4 .given .1)) (c .before .before .answer4 .ensures)
+
 pub answer-spec : {M : Type 1} → statement M
 answer-spec =
     tie.close
@@ -78,9 +100,13 @@ answer-spec =
     answer-requires-2
     enum-told-3
     answer-requires-3
+    enum-told-4
+    answer-requires-4
     same-length
     returns
     same-length-2
     returns-2
     same-length-3
-    returns-3)
+    returns-3
+    same-length-4
+    returns-4)

@@ -29,31 +29,31 @@ loop-holds : tie.Need-loop-holds Inv-loop μ-loop
 unfolding every
 loop-holds c = (omega arith, refl)
 
-mul-permutation-good : tie.Need-mul-permutation-good Inv-loop μ-loop
-mul-permutation-good c =
+mul-is-permutation : tie.Need-mul-is-permutation Inv-loop μ-loop
+mul-is-permutation c =
     let at = c .before in omega (arith, slot-end (at .loop .p) (at .before .before .args .k) (at .before .before .args .size) (omega arith))
 
-mul-permutation-good-2 : tie.Need-mul-permutation-good-2 Inv-loop μ-loop
-mul-permutation-good-2 c =
+mul-is-permutation-2 : tie.Need-mul-is-permutation-2 Inv-loop μ-loop
+mul-is-permutation-2 c =
     let at = c .before in omega (arith, slot-end (at .loop .p) (at .before .before .args .k) (at .before .before .args .size) (omega arith))
 
-add-permutation-good : tie.Need-add-permutation-good Inv-loop μ-loop
-add-permutation-good c =
+add-is-permutation : tie.Need-add-is-permutation Inv-loop μ-loop
+add-is-permutation c =
     let at = c .before in omega (arith, slot-end (at .loop .p) (at .before .before .args .k) (at .before .before .args .size) (omega arith))
 
-sub-permutation-good : tie.Need-sub-permutation-good Inv-loop μ-loop
-sub-permutation-good c = omega arith
+sub-is-permutation : tie.Need-sub-is-permutation Inv-loop μ-loop
+sub-is-permutation c = omega arith
 
-part-permutation-good-start : tie.Need-part-permutation-good-start Inv-loop μ-loop
-part-permutation-good-start c =
+part-is-permutation-start : tie.Need-part-is-permutation-start Inv-loop μ-loop
+part-is-permutation-start c =
     let at = c .before in omega (arith, slot-end (at .loop .p) (at .before .before .args .k) (at .before .before .args .size) (omega arith))
 
-part-permutation-good-end : tie.Need-part-permutation-good-end Inv-loop μ-loop
-part-permutation-good-end c =
+part-is-permutation-end : tie.Need-part-is-permutation-end Inv-loop μ-loop
+part-is-permutation-end c =
     let at = c .before in omega (arith, slot-end (at .loop .p) (at .before .before .args .k) (at .before .before .args .size) (omega arith))
 
-permutation-good-requires : tie.Need-permutation-good-requires Inv-loop μ-loop
-permutation-good-requires c κs =
+is-permutation-requires : tie.Need-is-permutation-requires Inv-loop μ-loop
+is-permutation-requires c κs =
     let at = c .before .before in
     let args = at .before .before .args in
     let p = at .loop .p in
@@ -66,7 +66,7 @@ returns c =
     let args = at .before .before .args in
     let p = at .loop .p in
     let not-good : isPermutation (args .size) (cut (p * args .size) (args .size) (args .key .now)) ≡ false =
-    ap (isPermutation (args .size)) (sym (lent (args .size) p (args .key .now))) ∙ sym (c .before .permutation-good .ensures) ∙ not-true _ (c .if1 .taken) in
+    ap (isPermutation (args .size)) (sym (lent (args .size) p (args .key .now))) ∙ sym (c .before .is-permutation .ensures) ∙ not-true _ (c .if1 .taken) in
     sym (every-false (args .k) (λ q. isPermutation (args .size) (cut (q * args .size) (args .size) (args .key .now))) p (omega arith) not-good)
 
 add-p : tie.Need-add-p Inv-loop μ-loop
@@ -81,7 +81,7 @@ loop-again c =
     let args = at .before .before .args in
     let p = at .loop .p in
     let good : isPermutation (args .size) (cut (p * args .size) (args .size) (args .key .now)) ≡ true =
-    ap (isPermutation (args .size)) (sym (lent (args .size) p (args .key .now))) ∙ sym (c .before .permutation-good .ensures) ∙ not-false _ (c .if1 .left) in
+    ap (isPermutation (args .size)) (sym (lent (args .size) p (args .key .now))) ∙ sym (c .before .is-permutation .ensures) ∙ not-false _ (c .if1 .left) in
     (omega arith, every-more p (λ q. isPermutation (args .size) (cut (q * args .size) (args .size) (args .key .now))) (at .loop .inv .1) good)
 
 returns-2 : tie.Need-returns-2 Inv-loop μ-loop
@@ -98,13 +98,13 @@ permutations-good-spec =
     Inv-loop
     μ-loop
     loop-holds
-    mul-permutation-good
-    mul-permutation-good-2
-    add-permutation-good
-    sub-permutation-good
-    part-permutation-good-start
-    part-permutation-good-end
-    permutation-good-requires
+    mul-is-permutation
+    mul-is-permutation-2
+    add-is-permutation
+    sub-is-permutation
+    part-is-permutation-start
+    part-is-permutation-end
+    is-permutation-requires
     returns
     add-p
     loop-less

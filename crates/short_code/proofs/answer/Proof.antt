@@ -27,7 +27,7 @@ same-length c = search needs
 
 returns : tie.Need-returns
 unfolding shortAnswer
-returns c = c .before .before .answer .ensures
+returns c = c .before .before .answer .ensures .1
 
 pub answer-spec : {M : Type 1} → statement M
 answer-spec = tie.close (tie.spec sub-answer answer-requires same-length returns)

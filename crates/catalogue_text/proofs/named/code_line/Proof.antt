@@ -44,15 +44,36 @@ returns-3 c =
       sym (c .before .starts3 .ensures) ∙ c .if3 .taken,
     )
 
+slice-aggregate-starts-4 : tie.Need-slice-aggregate-starts-4
+slice-aggregate-starts-4 c = search needs
+
+starts-requires-4 : tie.Need-starts-requires-4
+starts-requires-4 c κs = search needs
+
 returns-4 : tie.Need-returns-4
 unfolding codeLine
 returns-4 c =
-    let second = c .before .before .before in
+    let third = c .before .before .before in
+    let second = third .before .before .before in
     let first = second .before .before .before in
     simp (
       sym (first .before .starts .ensures) ∙ first .if1 .left,
       sym (second .before .starts2 .ensures) ∙ second .if2 .left,
-      sym (c .before .starts3 .ensures) ∙ c .if3 .left,
+      sym (third .before .starts3 .ensures) ∙ third .if3 .left,
+      sym (c .before .starts4 .ensures) ∙ c .if4 .taken,
+    )
+
+returns-5 : tie.Need-returns-5
+unfolding codeLine
+returns-5 c =
+    let third = c .before .before .before in
+    let second = third .before .before .before in
+    let first = second .before .before .before in
+    simp (
+      sym (first .before .starts .ensures) ∙ first .if1 .left,
+      sym (second .before .starts2 .ensures) ∙ second .if2 .left,
+      sym (third .before .starts3 .ensures) ∙ third .if3 .left,
+      sym (c .before .starts4 .ensures) ∙ c .if4 .left,
     )
 
 pub code-line-spec : {M : Type 1} → statement M
@@ -68,4 +89,7 @@ code-line-spec =
     slice-aggregate-starts-3
     starts-requires-3
     returns-3
-    returns-4)
+    slice-aggregate-starts-4
+    starts-requires-4
+    returns-4
+    returns-5)

@@ -3,13 +3,12 @@ use mathlib.Core.Path.{_≡_, sym, ap, _∙_}
 use mathlib.Core.Bool.{false}
 use Prim.Native.Nat.{ℕ, _^_, _≤_}
 use borrow.Author.Needs.{needs}
-use borrow.Author.Tests.{le-leb, lt-leb, leb-true, not-true, not-false}
+use borrow.Author.Tests.{le-leb, lt-leb, not-true, not-false}
 use lib.Dec.{leb}
-use Rattle.lists.proofs.Both.{both-true}
-use Rattle.parameters.specs.Bounds.{serversFit, symbolFits, evenMessagesFit, evenFits}
-use Rattle.parameters.specs.Table.{mostMessages}
-use Rattle.parameters.proofs.Common.{common-fails, common-holds}
-use Rattle.parameters.proofs.Table.{table-decides}
+use Rattle.parameters.specs.Bounds.{evenMessagesFit, evenFits}
+use Rattle.parameters.specs.Table.{evenTable, mostMessages}
+use Rattle.parameters.proofs.Common.{common-fails, common-holds, common-servers}
+use Rattle.parameters.proofs.Table.{even-decides}
 use Rattle.parameters.proofs.even.fits.Statement.{statement}
 use Rattle.parameters.proofs.even.fits.Tie as tie
 
@@ -34,11 +33,9 @@ returns-2 c =
 -- N is 2 to 16, as the shared bounds hold
 servers : (c : tie.Else2) → (2 ≤ c .before .before .before .args .n) × (c .before .before .before .args .n ≤ 16)
 servers c =
-    let at = c .before .before in
-    let n = at .before .args .n in
-    let e = sym (at .common-fits .ensures) ∙ not-false (at .common-fits .result) (c .before .if1 .left) in
-    let p = both-true (leb 2 n) (leb n 16) (both-true (serversFit n) (symbolFits (at .before .args .s)) e .0) in
-    (leb-true 2 n (p .0), leb-true n 16 (p .1))
+    let f = c .before .before .common-fits in
+    let a = c .before .before .before .args in
+    common-servers (a .n) (a .s) (f .result) (f .ensures) (not-false (f .result) (c .before .if1 .left))
 
 most-messages-requires : tie.Need-most-messages-requires
 most-messages-requires c κs = servers c
@@ -49,10 +46,10 @@ returns-3 c =
     let f = c .before .before .before .common-fits in
     let a = c .before .before .before .before .args in
     let within = servers (c .before) in
-    let entry : leb (a .k) (c .most-messages .result) ≡ leb (a .k) (mostMessages (a .n)) =
+    let entry : leb (a .k) (c .most-messages .result) ≡ leb (a .k) (mostMessages evenTable (a .n)) =
     ap (λ (most : ℕ). leb (a .k) most) (c .most-messages .ensures)
     in
-    let decided = entry ∙ sym (table-decides (a .n) (a .k) (within .0) (within .1)) in
+    let decided = entry ∙ sym (even-decides (a .n) (a .k) (within .0) (within .1)) in
     let some : leb (a .n ^ a .k) 256 ≡ evenMessagesFit (a .n) (a .k) = simp (le-leb _ _ (c .before .if2 .left)) in
     decided ∙ some
     ∙ common-holds (a .n) (a .s) (f .result) (f .ensures) (evenMessagesFit (a .n) (a .k)) (not-false (f .result) (c .before .before .if1 .left))

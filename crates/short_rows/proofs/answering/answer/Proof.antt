@@ -1,6 +1,6 @@
--- `short_rows::answering::answer` meets its contract: the row of zeros is left alone, and of any other row the total is gathered.
+-- `short_rows::answering::answer` meets its contract: nothing is written for the row of zeros, and of any other row the total is gathered.
 use mathlib.Core.Path.{_≡_, sym, ap, _∙_}
-use mathlib.Core.Bool.{false}
+use mathlib.Core.Bool.{true, false}
 use mathlib.Core.List.{List}
 use Prim.Native.Nat.{ℕ, _≤_}
 use native.Mathlib.Omega.{arith}
@@ -11,7 +11,7 @@ use Rattle.lists.specs.Below.{Below}
 use Rattle.symbol.specs.Operations.{sumOf}
 use Rattle.symbol.proofs.Operations.{group-of}
 use Rattle.short_scheme.specs.Short.{allZero}
-use Rattle.short_scheme.proofs.ZeroRow.{room-some, answer-none}
+use Rattle.short_scheme.proofs.ZeroRow.{length-none, length-some, room-some, answer-none}
 use Rattle.short_rows.proofs.Gathering.{gathered-answer}
 use borrow.Author.Needs.{needs}
 use Rattle.short_rows.proofs.answering.answer.Statement.{statement}
@@ -23,8 +23,10 @@ all-below-requires c κs = search needs
 returns : tie.Need-returns
 returns c =
     let a = c .before .before .before .before .before .args in
-    ap (λ (l : List ℕ). put 0 l (a .out .now))
-    (sym (answer-none (sumOf (a .op)) (a .first) (a .stride) (a .s) (a .store .now) (a .row .now) (sym (c .before .all-below .ensures) ∙ c .if1 .taken)))
+    let none : allZero (a .row .now) ≡ true = sym (c .before .all-below .ensures) ∙ c .if1 .taken in (
+      sym (length-none (a .s) (a .row .now) none),
+      ap (λ (l : List ℕ). put 0 l (a .out .now)) (sym (answer-none (sumOf (a .op)) (a .first) (a .stride) (a .s) (a .store .now) (a .row .now) none)),
+    )
 
 bytes : (c : tie.After-shared-slice-known) → Below 256 (c .before .args .store .now)
 bytes c i h = omega (arith, c .shared-slice-known .given i)
@@ -58,10 +60,12 @@ returns-2 c =
     let g = c .before .before in
     let start = g .before .before .before .before .before .before .before in
     let a = start .args in
-    let some : allZero (a .row .now) ≡ false = sym (g .before .before .before .all-below .ensures) ∙ g .before .before .if1 .left in
-    gathered-answer (sumOf (a .op)) (a .stride) (a .s) (a .store .now) (group-of (a .op) (a .s)) (bytes (g .before .before .before .before .before .before))
-    (a .first) (a .row .now) (take (a .s) (a .out .now)) (a .out .now) (start .pre .1 .0) some (g .gather .ensures)
-    (g .gather .kept .1 .1 .1 .1 .1 .1 .0 ∙ length-take-le (a .s) (a .out .now) (roomy (g .before .before)))
+    let some : allZero (a .row .now) ≡ false = sym (g .before .before .before .all-below .ensures) ∙ g .before .before .if1 .left in (
+      sym (length-some (a .s) (a .row .now) some),
+      gathered-answer (sumOf (a .op)) (a .stride) (a .s) (a .store .now) (group-of (a .op) (a .s)) (bytes (g .before .before .before .before .before .before))
+          (a .first) (a .row .now) (take (a .s) (a .out .now)) (a .out .now) (start .pre .1 .0) some (g .gather .ensures)
+          (g .gather .kept .1 .1 .1 .1 .1 .1 .0 ∙ length-take-le (a .s) (a .out .now) (roomy (g .before .before))),
+    )
 
 pub answer-spec : {M : Type 1} → statement M
 answer-spec =

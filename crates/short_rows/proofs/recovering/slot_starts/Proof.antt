@@ -1,21 +1,21 @@
 -- `short_rows::recovering::slot_starts` meets its contract: after i turns the first i slots' starts are written.
 use mathlib.Core.Path.{_≡_, refl}
 use Prim.Native.Nat.{_-_, _*_, _≤_}
-use native.Mathlib.Nat.{not-suc-le-zero, mul-le-mul}
+use native.Mathlib.Nat.{mul-le-mul}
 use native.Mathlib.Omega.{arith}
 use lib.ListN.{length, length-set}
-use Rattle.short_rows.proofs.Places.{InSlots, slots-are-starts, slots-more}
+use Rattle.lists.proofs.Filled.{FilledBy, filled-none, filled-more, filled-all}
 use Rattle.short_rows.proofs.recovering.slot_starts.Statement.{statement}
 use Rattle.short_rows.proofs.recovering.slot_starts.Tie as tie
 
 abbrev Inv-loop : tie.InvT-loop
-Inv-loop s starts₀ i₀ starts i = (i ≤ 16) × (length starts ≡ 16) × InSlots i s starts
+Inv-loop s starts₀ i₀ starts i = (i ≤ 16) × (length starts ≡ 16) × FilledBy (λ j. j * s) i starts
 
 abbrev μ-loop : tie.MeasureT-loop
 μ-loop s starts₀ i₀ starts i = 16 - i
 
 loop-holds : tie.Need-loop-holds Inv-loop μ-loop
-loop-holds c = (omega arith, refl, record { at-slot = λ i h. absurd (not-suc-le-zero h) })
+loop-holds c = (omega arith, refl, filled-none (λ j. j * c .args .s) _)
 
 mul-starts : tie.Need-mul-starts Inv-loop μ-loop
 mul-starts c =
@@ -43,14 +43,15 @@ loop-again c =
     let s = at .before .args .s in (
       omega arith,
       simp length-set (at .loop .inv .1),
-      slots-more s (at .loop .i) (at .loop .starts) (omega arith) (at .loop .inv .2),
+      filled-more (λ j. j * s) (at .loop .i) (at .loop .i * s) (at .loop .starts) (omega arith) refl (at .loop .inv .2),
     )
 
 returns : tie.Need-returns Inv-loop μ-loop
 returns c =
     let at = c .before in
     let last : at .loop .i ≡ 16 = omega arith in
-    slots-are-starts (at .before .args .s) (at .loop .starts) (at .loop .inv .1) (rw last at (at .loop .inv .2))
+    let s = at .before .args .s in
+    filled-all (λ j. j * s) 16 (at .loop .starts) (at .loop .inv .1) (rw last at (at .loop .inv .2))
 
 pub slot-starts-spec : {M : Type 1} → statement M
 slot-starts-spec =

@@ -1,4 +1,4 @@
--- `even_key::permutation_good` meets its contract: what is left of the bytes decides, with the marks so far.
+-- `permutation::is_permutation` meets its contract: what is left of the bytes decides, with the marks so far.
 use mathlib.Core.Path.{_≡_, sym, _∙_}
 use mathlib.Core.Bool.{Bool, false}
 use Prim.Native.Nat.{_-_, _≤_}
@@ -6,8 +6,8 @@ use native.Mathlib.Omega.{arith}
 use lib.ListN.{length, drop, length-set, length-replicate}
 use Rattle.lists.specs.Distinct.{isPermutation}
 use Rattle.lists.proofs.Passes.{passes, passes-high, passes-seen, passes-more, passes-end, permutation-passes}
-use Rattle.even_key.proofs.permutation_good.Statement.{statement}
-use Rattle.even_key.proofs.permutation_good.Tie as tie
+use Rattle.permutation.proofs.is_permutation.Statement.{statement}
+use Rattle.permutation.proofs.is_permutation.Tie as tie
 
 abbrev Inv-loop : tie.InvT-loop
 Inv-loop size bytes seen₀ i₀ seen i = (i ≤ length bytes) × (length seen ≡ 256) × (isPermutation size bytes ≡ passes size seen (drop i bytes))
@@ -65,8 +65,8 @@ returns-3 c =
     let at = c .before in
     sym (at .loop .inv .2 ∙ passes-end (at .before .args .size) (at .loop .seen) (at .before .args .bytes .now) (at .loop .i) (omega arith))
 
-pub permutation-good-spec : {M : Type 1} → statement M
-permutation-good-spec =
+pub is-permutation-spec : {M : Type 1} → statement M
+is-permutation-spec =
     tie.close
     (tie.spec
     Inv-loop
