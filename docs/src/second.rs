@@ -5,13 +5,14 @@
 //! all mirrors of the short one are sent and turns that list, and turns the list of answers back; the round code looks its rows up in a list of all
 //! rows, cuts the store into one of the short code for each block, and recovers by walking along all answers at once. A day is looked up in a list
 //! of all days of the calendar, walked month by month; no date is compared or tested by its numbers. Lines `length=` are collected, however many there are, and
-//! counted afterwards; a pack is recovered whole and then cut. Each module of the folder `second` says in its first line what it holds.
+//! counted afterwards; a pack is recovered whole and then cut. A session keeps every call since begin, and its meters are sums over these; whether bytes
+//! are those of whole requests is told by adding up, without a division. Each module of the folder `second` says in its first line what it holds.
 //!
 //!     rustc --edition 2021 -O docs/src/second.rs -o second
 //!     ./second self               checks it against the bench cards and the papers' tables, balancing digits, turns, rounds, the rules of
-//!                                 seasons and lengths, and that fetches recover
+//!                                 seasons and lengths, the meters against all short lists of calls, and that fetches recover
 //!     ./second printer FOLDER     writes inputs of the request printer, and what it must print for each
-//!     ./second cases PROGRAM      prints the calls that the program `conformance` or `conformance_codes` makes (its `stdin`)
+//!     ./second cases PROGRAM      prints the calls that the program makes, `conformance`, `conformance_codes` or `conformance_meters` (its `stdin`)
 //!     ./second expected PROGRAM   prints what they must give (its `stdout`)
 #[path = "second/days.rs"]
 mod days;
@@ -31,6 +32,8 @@ mod rows;
 mod round;
 #[path = "second/codes.rs"]
 mod codes;
+#[path = "second/meters.rs"]
+mod meters;
 #[path = "second/session.rs"]
 mod session;
 #[path = "second/printer.rs"]

@@ -2,12 +2,14 @@
 -- (`admitted-dates`, `admitted-lengths`): no message is empty, and none is longer than its symbols (`admitted-ends`). Rests on the bounds of each code.
 use mathlib.Core.Path.{_≡_}
 use mathlib.Core.Bool.{true, _&&_}
-use Prim.Native.Nat.{ℕ, _≤_, _<_}
+use Prim.Native.Nat.{ℕ, _-_, _*_, _^_, _≤_, _<_}
+use native.Mathlib.Nat.{mul-le-mul, one-le-pow}
 use native.Mathlib.Omega.{arith}
 use borrow.Author.Tests.{eqb-false, not-false}
 use Rattle.lists.proofs.Both.{both-true}
 use Rattle.refusal.proofs.Accepted.{accepted-none}
-use Rattle.parameters.specs.Bounds.{shortFits}
+use Rattle.parameters.specs.Bounds.{shortFits, blocks}
+use Rattle.parameters.specs.Measures.{shortSizes, turnSizes, evenSizes, roundSizes}
 use Rattle.parameters.proofs.Bounds.{short-bounds, even-bounds, round-bounds}
 use Rattle.lengths.specs.Lengths.{lengthOf}
 use Rattle.lengths.proofs.Fits.{length-within}
@@ -65,6 +67,24 @@ admitted-numbers c a =
 pub admitted-small : (c : Catalogue) → Admitted c → Small (c .servers) (sizesOf c)
 unfolding sizesOf
 admitted-small c a = fits-small (c .code) (c .servers) (c .messages) (c .symbol) (admitted-fits c a)
+
+-- a query has at least one byte
+some-query : (code : Code) (N K S : ℕ) → Numbers N K S → 0 < sizesBy code N K S .query
+unfolding shortSizes turnSizes evenSizes roundSizes
+some-query Short N K S n = omega (arith, n .messages-low)
+some-query Even N K S n =
+    let some : 1 * 1 ≤ K * N ^ (K - 1) = mul-le-mul (let h : 1 ≤ K = omega (arith, n .messages-low) in h)
+    (one-le-pow (K - 1) N (let h : 1 ≤ N = omega (arith, n .servers-low) in h)) in
+    omega arith
+some-query Turn N K S n = omega (arith, n .messages-low)
+some-query Round N K S n =
+    let some : 1 * 1 ≤ blocks N K * K = mul-le-mul (one-le-pow (K - 1) N (let h : 1 ≤ N = omega (arith, n .servers-low) in h))
+    (let h : 1 ≤ K = omega (arith, n .messages-low) in h) in
+    omega arith
+
+pub admitted-query : (c : Catalogue) → Admitted c → 0 < sizesOf c .query
+unfolding sizesOf
+admitted-query c a = some-query (c .code) (c .servers) (c .messages) (c .symbol) (admitted-numbers c a)
 
 -- a message has at least one byte, and no more than its symbols
 pub admitted-ends : (c : Catalogue) → Admitted c → (k : ℕ) → k < c .messages

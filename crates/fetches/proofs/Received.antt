@@ -17,7 +17,9 @@ use Rattle.scheme.specs.Laws.{Laws}
 use Rattle.catalogue.specs.declared.Catalogue.{Catalogue}
 use Rattle.catalogue.specs.Catalogue.{Admitted}
 use Rattle.session.specs.declared.Session.{Session}
+use Rattle.session_parts.specs.declared.Meters.{Meters}
 use Rattle.session_parts.specs.Marks.{noMarks}
+use Rattle.session_parts.specs.Meters.{noMeters}
 use Rattle.session.specs.Calls.{slotsOf, issue, takeVerdict}
 use Rattle.session.proofs.ByteBound.{bound-done}
 use Rattle.session.proofs.Take.{take-passed, take-by}
@@ -25,7 +27,8 @@ use Rattle.fetches.specs.Fetches.{Call, issuing, taking, recovering, Mad
 use Rattle.fetches.specs.Past.{Past, nothing, pastBy, since}
 use Rattle.fetches.specs.Claim.{Promises}
 use Rattle.fetches.specs.Received.{receivedBy, received, bytesOf, Bounded}
-use Rattle.fetches.proofs.Steps.{sessionOf, stateOf, Kept, kept-query, fits-slot, next}
+use Rattle.fetches.proofs.Kept.{sessionOf, stateOf, Kept}
+use Rattle.fetches.proofs.Steps.{kept-query, fits-slot, next}
 use Rattle.fetches.proofs.Theorem.{kept-first, begun}
 
 -- how many of the servers below n were taken
@@ -71,12 +74,13 @@ module _ (schemeOf : Catalogue → Scheme) (c : Catalogue) (admitted : Admitted 
 
   module _ (wanted : ℕ) (inside : wanted < c .messages) (key : List ℕ) (valid : Valid (schemeOf c) key) where
     -- a call that takes a server's answer, no longer than a slot, takes one server more
-    module _ (room : ℕ) (past : Past) (issued marks : List Bool) (answers : List ℕ) (k : Kept schemeOf c room past issued marks answers) where
+    module _ (room : ℕ) (past : Past) (issued marks : List Bool) (meters : Meters) (answers : List ℕ)
+        (k : Kept schemeOf c wanted key room past issued marks meters answers) where
       abbrev s : Session
-      s = sessionOf c wanted key issued marks
+      s = sessionOf c wanted key issued marks meters
 
       abbrev made : Call → Made
-      made call = make schemeOf (stateOf c wanted key issued marks answers) call
+      made call = make schemeOf (stateOf c wanted key issued marks meters answers) call
 
       abbrev Grows : Call → Type 0
       Grows call =
@@ -97,19 +101,20 @@ module _ (schemeOf : Catalogue → Scheme) (c : Catalogue) (admitted : Admitted 
           go Accepted e =
               let t = take-passed schemeOf s server (length answer) (length answers) (sym e) in
               let sized : length answer ≡ schemeOf c .answerLength (schemeOf c .query wanted server key)
-              = t .sized ∙ ap (schemeOf c .answerLength) (kept-query schemeOf c admitted laws wanted inside key valid issued marks server) in
+              = t .sized ∙ ap (schemeOf c .answerLength) (kept-query schemeOf c admitted laws wanted inside key valid issued marks meters server) in
               let fits = fits-slot schemeOf c admitted laws wanted inside key valid server (t .below) in
-              let count = taken-more (c .servers) server (past .taken) (t .below) (sym (k .agree server (t .below)) ∙ t .not-taken) in
+              let count = taken-more (c .servers) server (past .taken) (t .below) (sym (k .agree server) ∙ t .not-taken) in
               rw (take-by schemeOf s server answer answers Accepted e, count, suc-mul) (omega arith)
           go (Refused refusal) e = rw (take-by schemeOf s server answer answers (Refused refusal) e) (omega arith)
 
-    receives : (calls : List Call) (room : ℕ) (past : Past) (issued marks : List Bool) (answers : List ℕ) → Kept schemeOf c room past issued marks answers
-        → received (run schemeOf (stateOf c wanted key issued marks answers) calls) + taken (c .servers) (past .taken) * slot ≤ slotsOf schemeOf c
-    receives [] room past issued marks answers k = omega (arith, mul-le-mul-right slot (taken-most (c .servers) (past .taken)))
-    receives (call ∷ calls) room past issued marks answers k =
-        let x = next schemeOf c admitted laws wanted inside key valid room past issued marks answers k call in
-        let rest = receives calls room _ (x .issued) (x .taken) (x .answers) (x .kept) in
-        let more = grows room past issued marks answers k call in
+    receives : (calls : List Call) (room : ℕ) (past : Past) (issued marks : List Bool) (meters : Meters) (answers : List ℕ)
+        → Kept schemeOf c wanted key room past issued marks meters answers
+        → received (run schemeOf (stateOf c wanted key issued marks meters answers) calls) + taken (c .servers) (past .taken) * slot ≤ slotsOf schemeOf c
+    receives [] room past issued marks meters answers k = omega (arith, mul-le-mul-right slot (taken-most (c .servers) (past .taken)))
+    receives (call ∷ calls) room past issued marks meters answers k =
+        let x = next schemeOf c admitted laws wanted inside key valid room past issued marks meters answers k call in
+        let rest = receives calls room _ (x .issued) (x .taken) (x .meters) (x .answers) (x .kept) in
+        let more = grows room past issued marks meters answers k call in
         rw (x .is) (omega arith)
 
   -- the honest answers, of the servers from `from` on
@@ -131,8 +136,8 @@ module _ (schemeOf : Catalogue → Scheme) (c : Catalogue) (admitted : Admitted 
   bounded = record {
     given = bound-done schemeOf c Accepted (sym admitted) refl;
     taken = λ f inside valid.
-        let most = receives (f .wanted) inside (f .key) valid (f .calls) (length (f .answers)) nothing noMarks noMarks (f .answers)
-        (kept-first schemeOf c (f .answers)) in
+        let most = receives (f .wanted) inside (f .key) valid (f .calls) (length (f .answers)) nothing noMarks noMarks noMeters (f .answers)
+        (kept-first schemeOf c (f .wanted) (f .key) (f .answers)) in
         rw (begun schemeOf c admitted laws (f .wanted) inside (f .key) valid) (omega arith);
     honest = λ store long wanted inside key valid. honest-fit store long wanted inside key valid (c .servers) 0 (zero-add (c .servers));
   }

@@ -22,6 +22,7 @@ use Rattle.catalogue.specs.declared.Catalogue.{Catalogue}
 use Rattle.catalogue.specs.Catalogue.{Admitted}
 use Rattle.codes.specs.Messages.{messageLength, messageIn}
 use Rattle.session.specs.declared.Session.{Session}
+use Rattle.session_parts.specs.declared.Meters.{Meters}
 use Rattle.session_parts.specs.Marks.{marked, allTaken}
 use Rattle.session.specs.Calls.{slotsOf, recoveredMessage, recoverVerdict, recover}
 use Rattle.session.proofs.Begin.{key-kept}
@@ -30,7 +31,8 @@ use Rattle.fetches.specs.Fetches.{Call, issuing, taking, recovering, mak
 use Rattle.fetches.specs.Past.{Past, Throughout, end, step}
 use Rattle.fetches.specs.Right.{AllTaken, RecoverSays, RecoverVerdict, HonestTake, MessageLeft}
 use Rattle.fetches.proofs.Throughout.{now-holds, then-holds, from-state}
-use Rattle.fetches.proofs.Steps.{sessionOf, stateOf, Kept, Held, sound, next}
+use Rattle.fetches.proofs.Kept.{sessionOf, stateOf, Kept, Held}
+use Rattle.fetches.proofs.Steps.{sound, next}
 
 -- the message of a recover is known by the call
 same-message : {a b : List ℕ} → recovering a ≡ recovering b → a ≡ b
@@ -38,9 +40,10 @@ same-message {a} {b} e = cc
 
 module _ (schemeOf : Catalogue → Scheme) (c : Catalogue) (admitted : Admitted c) (laws : Laws (c .servers) (c .messages) (schemeOf c))
     (wanted : ℕ) (inside : wanted < c .messages) (key : List ℕ) (valid : Valid (schemeOf c) key) where
-  module _ (room : ℕ) (past : Past) (issued taken : List Bool) (answers : List ℕ) (k : Kept schemeOf c room past issued taken answers) (message : List ℕ) where
+  module _ (room : ℕ) (past : Past) (issued taken : List Bool) (meters : Meters) (answers : List ℕ)
+      (k : Kept schemeOf c wanted key room past issued taken meters answers) (message : List ℕ) where
     abbrev s : Session
-    s = sessionOf c wanted key issued taken
+    s = sessionOf c wanted key issued taken meters
 
     abbrev verdict : Verdict
     verdict = recoverVerdict schemeOf s (length answers) (length message)
@@ -49,7 +52,7 @@ module _ (schemeOf : Catalogue → Scheme) (c : Catalogue) (admitted : Admitted 
         ≡ refuseIf (ltb room (slotsOf schemeOf c)) 9
         (refuseIf (ltb (length message) (messageLength schemeOf c wanted)) 9 (refuseIf (not (allTaken (c .servers) taken)) 12 Accepted))
     verdict-left = rw (← k .room-kept)
-        (recover-verdict schemeOf s (sound schemeOf c admitted laws wanted inside key valid issued taken (k .marks))
+        (recover-verdict schemeOf s (sound schemeOf c admitted laws wanted inside key valid room past issued taken meters answers k)
         (length answers) (length message))
 
     -- all are taken, by the calls and so by the marks
@@ -60,14 +63,14 @@ module _ (schemeOf : Catalogue → Scheme) (c : Catalogue) (admitted : Admitted 
         verdict-left
         ∙ rw (
           le-ltb room (slotsOf schemeOf c) (k .roomy 0 (all 0 (laws .servers-some))),
-          every-true (c .servers) (marked taken) (λ i h. k .agree i h ∙ all i h),
+          every-true (c .servers) (marked taken) (λ i h. k .agree i ∙ all i h),
         )
 
     missing-verdict : (server : ℕ) → server < c .servers → stands server (past .taken) ≡ false
         → verdict
         ≡ refuseIf (ltb room (slotsOf schemeOf c)) 9 (refuseIf (ltb (length message) (messageLength schemeOf c wanted)) 9 (refused 12))
     unfolding allTaken
-    missing-verdict server h lacks = verdict-left ∙ rw (every-false (c .servers) (marked taken) server h (k .agree server h ∙ lacks))
+    missing-verdict server h lacks = verdict-left ∙ rw (every-false (c .servers) (marked taken) server h (k .agree server ∙ lacks))
 
     pub recover-right : RecoverSays schemeOf c wanted room past message (recover schemeOf s answers message .handed .verdict)
     recover-right = record {
@@ -97,39 +100,43 @@ module _ (schemeOf : Catalogue → Scheme) (c : Catalogue) (admitted : Admitted 
           rw (recover-by schemeOf s answers message Accepted (sym e), gives)
 
   -- over the calls of a fetch
-  says : (room : ℕ) (past : Past) (issued taken : List Bool) (answers : List ℕ) → Kept schemeOf c room past issued taken answers → (call : Call)
-      → RecoverVerdict schemeOf c wanted room past (make schemeOf (stateOf c wanted key issued taken answers) call)
-  says room past issued taken answers k (issuing server day query answerDay answer) message e =
+  says : (room : ℕ) (past : Past) (issued taken : List Bool) (meters : Meters) (answers : List ℕ)
+      → Kept schemeOf c wanted key room past issued taken meters answers → (call : Call)
+      → RecoverVerdict schemeOf c wanted room past (make schemeOf (stateOf c wanted key issued taken meters answers) call)
+  says room past issued taken meters answers k (issuing server day query answerDay answer) message e =
       absurd (let z : _≡_ {A = ℕ} 0 1 = cc in let w : ⊥ = omega arith in w)
-  says room past issued taken answers k (taking server answer) message e = absurd (let z : _≡_ {A = ℕ} 0 1 = cc in let w : ⊥ = omega arith in w)
-  says room past issued taken answers k (recovering own) message e = rw (← same-message e) (recover-right room past issued taken answers k own)
+  says room past issued taken meters answers k (taking server answer) message e = absurd (let z : _≡_ {A = ℕ} 0 1 = cc in let w : ⊥ = omega arith in w)
+  says room past issued taken meters answers k (recovering own) message e = rw (← same-message e) (recover-right room past issued taken meters answers k own)
 
-  pub verdicts : (calls : List Call) (room : ℕ) (past : Past) (issued taken : List Bool) (answers : List ℕ) → Kept schemeOf c room past issued taken answers
-      → Throughout (RecoverVerdict schemeOf c wanted room) past (run schemeOf (stateOf c wanted key issued taken answers) calls)
-  verdicts [] room past issued taken answers k = end
-  verdicts (call ∷ calls) room past issued taken answers k =
-      let x = next schemeOf c admitted laws wanted inside key valid room past issued taken answers k call in
-      step (says room past issued taken answers k call)
-      (from-state schemeOf calls (x .is) (verdicts calls room _ (x .issued) (x .taken) (x .answers) (x .kept)))
+  pub verdicts : (calls : List Call) (room : ℕ) (past : Past) (issued taken : List Bool) (meters : Meters) (answers : List ℕ)
+      → Kept schemeOf c wanted key room past issued taken meters answers
+      → Throughout (RecoverVerdict schemeOf c wanted room) past (run schemeOf (stateOf c wanted key issued taken meters answers) calls)
+  verdicts [] room past issued taken meters answers k = end
+  verdicts (call ∷ calls) room past issued taken meters answers k =
+      let x = next schemeOf c admitted laws wanted inside key valid room past issued taken meters answers k call in
+      step (says room past issued taken meters answers k call)
+      (from-state schemeOf calls (x .is) (verdicts calls room _ (x .issued) (x .taken) (x .meters) (x .answers) (x .kept)))
 
   module _ (store : List ℕ) (bytes : Below 256 store) where
-    leaves : (room : ℕ) (past : Past) (issued taken : List Bool) (answers : List ℕ) → Kept schemeOf c room past issued taken answers
+    leaves : (room : ℕ) (past : Past) (issued taken : List Bool) (meters : Meters) (answers : List ℕ)
+        → Kept schemeOf c wanted key room past issued taken meters answers
         → Held schemeOf c store wanted key past answers → (call : Call)
-        → MessageLeft schemeOf c store wanted past (make schemeOf (stateOf c wanted key issued taken answers) call)
-    leaves room past issued taken answers k held (issuing server day query answerDay answer) message e =
+        → MessageLeft schemeOf c store wanted past (make schemeOf (stateOf c wanted key issued taken meters answers) call)
+    leaves room past issued taken meters answers k held (issuing server day query answerDay answer) message e =
         absurd (let z : _≡_ {A = ℕ} 0 1 = cc in let w : ⊥ = omega arith in w)
-    leaves room past issued taken answers k held (taking server answer) message e = absurd (let z : _≡_ {A = ℕ} 0 1 = cc in let w : ⊥ = omega arith in w)
-    leaves room past issued taken answers k held (recovering own) message e =
-        rw (← same-message e) (λ all fits. recover-message room past issued taken answers k own store bytes held all fits)
+    leaves room past issued taken meters answers k held (taking server answer) message e = absurd (let z : _≡_ {A = ℕ} 0 1 = cc in let w : ⊥ = omega arith in w)
+    leaves room past issued taken meters answers k held (recovering own) message e =
+        rw (← same-message e) (λ all fits. recover-message room past issued taken meters answers k own store bytes held all fits)
 
-    pub messages : (calls : List Call) (room : ℕ) (past : Past) (issued taken : List Bool) (answers : List ℕ) → Kept schemeOf c room past issued taken answers
+    pub messages : (calls : List Call) (room : ℕ) (past : Past) (issued taken : List Bool) (meters : Meters) (answers : List ℕ)
+        → Kept schemeOf c wanted key room past issued taken meters answers
         → Held schemeOf c store wanted key past answers
-        → Throughout (HonestTake schemeOf c store wanted key) past (run schemeOf (stateOf c wanted key issued taken answers) calls)
-        → Throughout (MessageLeft schemeOf c store wanted) past (run schemeOf (stateOf c wanted key issued taken answers) calls)
-    messages [] room past issued taken answers k held honest = end
-    messages (call ∷ calls) room past issued taken answers k held honest =
-        let x = next schemeOf c admitted laws wanted inside key valid room past issued taken answers k call in
-        step (leaves room past issued taken answers k held call)
+        → Throughout (HonestTake schemeOf c store wanted key) past (run schemeOf (stateOf c wanted key issued taken meters answers) calls)
+        → Throughout (MessageLeft schemeOf c store wanted) past (run schemeOf (stateOf c wanted key issued taken meters answers) calls)
+    messages [] room past issued taken meters answers k held honest = end
+    messages (call ∷ calls) room past issued taken meters answers k held honest =
+        let x = next schemeOf c admitted laws wanted inside key valid room past issued taken meters answers k call in
+        step (leaves room past issued taken meters answers k held call)
         (from-state schemeOf calls (x .is)
-        (messages calls room _ (x .issued) (x .taken) (x .answers) (x .kept) (x .held store held (now-holds honest))
+        (messages calls room _ (x .issued) (x .taken) (x .meters) (x .answers) (x .kept) (x .held store held (now-holds honest))
         (from-state schemeOf calls (sym (x .is)) (then-holds honest))))

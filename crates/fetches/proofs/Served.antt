@@ -27,7 +27,8 @@ use Rattle.fetches.specs.Fetches.{Call, issuing, taking, recovering, his
 use Rattle.fetches.specs.Shown.{Shown, asked, issues, asking, shownTo}
 use Rattle.fetches.specs.Claim.{Promises}
 use Rattle.fetches.specs.Plain.{queryTo, answerOf, plainFetch, PlainFetches}
-use Rattle.fetches.proofs.View.{seen, seenOf}
+use Rattle.session_parts.specs.Meters.{mostBytes}
+use Rattle.fetches.proofs.View.{verdictOn, sentAfter, seen, seenOf}
 use Rattle.fetches.proofs.Theorem.{fetch-shown}
 use Rattle.fetches.proofs.Plain.{plain-ends}
 
@@ -45,31 +46,37 @@ module _ (schemeOf : Catalogue → Scheme) (c : Catalogue) (store : List ℕ) (n
   issuesFrom from count = map (λ (server : ℕ). issuing server (day server) query (answerDay server) answer) (range from count) ++ rest
 
   abbrev shownOnce : ℕ → Shown
-  shownOnce server = seen schemeOf c store n asked-for (day server) (length query) (answerDay server) (length answer)
+  shownOnce server = seen schemeOf c store n asked-for 0 (day server) (length query) (answerDay server) (length answer)
 
-  seen-none : (count from : ℕ) → n < from
-      → seenOf schemeOf c store n asked-for (issues (issuesFrom from count)) ≡ []
+  -- the bytes issued to it after that
+  abbrev afterOnce : ℕ → ℕ
+  afterOnce server =
+      sentAfter (schemeOf c .sizes .query) 0 (verdictOn c (schemeOf c .sizes .query) 0 (day server) (length query))
+
+  seen-none : (before count from : ℕ) → n < from
+      → seenOf schemeOf c store n asked-for before (issues (issuesFrom from count)) ≡ []
   unfolding range
-  seen-none zero from h = rw none
-  seen-none (suc count) from h = rw (ne-eqb from n (λ q. omega arith)) (seen-none count (suc from) (omega arith))
+  seen-none before zero from h = rw none
+  seen-none before (suc count) from h = rw (ne-eqb from n (λ q. omega arith)) (seen-none before count (suc from) (omega arith))
 
   pub seen-once : (count from : ℕ) → from ≤ n → n < from + count
-      → seenOf schemeOf c store n asked-for (issues (issuesFrom from count)) ≡ shownOnce n ∷ []
+      → seenOf schemeOf c store n asked-for 0 (issues (issuesFrom from count)) ≡ shownOnce n ∷ []
   unfolding range
   seen-once zero from l u = absurd (let w : ⊥ = omega arith in w)
   seen-once (suc count) from l u = go (seen-once count (suc from)) (eqb from n) refl
     where
-      go : (suc from ≤ n → n < suc from + count → seenOf schemeOf c store n asked-for (issues (issuesFrom (suc from) count)) ≡ shownOnce n ∷ [])
+      go : (suc from ≤ n → n < suc from + count → seenOf schemeOf c store n asked-for 0 (issues (issuesFrom (suc from) count)) ≡ shownOnce n ∷ [])
           → (t : Bool) → eqb from n ≡ t
-          → cond t (shownOnce from ∷ []) [] ++ seenOf schemeOf c store n asked-for (issues (issuesFrom (suc from) count)) ≡ shownOnce n ∷ []
+          → cond t (shownOnce from ∷ []) [] ++ seenOf schemeOf c store n asked-for (cond t (afterOnce from) 0) (issues (issuesFrom (suc from) count))
+          ≡ shownOnce n ∷ []
       go later true q =
           let e : from ≡ n = eqb-true from n q in
-          rw (seen-none count (suc from) (omega arith)) (ap (λ (server : ℕ). shownOnce server ∷ []) e)
+          rw (seen-none (afterOnce from) count (suc from) (omega arith)) (ap (λ (server : ℕ). shownOnce server ∷ []) e)
       go later false q = let ne : (from ≡ n → ⊥) = eqb-false from n q in later (omega (arith, ne)) (omega (arith, ne))
 
 module _ (schemeOf : Catalogue → Scheme) (c : Catalogue) (admitted : Admitted c) (laws : Laws (c .servers) (c .messages) (schemeOf c))
     (store : List ℕ) (long : length store ≡ schemeOf c .sizes .store) (wanted : ℕ) (inside : wanted < c .messages)
-    (key : List ℕ) (valid : Valid (schemeOf c) key) (n : ℕ) (below : n < c .servers) where
+    (key : List ℕ) (valid : Valid (schemeOf c) key) (n : ℕ) (below : n < c .servers) (small : schemeOf c .sizes .query ≤ mostBytes) where
   abbrev query : List ℕ
   query = queryTo schemeOf c store wanted key n
 
@@ -108,11 +115,12 @@ module _ (schemeOf : Catalogue → Scheme) (c : Catalogue) (admitted : Admitted 
       (no-issues (answerOf schemeOf c store wanted key) message (c .servers) 0) (c .servers) 0 (omega arith) (omega (arith, zero-add (c .servers)))
       ∙ ap (λ (s : Shown). s ∷ []) once
     where
-      once : seen schemeOf c store n query (day n) (length queryBuffer) (answerDay n) (length answerBuffer) ≡ asked query (Value (length answer)) answer
+      once : seen schemeOf c store n query 0 (day n) (length queryBuffer) (answerDay n) (length answerBuffer) ≡ asked query (Value (length answer)) answer
       once =
           rw (
             issued-in,
             le-ltb (length queryBuffer) (schemeOf c .sizes .query) query-fits,
+            le-ltb mostBytes (0 + schemeOf c .sizes .query) (let w : 0 + schemeOf c .sizes .query ≤ mostBytes = omega (arith, small) in w),
             take-all (schemeOf c .sizes .query) query (omega (arith, laws .query-length wanted n key inside below valid)),
           )
           (honest (answerDay n) answered-in (replicate (length answerBuffer) 0) (omega (arith, length-replicate {A = ℕ} (length answerBuffer) 0)))
@@ -120,6 +128,10 @@ module _ (schemeOf : Catalogue → Scheme) (c : Catalogue) (admitted : Admitted 
 -- no message is longer than its symbols
 abbrev pub EndsWithin : (Catalogue → Scheme) → Type 0
 EndsWithin schemeOf = (c : Catalogue) → Admitted c → (k : ℕ) → k < c .messages → messageLength schemeOf c k ≤ schemeOf c .sizes .message
+
+-- every meter can say the bytes of a query
+abbrev pub QueriesFit : (Catalogue → Scheme) → Type 0
+QueriesFit schemeOf = (c : Catalogue) → Admitted c → schemeOf c .sizes .query ≤ mostBytes
 
 -- a message of the store has all its bytes, and as many of them are left as its length says
 whole-message : (servers messages : ℕ) (scheme : Scheme) → Laws servers messages scheme → (store : List ℕ) → length store ≡ scheme .sizes .store
@@ -130,17 +142,17 @@ whole-message servers messages scheme laws store long wanted inside size fits =
     (omega (arith, slot-end wanted messages (scheme .sizes .message) inside, laws .store-whole)) in
     length-take-le size (messageOf scheme store wanted) (omega (arith, whole))
 
-pub plain-fetch : (schemeOf : Catalogue → Scheme) → Promises schemeOf → EndsWithin schemeOf → PlainFetches schemeOf
-plain-fetch schemeOf promises ends c admitted store bytes long wanted inside key valid day answerDay in-season answers query answer message
+pub plain-fetch : (schemeOf : Catalogue → Scheme) → Promises schemeOf → EndsWithin schemeOf → QueriesFit schemeOf → PlainFetches schemeOf
+plain-fetch schemeOf promises ends small c admitted store bytes long wanted inside key valid day answerDay in-season answers query answer message
     slots-fit query-fits answer-fits message-fits =
     record {
       whole =
           whole-message (c .servers) (c .messages) (schemeOf c) (promises c admitted) store long wanted inside (messageLength schemeOf c wanted)
           (ends c admitted wanted inside);
       served = λ n below.
-          served schemeOf c admitted (promises c admitted) store long wanted inside key valid n below day answerDay
+          served schemeOf c admitted (promises c admitted) store long wanted inside key valid n below (small c admitted) day answerDay
           (in-season n below .0) (in-season n below .1) answers query answer message query-fits answer-fits;
       ends =
           plain-ends schemeOf c admitted (promises c admitted) wanted inside key valid store bytes long message message-fits answers slots-fit
-          day answerDay in-season query answer query-fits;
+          day answerDay in-season (small c admitted) query answer query-fits;
     }

@@ -1,9 +1,9 @@
--- One call of a fetch (`next`): catalogue, wanted message and key of its session stay, its marks agree with the calls made (`Kept`), and the slots of
--- honest takes hold the honest answers (`Held`). It rests on what session and marks say of issue, take and recover.
+-- One call of a fetch (`next`): catalogue, wanted message and key of its session stay, its marks and meters agree with the calls made (`Kept`), and the
+-- slots of honest takes hold the honest answers (`Held`). It rests on what session and marks say of issue, take and recover.
 use mathlib.Core.Path.{_≡_, refl, sym, ap, _∙_}
 use mathlib.Core.Bool.{Bool, true, false, _||_}
 use mathlib.Core.List.{List, _∷_}
-use Prim.Native.Nat.{ℕ, _*_, _≤_, _<_}
+use Prim.Native.Nat.{ℕ, _+_, _*_, _≤_, _<_}
 use native.Mathlib.Omega.{arith}
 use borrow.Author.Tests.{eqb-true, eqb-false}
 use lib.Dec.{eqb}
@@ -18,76 +18,48 @@ use Rattle.calendar.specs.declared.Day.{Day}
 use Rattle.catalogue.specs.declared.Catalogue.{Catalogue}
 use Rattle.catalogue.specs.Catalogue.{Admitted}
 use Rattle.session.specs.declared.Session.{Session}
-use Rattle.session_parts.specs.Marks.{marked}
-use Rattle.session_parts.specs.Places.{paddedKey}
-use Rattle.session.specs.Calls.{queryOf, slotsOf, issueVerdict, takeVerdict}
-use Rattle.session_parts.proofs.Marks.{Marks, mark-set, mark-other, marks-issue, marks-take}
+use Rattle.session_parts.specs.declared.Meters.{Meters}
+use Rattle.session_parts.specs.Meters.{mostBytes, counted, countIssued, countTaken}
+use Rattle.session.specs.Calls.{queryOf, issueVerdict, takeVerdict}
+use Rattle.session_parts.proofs.Metering.{count-long, meters-good}
+use Rattle.session_checks.specs.Checks.{answerBytes, metersFit}
+use Rattle.session_parts.proofs.Marks.{marks-issue, marks-take}
 use Rattle.session.proofs.Sound.{Sound}
 use Rattle.session.proofs.Begin.{key-kept}
 use Rattle.session.proofs.Issue.{issue-passed, issue-by}
 use Rattle.session.proofs.Take.{Takes, take-passed, take-by}
 use Rattle.session.proofs.Recover.{recover-same}
 use Rattle.session.proofs.Slots.{take-length, take-reads, take-others}
-use Rattle.fetches.specs.Fetches.{Call, issuing, taking, recovering, State, make}
-use Rattle.fetches.specs.Past.{Past, since}
-use Rattle.fetches.specs.Right.{Honest, HonestTake}
-
--- a session of a fetch, and a state of one: only the marks and the answer buffer move
-abbrev pub sessionOf : Catalogue → ℕ → List ℕ → List Bool → List Bool → Session
-sessionOf c wanted key issued taken = record { catalogue = c; wanted = wanted; key = paddedKey key; issued = issued; taken = taken }
-
-abbrev pub stateOf : Catalogue → ℕ → List ℕ → List Bool → List Bool → List ℕ → State
-stateOf c wanted key issued taken answers = record { session = sessionOf c wanted key issued taken; answers = answers }
-
--- what holds between the calls of a fetch, after those that say `past`, where the answer buffer has `room` bytes
-pub record Kept (schemeOf : Catalogue → Scheme) (c : Catalogue) (room : ℕ) (past : Past) (issued taken : List Bool) (answers : List ℕ) : Type 0 where
-  pub marks : Marks (c .servers) issued taken
-  pub room-kept : length answers ≡ room
-  pub agree-issued : (i : ℕ) → i < c .servers → marked issued i ≡ stands i (past .issued)
-  pub agree : (i : ℕ) → i < c .servers → marked taken i ≡ stands i (past .taken)
-  pub roomy : (i : ℕ) → stands i (past .taken) ≡ true → slotsOf schemeOf c ≤ room
-
--- a mark set, and a server more in the list
-mark-agrees : (marks : List Bool) (servers : List ℕ) (count server : ℕ) → ((i : ℕ) → i < count → marked marks i ≡ stands i servers)
-    → server < length marks → (i : ℕ) → i < count → marked (set marks server true) i ≡ stands i (server ∷ servers)
-unfolding stands
-mark-agrees marks servers count server agree inside i h = go (eqb i server) refl
-  where
-    go : (b : Bool) → eqb i server ≡ b → marked (set marks server true) i ≡ (b || stands i servers)
-    go true e = rw (eqb-true i server e) (mark-set marks server inside)
-    go false e = mark-other marks server i (eqb-false i server e) ∙ agree i h
-
-module _ (schemeOf : Catalogue → Scheme) (c : Catalogue) (store : List ℕ) (wanted : ℕ) (key : List ℕ) where
-  -- slot i holds the honest answer
-  pub record HeldAt (answers : List ℕ) (i : ℕ) : Type 0 where
-    pub store-long : length store ≡ schemeOf c .sizes .store
-    pub holds : cut (i * schemeOf c .sizes .slot) (schemeOf c .answerLength (schemeOf c .query wanted i key)) answers
-        ≡ schemeOf c .answer store (schemeOf c .query wanted i key)
-
-  abbrev pub Held : Past → List ℕ → Type 0
-  Held past answers = (i : ℕ) → i < c .servers → stands i (past .taken) ≡ true → HeldAt answers i
-
--- the state after a call
-pub record Next (schemeOf : Catalogue → Scheme) (c : Catalogue) (wanted : ℕ) (key : List ℕ) (room : ℕ) (past : Past) (at : State) (call : Call) : Type 0 where
-  pub issued : List Bool
-  pub taken : List Bool
-  pub answers : List ℕ
-  pub is : make schemeOf at call .after ≡ stateOf c wanted key issued taken answers
-  pub kept : Kept schemeOf c room (since past (make schemeOf at call)) issued taken answers
-  pub held : (store : List ℕ) → Held schemeOf c store wanted key past (at .answers) → HonestTake schemeOf c store wanted key past (make schemeOf at call)
-      → Held schemeOf c store wanted key (since past (make schemeOf at call)) answers
+use Rattle.fetches.specs.Fetches.{Call, issuing, taking, recovering, State}
+use Rattle.fetches.specs.Past.{Past}
+use Rattle.fetches.specs.Right.{Honest}
+use Rattle.fetches.proofs.Agree.{mark-agrees, sent-agrees, still-fits, got-agrees, sent-good, got-good}
+use Rattle.fetches.proofs.Kept.{sessionOf, stateOf, Kept, HeldAt, Held, Next}
 
 module _ (schemeOf : Catalogue → Scheme) (c : Catalogue) (admitted : Admitted c) (laws : Laws (c .servers) (c .messages) (schemeOf c))
     (wanted : ℕ) (inside : wanted < c .messages) (key : List ℕ) (valid : Valid (schemeOf c) key) where
-  pub kept-query : (issued taken : List Bool) (server : ℕ) → queryOf schemeOf (sessionOf c wanted key issued taken) server ≡ schemeOf c .query wanted server key
-  kept-query issued taken server = ap (schemeOf c .query wanted server) (key-kept schemeOf c wanted key (valid .long))
+  pub kept-query : (issued taken : List Bool) (meters : Meters) (server : ℕ)
+      → queryOf schemeOf (sessionOf c wanted key issued taken meters) server ≡ schemeOf c .query wanted server key
+  kept-query issued taken meters server = ap (schemeOf c .query wanted server) (key-kept schemeOf c wanted key (valid .long))
 
-  pub sound : (issued taken : List Bool) → Marks (c .servers) issued taken → Sound schemeOf (sessionOf c wanted key issued taken)
-  sound issued taken m = record {
+  -- meters that agree with the calls made are good
+  pub kept-meters : (room : ℕ) (past : Past) (issued taken : List Bool) (meters : Meters) (answers : List ℕ)
+      → Kept schemeOf c wanted key room past issued taken meters answers → metersFit schemeOf c wanted key issued taken meters ≡ true
+  kept-meters room past issued taken meters answers k =
+      meters-good (schemeOf c .sizes .query) (answerBytes schemeOf c wanted key) issued taken meters
+      (λ place h. record {
+        sent = rw (k .agree-issued place, k .agree-sent place) (sent-good (schemeOf c .sizes .query) place (past .issued));
+        got = rw (k .agree place, k .agree-got place) (got-good (answerBytes schemeOf c wanted key place) (stands place (past .taken)));
+      })
+
+  pub sound : (room : ℕ) (past : Past) (issued taken : List Bool) (meters : Meters) (answers : List ℕ)
+      → Kept schemeOf c wanted key room past issued taken meters answers → Sound schemeOf (sessionOf c wanted key issued taken meters)
+  sound room past issued taken meters answers k = record {
     admitted = admitted;
     inside = inside;
     good = rw (key-kept schemeOf c wanted key (valid .long)) (valid .good);
-    marks = m .good;
+    marks = k .marks .good;
+    meters = rw (key-kept schemeOf c wanted key (valid .long)) (kept-meters room past issued taken meters answers k);
   }
 
   -- what is asked of a server, and the length of a slot
@@ -101,23 +73,36 @@ module _ (schemeOf : Catalogue → Scheme) (c : Catalogue) (admitted : Admitted 
   pub fits-slot : (i : ℕ) → i < c .servers → schemeOf c .answerLength (query i) ≤ slot
   fits-slot i h = laws .answer-fits i (query i) (laws .query-admitted wanted i key inside h valid)
 
-  module _ (room : ℕ) (past : Past) (issued taken : List Bool) (answers : List ℕ) (k : Kept schemeOf c room past issued taken answers) where
+  module _ (room : ℕ) (past : Past) (issued taken : List Bool) (meters : Meters) (answers : List ℕ)
+      (k : Kept schemeOf c wanted key room past issued taken meters answers) where
     abbrev s : Session
-    s = sessionOf c wanted key issued taken
+    s = sessionOf c wanted key issued taken meters
 
     abbrev at : State
-    at = stateOf c wanted key issued taken answers
+    at = stateOf c wanted key issued taken meters answers
+
+    -- the bytes of a query
+    abbrev size : ℕ
+    size = schemeOf c .sizes .query
 
     -- an issue that was not refused
-    pub issue-kept : (server : ℕ) → server < c .servers
-        → Kept schemeOf c room (record { issued = server ∷ past .issued; taken = past .taken }) (set issued server true) taken answers
-    issue-kept server below = record {
-      marks = marks-issue (c .servers) issued taken (k .marks) server below (laws .servers-fit);
-      room-kept = k .room-kept;
-      agree-issued = mark-agrees issued (past .issued) (c .servers) server (k .agree-issued) (omega (arith, k .marks .issued-long, laws .servers-fit));
-      agree = k .agree;
-      roomy = k .roomy;
-    }
+    pub issue-kept : (server : ℕ) → server < c .servers → counted (meters .sent) server + size ≤ mostBytes
+        → Kept schemeOf c wanted key room (record { issued = server ∷ past .issued; taken = past .taken }) (set issued server true) taken
+        (countIssued meters server size) answers
+    issue-kept server below counts =
+        let inside-sent : server < length (meters .sent) = omega (arith, k .sent-long, laws .servers-fit) in
+        record {
+          marks = marks-issue (c .servers) issued taken (k .marks) server below (laws .servers-fit);
+          sent-long = count-long (meters .sent) server size ∙ k .sent-long;
+          got-long = k .got-long;
+          room-kept = k .room-kept;
+          agree-issued = mark-agrees issued (past .issued) server (k .agree-issued) (omega (arith, k .marks .issued-long, laws .servers-fit));
+          agree = k .agree;
+          agree-sent = sent-agrees (meters .sent) (past .issued) size server (k .agree-sent) inside-sent;
+          agree-got = k .agree-got;
+          sent-fits = still-fits (meters .sent) size server (k .sent-fits) inside-sent counts;
+          roomy = k .roomy;
+        }
 
     next-issue : (server : ℕ) (day answerDay : Day) (buffer answer : List ℕ)
         → Next schemeOf c wanted key room past at (issuing server day buffer answerDay answer)
@@ -127,22 +112,25 @@ module _ (schemeOf : Catalogue → Scheme) (c : Catalogue) (admitted : Admitted 
             → Next schemeOf c wanted key room past at (issuing server day buffer answerDay answer)
         go Accepted e =
             let done = issue-by schemeOf s day server buffer Accepted e in
+            let i = issue-passed schemeOf s day server (length buffer) (sym e) in
             record {
               issued = set issued server true;
               taken = taken;
+              meters = countIssued meters server size;
               answers = answers;
               is = rw done;
-              kept = rw done (issue-kept server (issue-passed schemeOf s day server (length buffer) (sym e) .below));
+              kept = rw done (issue-kept server (i .below) (i .counts));
               held = rw done (λ store h honest. h);
             }
         go (Refused refusal) e =
             let done = issue-by schemeOf s day server buffer (Refused refusal) e in
-            record { issued = issued; taken = taken; answers = answers; is = rw done; kept = rw done k; held = rw done (λ store h honest. h) }
+            record { issued = issued; taken = taken; meters = meters; answers = answers; is = rw done; kept = rw done k; held = rw done (λ store h honest. h) }
 
     next-recover : (message : List ℕ) → Next schemeOf c wanted key room past at (recovering message)
     next-recover message = record {
       issued = issued;
       taken = taken;
+      meters = meters;
       answers = answers;
       is = rw (recover-same schemeOf s answers message);
       kept = k;
@@ -155,14 +143,29 @@ module _ (schemeOf : Catalogue → Scheme) (c : Catalogue) (admitted : Admitted 
       after = put (server * slot) answer answers
 
       fits : schemeOf c .answerLength (queryOf schemeOf s server) ≤ slot
-      fits = rw (kept-query issued taken server) (fits-slot server (t .below))
+      fits = rw (kept-query issued taken meters server) (fits-slot server (t .below))
 
-      pub take-kept : Kept schemeOf c room (record { issued = past .issued; taken = server ∷ past .taken }) issued (set taken server true) after
+      -- the bytes of the answer that is due
+      abbrev due : ℕ → ℕ
+      due i = schemeOf c .answerLength (query i)
+
+      sized : length answer ≡ due server
+      sized = t .sized ∙ ap (schemeOf c .answerLength) (kept-query issued taken meters server)
+
+      pub take-kept : Kept schemeOf c wanted key room (record { issued = past .issued; taken = server ∷ past .taken }) issued (set taken server true)
+          (countTaken meters server (length answer)) after
       take-kept = record {
+        sent-long = k .sent-long;
+        got-long = count-long (meters .got) server (length answer) ∙ k .got-long;
+        agree-sent = k .agree-sent;
+        agree-got = rw sized
+            (got-agrees (meters .got) (past .taken) due server (k .agree-got) (omega (arith, k .got-long, t .below, laws .servers-fit))
+            (sym (k .agree server) ∙ t .not-taken));
+        sent-fits = k .sent-fits;
         marks = marks-take (c .servers) issued taken (k .marks) server (t .below) (laws .servers-fit) (t .was-issued);
         room-kept = take-length schemeOf s server answer answers t fits ∙ k .room-kept;
         agree-issued = k .agree-issued;
-        agree = mark-agrees taken (past .taken) (c .servers) server (k .agree) (omega (arith, k .marks .taken-long, t .below, laws .servers-fit));
+        agree = mark-agrees taken (past .taken) server (k .agree) (omega (arith, k .marks .taken-long, t .below, laws .servers-fit));
         roomy = λ i h. let e = k .room-kept in omega (arith, t .roomy);
       }
 
@@ -173,7 +176,7 @@ module _ (schemeOf : Catalogue → Scheme) (c : Catalogue) (admitted : Admitted 
         where
           here : cut (server * slot) (schemeOf c .answerLength (query server)) after ≡ schemeOf c .answer store (query server)
           here =
-              ap (λ (q : List ℕ). cut (server * slot) (schemeOf c .answerLength q) after) (sym (kept-query issued taken server))
+              ap (λ (q : List ℕ). cut (server * slot) (schemeOf c .answerLength q) after) (sym (kept-query issued taken meters server))
               ∙ take-reads schemeOf s server answer answers t fits
               ∙ honest .as-coded
 
@@ -194,6 +197,7 @@ module _ (schemeOf : Catalogue → Scheme) (c : Catalogue) (admitted : Admitted 
             record {
               issued = issued;
               taken = set taken server true;
+              meters = countTaken meters server (length answer);
               answers = put (server * slot) answer answers;
               is = rw by;
               kept = rw by (take-kept server answer t);
@@ -201,7 +205,7 @@ module _ (schemeOf : Catalogue → Scheme) (c : Catalogue) (admitted : Admitted 
             }
         go (Refused refusal) e =
             let by = take-by schemeOf s server answer answers (Refused refusal) e in
-            record { issued = issued; taken = taken; answers = answers; is = rw by; kept = rw by k; held = rw by (λ store h honest. h) }
+            record { issued = issued; taken = taken; meters = meters; answers = answers; is = rw by; kept = rw by k; held = rw by (λ store h honest. h) }
 
     pub next : (call : Call) → Next schemeOf c wanted key room past at call
     next (issuing server day buffer answerDay answer) = next-issue server day answerDay buffer answer

@@ -1,12 +1,13 @@
 -- Demand 3, from what the codes promise (`demand3`): of two lists of fetches with exchanged keys that make the same issues to a server it is shown the
--- same, since it is asked the same queries; and each fetch is right. It rests on `view`, `all-told`, `verdicts`, `messages`.
-use mathlib.Core.Path.{_≡_, refl, sym}
+-- same, since it is asked the same queries, and its meters agree; and each fetch is right. It rests on `view`, `tallied`, `all-told`, `verdicts`, `messages`.
+use mathlib.Core.Path.{_≡_, refl, sym, ap, ap₂, _∙_}
 use mathlib.Core.Bool.{true}
 use mathlib.Core.List.{List, [], _∷_, map}
 use Prim.Native.Nat.{ℕ, _<_}
+use native.Mathlib.Nat.{add-zero}
 use native.Mathlib.Omega.{arith}
 use lib.Dec.{eqb}
-use lib.ListN.{length}
+use lib.ListN.{length, length-map}
 use Rattle.lists.specs.Below.{Below}
 use Rattle.lists.specs.Sums.{All, allNil, allCons}
 use Rattle.lists.specs.Distinct.{stands}
@@ -17,18 +18,24 @@ use Rattle.scheme.specs.Laws.{Laws}
 use Rattle.catalogue.specs.declared.Catalogue.{Catalogue}
 use Rattle.catalogue.specs.Catalogue.{Admitted}
 use Rattle.session_parts.specs.Marks.{noMarks}
+use Rattle.session_parts.specs.Meters.{noMeters}
 use Rattle.session.specs.Fields.{newSession}
 use Rattle.session.specs.Calls.{begin}
 use Rattle.session_parts.proofs.Marks.{none-marked, marks-none}
+use Rattle.session_parts.proofs.Metering.{none-long, none-counted}
 use Rattle.session.proofs.Begin.{begin-accepted, begin-by}
-use Rattle.fetches.specs.Fetches.{Fetch, history}
+use Rattle.fetches.specs.Fetches.{Fetch, start, ended, history}
 use Rattle.fetches.specs.Shown.{Issue, issues, issuesTo, shownTo, shown}
 use Rattle.fetches.specs.Past.{nothing}
+use Rattle.fetches.specs.Told.{bytesTo}
+use Rattle.fetches.specs.Metered.{metersAt, named, Alongside, no-pair, pair, Metered, MetersAgree}
 use Rattle.fetches.specs.Right.{FetchRight}
 use Rattle.fetches.specs.Claim.{KeyList, Exchange, Demand3, Promises}
-use Rattle.fetches.proofs.Steps.{Kept, Held}
+use Rattle.fetches.proofs.Kept.{Kept, Held}
 use Rattle.fetches.proofs.Told.{all-told}
 use Rattle.fetches.proofs.View.{seenOf, seen-named, view}
+use Rattle.fetches.proofs.Metered.{runs}
+use Rattle.fetches.proofs.Tallied.{none, metersBy, tallied}
 use Rattle.fetches.proofs.Recovery.{verdicts, messages}
 use Rattle.fetches.proofs.Throughout.{all-unchanged, all-answers-left}
 use Rattle.fetches.proofs.Exchange.{exchanges, first-key, other-keys, below-rest, exchanges-valid, exchanges-back}
@@ -38,13 +45,19 @@ none-taken : {A : Type 0} (i : ℕ) → stands i [] ≡ true → A
 unfolding stands
 none-taken i e = let z : _≡_ {A = ℕ} 0 1 = cc in absurd (let w : ⊥ = omega arith in w)
 
-pub kept-first : (schemeOf : Catalogue → Scheme) (c : Catalogue) (answers : List ℕ) → Kept schemeOf c (length answers) nothing noMarks noMarks answers
-unfolding stands
-kept-first schemeOf c answers = record {
+pub kept-first : (schemeOf : Catalogue → Scheme) (c : Catalogue) (wanted : ℕ) (key answers : List ℕ)
+    → Kept schemeOf c wanted key (length answers) nothing noMarks noMarks noMeters answers
+unfolding stands bytesTo
+kept-first schemeOf c wanted key answers = record {
   marks = marks-none (c .servers);
+  sent-long = none-long;
+  got-long = none-long;
   room-kept = refl;
-  agree-issued = λ i h. none-marked i;
-  agree = λ i h. none-marked i;
+  agree-issued = λ i. none-marked i;
+  agree = λ i. none-marked i;
+  agree-sent = λ i. none-counted i;
+  agree-got = λ i. none-counted i;
+  sent-fits = λ i. let w = none-counted i in omega (arith, w);
   roomy = λ i e. none-taken i e;
 }
 
@@ -61,26 +74,49 @@ module _ (schemeOf : Catalogue → Scheme) (c : Catalogue) (admitted : Admitted 
       (sym (begin-accepted schemeOf c wanted key (record { admitted = admitted; inside = inside; valid = valid })))
 
   pub fetch-shown : (store : List ℕ) (n : ℕ) → n < c .servers → (f : Fetch) → f .wanted < c .messages → Valid (schemeOf c) (f .key)
-      → shownTo schemeOf c store n (history schemeOf c f) ≡ seenOf schemeOf c store n (schemeOf c .query (f .wanted) n (f .key)) (issues (f .calls))
+      → shownTo schemeOf c store n (history schemeOf c f) ≡ seenOf schemeOf c store n (schemeOf c .query (f .wanted) n (f .key)) 0 (issues (f .calls))
+  unfolding bytesTo
   fetch-shown store n below f inside valid =
       rw (begun (f .wanted) inside (f .key) valid)
-      (view schemeOf c admitted laws (f .wanted) inside (f .key) valid store n below (f .calls) (length (f .answers)) nothing noMarks noMarks (f .answers)
-      (kept-first schemeOf c (f .answers)))
+      (view schemeOf c admitted laws (f .wanted) inside (f .key) valid store n below (f .calls) (length (f .answers)) nothing noMarks noMarks noMeters
+      (f .answers) (kept-first schemeOf c (f .wanted) (f .key) (f .answers)))
+
+  pub fetch-metered : (n : ℕ) (f : Fetch) → f .wanted < c .messages → Valid (schemeOf c) (f .key) → Metered schemeOf c f n
+  unfolding bytesTo stands
+  fetch-metered n f inside valid =
+      let r = runs schemeOf c admitted laws (f .wanted) inside (f .key) valid n (f .calls) (length (f .answers)) nothing noMarks noMarks noMeters (f .answers)
+      (kept-first schemeOf c (f .wanted) (f .key) (f .answers)) in
+      record {
+        sums = rw (begun (f .wanted) inside (f .key) valid)
+            (ap₂ (λ (a b : ℕ). record { sent = a; got = b }) (r .sums-sent ∙ add-zero _) (r .sums-got ∙ add-zero _));
+        sent-fits = rw (begun (f .wanted) inside (f .key) valid) (omega (arith, r .fits));
+      }
+
+  -- the meters of a server are a function of the bytes of its answer, and of the calls that name it
+  pub fetch-meters : (n : ℕ) → n < c .servers → (f : Fetch) → f .wanted < c .messages → Valid (schemeOf c) (f .key)
+      → metersAt n (ended schemeOf (start schemeOf c f) (f .calls))
+      ≡ metersBy schemeOf c (schemeOf c .answerLength (schemeOf c .query (f .wanted) n (f .key))) none (named n (length (f .answers)) (f .calls))
+  unfolding bytesTo stands
+  fetch-meters n below f inside valid =
+      rw (begun (f .wanted) inside (f .key) valid)
+      (tallied schemeOf c admitted laws (f .wanted) inside (f .key) valid n below (f .calls) (length (f .answers)) nothing noMarks noMarks noMeters
+      (f .answers) (kept-first schemeOf c (f .wanted) (f .key) (f .answers)))
 
   pub fetch-right : (store : List ℕ) → Below 256 store → (f : Fetch) → f .wanted < c .messages → Valid (schemeOf c) (f .key) → FetchRight schemeOf c store f
   fetch-right store bytes f inside valid = record {
     begun = rw (begun (f .wanted) inside (f .key) valid);
     refusals = all-unchanged schemeOf (f .calls) nothing _;
     told = rw (begun (f .wanted) inside (f .key) valid)
-        (all-told schemeOf c admitted laws (f .wanted) inside (f .key) valid (f .calls) (length (f .answers)) nothing noMarks noMarks (f .answers)
-        (kept-first schemeOf c (f .answers)));
+        (all-told schemeOf c admitted laws (f .wanted) inside (f .key) valid (f .calls) (length (f .answers)) nothing noMarks noMarks noMeters (f .answers)
+        (kept-first schemeOf c (f .wanted) (f .key) (f .answers)));
     answers-left = all-answers-left schemeOf c laws store (f .calls) nothing _;
+    metered = λ n. fetch-metered n f inside valid;
     verdicts = rw (begun (f .wanted) inside (f .key) valid)
-        (verdicts schemeOf c admitted laws (f .wanted) inside (f .key) valid (f .calls) (length (f .answers)) nothing noMarks noMarks (f .answers)
-        (kept-first schemeOf c (f .answers)));
+        (verdicts schemeOf c admitted laws (f .wanted) inside (f .key) valid (f .calls) (length (f .answers)) nothing noMarks noMarks noMeters (f .answers)
+        (kept-first schemeOf c (f .wanted) (f .key) (f .answers)));
     messages = rw (begun (f .wanted) inside (f .key) valid)
-        (messages schemeOf c admitted laws (f .wanted) inside (f .key) valid store bytes (f .calls) (length (f .answers)) nothing noMarks noMarks (f .answers)
-        (kept-first schemeOf c (f .answers)) (held-first schemeOf c store (f .wanted) (f .key) (f .answers)));
+        (messages schemeOf c admitted laws (f .wanted) inside (f .key) valid store bytes (f .calls) (length (f .answers)) nothing noMarks noMarks noMeters
+        (f .answers) (kept-first schemeOf c (f .wanted) (f .key) (f .answers)) (held-first schemeOf c store (f .wanted) (f .key) (f .answers)));
   }
 
   -- lists of fetches
@@ -118,11 +154,35 @@ module _ (schemeOf : Catalogue → Scheme) (c : Catalogue) (admitted : Admitted 
       let b = fetch-shown store n below g q vg in
       let x : g .key ≡ laws .exchange n (f .wanted) (g .wanted) (f .key) = cc in
       let y : keep (λ (i : Issue). eqb (i .server) n) (issues (f .calls)) ≡ keep (λ (i : Issue). eqb (i .server) n) (issues (g .calls)) = cc in
-      let s = seen-named schemeOf c store n (schemeOf c .query (f .wanted) n (f .key)) (issues (f .calls)) in
-      let t = seen-named schemeOf c store n (schemeOf c .query (g .wanted) n (g .key)) (issues (g .calls)) in
+      let s = seen-named schemeOf c store n (schemeOf c .query (f .wanted) n (f .key)) 0 (issues (f .calls)) in
+      let t = seen-named schemeOf c store n (schemeOf c .query (g .wanted) n (g .key)) 0 (issues (g .calls)) in
       let z = laws .exchange-shown n (f .wanted) (g .wanted) (f .key) below p q vf in
       let d : shownTo schemeOf c store n (history schemeOf c f) ≡ shownTo schemeOf c store n (history schemeOf c g) = cc in
       cc
+
+  all-metered : (n : ℕ) → n < c .servers → (fs gs : List Fetch) → Below (c .messages) (wantedOf fs) → Below (c .messages) (wantedOf gs)
+      → Keyed fs → Keyed gs → keysOf gs ≡ exchanges (laws .exchange n) (wantedOf fs) (wantedOf gs) (keysOf fs)
+      → length fs ≡ length gs → Alongside (MetersAgree schemeOf c n) fs gs
+  all-metered n below [] [] u v k l e same = no-pair
+  all-metered n below [] (g ∷ gs) u v k l e same = absurd (let w : ⊥ = omega arith in w)
+  all-metered n below (f ∷ fs) [] u v k l e same = absurd (let w : ⊥ = omega arith in w)
+  all-metered n below (f ∷ fs) (g ∷ gs) u v k l e same =
+      let p : f .wanted < c .messages = u 0 (omega arith) in
+      let q : g .wanted < c .messages = v 0 (omega arith) in
+      let vf = first-key (schemeOf c) (length (wantedOf fs)) (f .key) (keysOf fs) k in
+      let vg = first-key (schemeOf c) (length (wantedOf gs)) (g .key) (keysOf gs) l in
+      let a = fetch-meters n below f p vf in
+      let b = fetch-meters n below g q vg in
+      let x : g .key ≡ laws .exchange n (f .wanted) (g .wanted) (f .key) = cc in
+      let z = laws .exchange-shown n (f .wanted) (g .wanted) (f .key) below p q vf in
+      pair (λ y.
+      let y′ : named n (length (f .answers)) (f .calls) ≡ named n (length (g .answers)) (g .calls) = y in
+      let d : metersAt n (ended schemeOf (start schemeOf c f) (f .calls)) ≡ metersAt n (ended schemeOf (start schemeOf c g) (g .calls)) = cc in
+      d)
+      (all-metered n below fs gs
+      (below-rest (c .messages) (f .wanted) (wantedOf fs) u) (below-rest (c .messages) (g .wanted) (wantedOf gs) v)
+      (other-keys (schemeOf c) (length (wantedOf fs)) (f .key) (keysOf fs) k)
+      (other-keys (schemeOf c) (length (wantedOf gs)) (g .key) (keysOf gs) l) (cc) (omega arith))
 
   exchange : (n : ℕ) → n < c .servers → (ps qs : List ℕ) → length ps ≡ length qs → Below (c .messages) ps → Below (c .messages) qs
       → Exchange schemeOf c n ps qs
@@ -139,8 +199,11 @@ module _ (schemeOf : Catalogue → Scheme) (c : Catalogue) (admitted : Admitted 
         let k′ : Keyed fs = rw (wf, kf) k in
         let l′ : Keyed gs = rw (wg, kg) (exchanges-valid (c .servers) (c .messages) (schemeOf c) laws n below ps qs e u v keys k) in
         let x : keysOf gs ≡ exchanges (laws .exchange n) (wantedOf fs) (wantedOf gs) (keysOf fs) = rw (wf, wg, kf) kg in
+        let same : length fs ≡ length gs =
+        sym (length-map fs (λ (f : Fetch). f .wanted)) ∙ ap length wf ∙ e ∙ sym (ap length wg) ∙ length-map gs (λ (f : Fetch). f .wanted) in
         record {
           alike = all-alike store n below fs gs u′ v′ k′ l′ x;
+          metered = all-metered n below fs gs u′ v′ k′ l′ x same;
           first = all-right store bytes fs u′ k′;
           second = all-right store bytes gs v′ l′;
         };

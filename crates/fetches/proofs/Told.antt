@@ -1,6 +1,6 @@
--- Issue and take say what the calls made before them call for (`all-told`): a fetch's session stays sound, so only its marks are left to ask, and these
--- agree with the calls (`Kept`).
-use mathlib.Core.Path.{_≡_, refl, sym, _∙_}
+-- Issue and take say what the calls made before them call for (`all-told`): a fetch's session stays sound, so only its marks and meters are left to ask, and
+-- these agree with the calls (`Kept`).
+use mathlib.Core.Path.{_≡_, refl, sym, ap, _∙_}
 use mathlib.Core.Bool.{Bool, true, false, not}
 use mathlib.Core.List.{List, [], _∷_}
 use Prim.Native.Nat.{ℕ, _<_}
@@ -17,6 +17,7 @@ use Rattle.calendar.specs.declared.Day.{Day}
 use Rattle.catalogue.specs.declared.Catalogue.{Catalogue}
 use Rattle.catalogue.specs.Catalogue.{Admitted}
 use Rattle.session.specs.declared.Session.{Session}
+use Rattle.session_parts.specs.declared.Meters.{Meters}
 use Rattle.session_parts.specs.Marks.{marked}
 use Rattle.session.specs.Calls.{queryOf, slotsOf, takeVerdict}
 use Rattle.session.proofs.Issue.{issue-by, issue-goes, issue-sound}
@@ -24,9 +25,10 @@ use Rattle.session.proofs.Take.{take-goes, take-sound}
 use Rattle.session.proofs.Sound.{Sound}
 use Rattle.fetches.specs.Fetches.{Call, issuing, taking, recovering, Made, make, run}
 use Rattle.fetches.specs.Past.{Past, Throughout, end, step}
-use Rattle.fetches.specs.Told.{issueSays, takeSays, Told}
+use Rattle.fetches.specs.Told.{sentTo, issueSays, takeSays, Told}
 use Rattle.fetches.proofs.Throughout.{from-state}
-use Rattle.fetches.proofs.Steps.{sessionOf, stateOf, Kept, kept-query, sound, next}
+use Rattle.fetches.proofs.Kept.{sessionOf, stateOf, Kept}
+use Rattle.fetches.proofs.Steps.{kept-query, sound, next}
 
 -- a call is one of its kind
 module _ {A : Type 0} where
@@ -51,26 +53,29 @@ same-take {server} {other} {answer} {answer′} e = (cc, cc)
 
 module _ (schemeOf : Catalogue → Scheme) (c : Catalogue) (admitted : Admitted c) (laws : Laws (c .servers) (c .messages) (schemeOf c))
     (wanted : ℕ) (inside : wanted < c .messages) (key : List ℕ) (valid : Valid (schemeOf c) key) where
-  module _ (room : ℕ) (past : Past) (issued taken : List Bool) (answers : List ℕ) (k : Kept schemeOf c room past issued taken answers) where
+  module _ (room : ℕ) (past : Past) (issued taken : List Bool) (meters : Meters) (answers : List ℕ)
+      (k : Kept schemeOf c wanted key room past issued taken meters answers) where
     abbrev s : Session
-    s = sessionOf c wanted key issued taken
+    s = sessionOf c wanted key issued taken meters
 
     good : Sound schemeOf s
-    good = sound schemeOf c admitted laws wanted inside key valid issued taken (k .marks)
+    good = sound schemeOf c admitted laws wanted inside key valid room past issued taken meters answers k
 
     abbrev made : Call → Made
-    made call = make schemeOf (stateOf c wanted key issued taken answers) call
+    made call = make schemeOf (stateOf c wanted key issued taken meters answers) call
 
     issue-told : (server : ℕ) (day answerDay : Day) (query answer : List ℕ)
-        → made (issuing server day query answerDay answer) .verdict ≡ issueSays schemeOf c day server (length query)
-    issue-told server day answerDay query answer = issue-goes schemeOf s day server query .says ∙ issue-sound schemeOf s day server good (length query)
+        → made (issuing server day query answerDay answer) .verdict ≡ issueSays schemeOf c (sentTo schemeOf c past server) day server (length query)
+    issue-told server day answerDay query answer =
+        issue-goes schemeOf s day server query .says ∙ issue-sound schemeOf s day server good (length query)
+        ∙ ap (λ (before : ℕ). issueSays schemeOf c before day server (length query)) (k .agree-sent server)
 
     query-told : (server : ℕ) (day answerDay : Day) (query answer : List ℕ) → made (issuing server day query answerDay answer) .verdict ≡ Accepted
         → made (issuing server day query answerDay answer) .left ≡ put 0 (schemeOf c .query wanted server key) query
     query-told server day answerDay query answer e =
         rw (
           issue-by schemeOf s day server query Accepted (sym e ∙ issue-goes schemeOf s day server query .says),
-          kept-query schemeOf c admitted laws wanted inside key valid issued taken server,
+          kept-query schemeOf c admitted laws wanted inside key valid issued taken meters server,
         )
 
     take-told : (server size : ℕ) → takeVerdict schemeOf s server size (length answers) ≡ takeSays schemeOf c wanted key room past server size
@@ -88,12 +93,12 @@ module _ (schemeOf : Catalogue → Scheme) (c : Catalogue) (admitted : Admitted 
             rw (
               e,
               k .room-kept,
-              kept-query schemeOf c admitted laws wanted inside key valid issued taken server,
-              k .agree-issued server below,
-              k .agree server below,
+              kept-query schemeOf c admitted laws wanted inside key valid issued taken meters server,
+              k .agree-issued server,
+              k .agree server,
             )
 
-    told : (call : Call) → Told schemeOf c wanted key room past (made call)
+    pub told : (call : Call) → Told schemeOf c wanted key room past (make schemeOf (stateOf c wanted key issued taken meters answers) call)
     told (issuing server day query answerDay answer) = record {
       issues = λ other day′ answerDay′ query′ answer′ e.
           let same = same-issue e in rw (← same .0, ← same .1, ← same .2) (issue-told server day answerDay query answer);
@@ -114,10 +119,11 @@ module _ (schemeOf : Catalogue → Scheme) (c : Catalogue) (admitted : Admitted 
       takes = λ other answer e. recover-no-take e;
     }
 
-  pub all-told : (calls : List Call) (room : ℕ) (past : Past) (issued taken : List Bool) (answers : List ℕ) → Kept schemeOf c room past issued taken answers
-      → Throughout (Told schemeOf c wanted key room) past (run schemeOf (stateOf c wanted key issued taken answers) calls)
-  all-told [] room past issued taken answers k = end
-  all-told (call ∷ calls) room past issued taken answers k =
-      let x = next schemeOf c admitted laws wanted inside key valid room past issued taken answers k call in
-      step (told room past issued taken answers k call)
-      (from-state schemeOf calls (x .is) (all-told calls room _ (x .issued) (x .taken) (x .answers) (x .kept)))
+  pub all-told : (calls : List Call) (room : ℕ) (past : Past) (issued taken : List Bool) (meters : Meters) (answers : List ℕ)
+      → Kept schemeOf c wanted key room past issued taken meters answers
+      → Throughout (Told schemeOf c wanted key room) past (run schemeOf (stateOf c wanted key issued taken meters answers) calls)
+  all-told [] room past issued taken meters answers k = end
+  all-told (call ∷ calls) room past issued taken meters answers k =
+      let x = next schemeOf c admitted laws wanted inside key valid room past issued taken meters answers k call in
+      step (told room past issued taken meters answers k call)
+      (from-state schemeOf calls (x .is) (all-told calls room _ (x .issued) (x .taken) (x .meters) (x .answers) (x .kept)))

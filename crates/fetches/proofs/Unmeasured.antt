@@ -4,12 +4,11 @@ use mathlib.Core.Path.{_≡_, refl, sym, ap, ap₂, _∙_}
 use mathlib.Core.Bool.{cond}
 use mathlib.Core.List.{List, [], _∷_, _++_}
 use Prim.Native.Nat.{ℕ, _<_}
-use lib.Dec.{ltb, eqb}
+use lib.Dec.{eqb}
 use lib.ListN.{length, take, replicate}
 use Rattle.lists.specs.Sums.{All, allNil, allCons}
 use Rattle.refusal.specs.declared.Verdict.{Verdict}
 use Rattle.refusal.specs.declared.Verdict.the-variants.{Accepted, Refused}
-use Rattle.refusal.specs.Chain.{refuseIf, andThen}
 use Rattle.scheme.specs.Scheme.{Scheme, Valid}
 use Rattle.lengths.specs.declared.Lengths.{Lengths}
 use Rattle.calendar.specs.declared.Day.{Day}
@@ -22,7 +21,7 @@ use Rattle.fetches.specs.Fetches.{Fetch, history}
 use Rattle.fetches.specs.Shown.{Shown, Issue, issues, askedAnd, showing, shownTo, shown}
 use Rattle.fetches.specs.Claim.{Promises}
 use Rattle.fetches.specs.Unmeasured.{withLengths, Begins, LengthsHidden}
-use Rattle.fetches.proofs.View.{seen, seenOf}
+use Rattle.fetches.proofs.View.{verdictOn, sentAfter, seen, seenOf}
 use Rattle.fetches.proofs.Theorem.{fetch-shown}
 
 module _ (schemeOf : Catalogue → Scheme) where
@@ -58,27 +57,41 @@ module _ (schemeOf : Catalogue → Scheme) where
         ∙ answering-same answerDay (take (schemeOf c .sizes .query) query) buffer)
     showing-same query answerDay buffer (Refused refusal) = refl
 
-    seen-same : (query : List ℕ) (day : Day) (room : ℕ) (answerDay : Day) (answerRoom : ℕ)
-        → seen schemeOf d store n query day room answerDay answerRoom ≡ seen schemeOf c store n query day room answerDay answerRoom
+    -- the verdict on an issue
+    says-same : (before : ℕ) (day : Day) (room : ℕ)
+        → verdictOn d (schemeOf d .sizes .query) before day room ≡ verdictOn c (schemeOf c .sizes .query) before day room
     unfolding dayVerdict
-    seen-same query day room answerDay answerRoom =
-        ap (λ (scheme : Scheme). showing schemeOf d store n query answerDay (replicate answerRoom 0)
-        (andThen (dayVerdict c day) (refuseIf (ltb room (scheme .sizes .query)) 9 Accepted))) same
-        ∙ showing-same query answerDay (replicate answerRoom 0) (andThen (dayVerdict c day) (refuseIf (ltb room (schemeOf c .sizes .query)) 9 Accepted))
+    says-same before day room = ap (λ (scheme : Scheme). verdictOn c (scheme .sizes .query) before day room) same
 
-    all-seen-same : (query : List ℕ) (is : List Issue) → seenOf schemeOf d store n query is ≡ seenOf schemeOf c store n query is
-    all-seen-same query [] = refl
-    all-seen-same query (i ∷ is) =
+    seen-same : (query : List ℕ) (before : ℕ) (day : Day) (room : ℕ) (answerDay : Day) (answerRoom : ℕ)
+        → seen schemeOf d store n query before day room answerDay answerRoom ≡ seen schemeOf c store n query before day room answerDay answerRoom
+    seen-same query before day room answerDay answerRoom =
+        ap (showing schemeOf d store n query answerDay (replicate answerRoom 0)) (says-same before day room)
+        ∙ showing-same query answerDay (replicate answerRoom 0) (verdictOn c (schemeOf c .sizes .query) before day room)
+
+    after-same : (before : ℕ) (day : Day) (room : ℕ)
+        → sentAfter (schemeOf d .sizes .query) before (verdictOn d (schemeOf d .sizes .query) before day room)
+        ≡ sentAfter (schemeOf c .sizes .query) before (verdictOn c (schemeOf c .sizes .query) before day room)
+    after-same before day room =
+        ap₂ (λ (scheme : Scheme) (v : Verdict). sentAfter (scheme .sizes .query) before v) same (says-same before day room)
+
+    all-seen-same : (query : List ℕ) (before : ℕ) (is : List Issue) → seenOf schemeOf d store n query before is ≡ seenOf schemeOf c store n query before is
+    all-seen-same query before [] = refl
+    all-seen-same query before (i ∷ is) =
         ap₂ (λ (x : Shown) (rest : List Shown). cond (eqb (i .server) n) (x ∷ []) [] ++ rest)
-        (seen-same query (i .day) (i .room) (i .answerDay) (i .answerRoom)) (all-seen-same query is)
+        (seen-same query before (i .day) (i .room) (i .answerDay) (i .answerRoom))
+        (ap (λ (after : ℕ). seenOf schemeOf d store n query (cond (eqb (i .server) n) after before) is) (after-same before (i .day) (i .room))
+        ∙ all-seen-same query
+        (cond (eqb (i .server) n)
+        (sentAfter (schemeOf c .sizes .query) before (verdictOn c (schemeOf c .sizes .query) before (i .day) (i .room))) before) is)
 
     module _ (promises : Promises schemeOf) (below : n < c .servers) where
       fetch-same : (f : Fetch) → Begins schemeOf c f → shownTo schemeOf d store n (history schemeOf d f) ≡ shownTo schemeOf c store n (history schemeOf c f)
       fetch-same f begins =
           let valid′ : Valid (schemeOf d) (f .key) = rw same (begins .valid) in
           fetch-shown schemeOf d admitted′ (promises d admitted′) store n below f (begins .inside) valid′
-          ∙ ap (λ (scheme : Scheme). seenOf schemeOf d store n (scheme .query (f .wanted) n (f .key)) (issues (f .calls))) same
-          ∙ all-seen-same (schemeOf c .query (f .wanted) n (f .key)) (issues (f .calls))
+          ∙ ap (λ (scheme : Scheme). seenOf schemeOf d store n (scheme .query (f .wanted) n (f .key)) 0 (issues (f .calls))) same
+          ∙ all-seen-same (schemeOf c .query (f .wanted) n (f .key)) 0 (issues (f .calls))
           ∙ sym (fetch-shown schemeOf c admitted (promises c admitted) store n below f (begins .inside) (begins .valid))
 
       fetches-same : {fs : List Fetch} → All (Begins schemeOf c) fs → shown schemeOf d store n fs ≡ shown schemeOf c store n fs

@@ -1,5 +1,5 @@
--- The claim on two whole lists of fetches over one catalogue and one store (demand 3; document 01, 'Lists of fetches'; document 02, item 1): any server is
--- shown the same of both, and in each fetch of both every call does what its history calls for. `Demand3` is the claim, whole.
+-- The claim on two whole lists of fetches over one catalogue and one store (demand 3; document 01, 'Lists of fetches'; document 02, items 1 and 5): any
+-- server is shown the same of both, its meters agree, and in each fetch of both every call does what its history calls for. `Demand3` is the claim, whole.
 use mathlib.Core.Path.{_≡_}
 use mathlib.Core.List.{List, [], map}
 use Prim.Native.Nat.{ℕ, _<_}
@@ -12,12 +12,15 @@ use Rattle.catalogue.specs.declared.Catalogue.{Catalogue}
 use Rattle.catalogue.specs.Catalogue.{Admitted}
 use Rattle.fetches.specs.Fetches.{Fetch}
 use Rattle.fetches.specs.Shown.{issuesTo, shown}
+use Rattle.fetches.specs.Metered.{Alongside, MetersAgree}
 use Rattle.fetches.specs.Right.{FetchRight}
 
 -- THE CLAIM on the lists fs and gs: server n is shown the same of both, if they make the same issues to it, on the same days, refused ones included (their
--- issues to other servers may differ); and each fetch of both is right
+-- issues to other servers may differ); its two meters agree, fetch by fetch, where the calls that name it are the same in kind, order, days and all lengths
+-- lent (02, item 5; other calls may differ); and each fetch of both is right
 pub record Claim (schemeOf : Catalogue → Scheme) (c : Catalogue) (store : List ℕ) (n : ℕ) (fs gs : List Fetch) : Type 0 where
   pub alike : issuesTo n fs ≡ issuesTo n gs → shown schemeOf c store n fs ≡ shown schemeOf c store n gs
+  pub metered : Alongside (MetersAgree schemeOf c n) fs gs
   pub first : All (FetchRight schemeOf c store) fs
   pub second : All (FetchRight schemeOf c store) gs
 

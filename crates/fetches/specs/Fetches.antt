@@ -74,6 +74,11 @@ module _ (schemeOf : Catalogue → Scheme) where
   run at [] = []
   run at (call ∷ calls) = make at call ∷ run (make at call .after) calls
 
+  -- the state after the calls
+  abbrev pub ended : State → List Call → State
+  ended at [] = at
+  ended at (call ∷ calls) = ended (make at call .after) calls
+
   -- the first of them gets begin's
   abbrev pub start : Catalogue → Fetch → State
   start c f = record { session = begin schemeOf c (f .wanted) (f .key) .session; answers = f .answers }

@@ -2,6 +2,7 @@ pub mod Fetches
 pub mod Shown
 pub mod Past
 pub mod Told
+pub mod Metered
 pub mod Right
 pub mod Claim
 pub mod Plain

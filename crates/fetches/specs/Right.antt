@@ -21,6 +21,7 @@ use Rattle.session.specs.Calls.{slotsOf, begin}
 use Rattle.fetches.specs.Fetches.{issuing, taking, recovering, Fetch, Made, lent, history}
 use Rattle.fetches.specs.Past.{Past, nothing, Throughout}
 use Rattle.fetches.specs.Told.{Told}
+use Rattle.fetches.specs.Metered.{Metered}
 
 -- a refused call leaves the session and every buffer as they were
 abbrev pub Unchanged : Past → Made → Type 0
@@ -73,6 +74,7 @@ module _ (schemeOf : Catalogue → Scheme) (c : Catalogue) where
       pub refusals : Throughout Unchanged nothing (history schemeOf c f)
       pub told : Throughout (Told schemeOf c (f .wanted) (f .key) (length (f .answers))) nothing (history schemeOf c f)
       pub answers-left : Throughout AnswerLeft nothing (history schemeOf c f)
+      pub metered : (server : ℕ) → Metered schemeOf c f server
       pub verdicts : Throughout (RecoverVerdict (f .wanted) (length (f .answers))) nothing (history schemeOf c f)
       pub messages : Throughout (HonestTake (f .wanted) (f .key)) nothing (history schemeOf c f)
           → Throughout (MessageLeft (f .wanted)) nothing (history schemeOf c f)

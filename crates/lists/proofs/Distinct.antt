@@ -71,7 +71,7 @@ apart-distinct (x ∷ l) a =
 
 -- ---- counting
 
-eqb-comm : (m n : ℕ) → eqb m n ≡ eqb n m
+pub eqb-comm : (m n : ℕ) → eqb m n ≡ eqb n m
 eqb-comm m n = go (eqb m n) refl
   where
     go : (t : Bool) → eqb m n ≡ t → t ≡ eqb n m

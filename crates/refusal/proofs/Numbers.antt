@@ -1,5 +1,6 @@
--- Number and refusal turn into each other (`refusal-kept`, `number-kept`), no two refusals have one rank (`same-rank`), and among the numbers 1 to 12
--- the rank goes by the number (`rank-by-number`), which is document 01's rule of the smallest number. Each is one computed test over the table.
+-- Number and refusal turn into each other (`refusal-kept`, `number-kept`), no two refusals have one rank (`same-rank`), among the numbers 1 to 12 the rank
+-- goes by the number (`rank-by-number`), which is document 01's rule of the smallest number, and a full meter comes last (`full-last`). Each is one computed
+-- test over the table.
 use Prim.Native.Nat.{ℕ, _≤_}
 use mathlib.Core.Path.{_≡_, refl, sym, ap, _∙_}
 use mathlib.Core.Bool.{Bool, true, cond, _&&_}
@@ -10,7 +11,7 @@ use borrow.Author.Tests.{le-leb}
 use Rattle.refusal.specs.declared.Refusal.{Refusal}
 use Rattle.refusal.specs.declared.Refusal.the-variants.{Text, Bounds, Server, Wanted, KeyLength, KeyEntry}
 use Rattle.refusal.specs.declared.Refusal.the-variants.{Query, StoreLength, Room, AnswerLength, History, Missing}
-use Rattle.refusal.specs.declared.Refusal.the-variants.{UnrealDay, OutOfSeason, OddSymbol, OneMessage}
+use Rattle.refusal.specs.declared.Refusal.the-variants.{UnrealDay, OutOfSeason, OddSymbol, MeterFull, OneMessage}
 use Rattle.refusal.specs.Numbers.{numberOf, refusals, refusalOf, order, rank}
 
 -- two functions that agree over the list of refusals agree at each refusal
@@ -34,7 +35,8 @@ module _ {A : Type 0} (f g : Refusal → A) (same : map f refusals ≡ map g ref
   at-each UnrealDay = at-place 12
   at-each OutOfSeason = at-place 13
   at-each OddSymbol = at-place 14
-  at-each OneMessage = at-place 15
+  at-each MeterFull = at-place 15
+  at-each OneMessage = at-place 16
 
 pub refusal-kept : (refusal : Refusal) → refusalOf (numberOf refusal) ≡ refusal
 refusal-kept = at-each (λ (r : Refusal). refusalOf (numberOf r)) (λ (r : Refusal). r) refl
@@ -67,3 +69,7 @@ rank-by-number a b low high =
     let table = at-each (λ (x : Refusal). map (byRank x) refusals) (λ (x : Refusal). map (byNumber x) refusals) refl in
     let pair : byRank a b ≡ byNumber a b = at-each (byRank a) (byNumber a) (table a) b in
     rw (le-leb (numberOf a) 12 low, le-leb (numberOf b) 12 high) at pair
+
+-- a full meter is given last of all (document 02, item 5)
+pub full-last : (refusal : Refusal) → leb (rank refusal) (rank MeterFull) ≡ true
+full-last = at-each (λ (r : Refusal). leb (rank r) (rank MeterFull)) (λ (r : Refusal). true) refl

@@ -2,7 +2,7 @@
 ghost use mathlib.Core.Path.{_≡_};
 ghost use Rattle.refusal.specs.Numbers.{numberOf};
 
-// Why a call is refused, by ascending number (document 01, 'Numbers a call can give'; document 02: 13 and 14 item 1, 15 item 2, 17 item 9). Which is
+// Why a call is refused, by ascending number (document 01, 'Numbers a call can give'; document 02: 13 and 14 item 1, 15 item 2, 16 item 5, 17 item 9). Which is
 // given where several apply is another order: `order` of specs/Numbers.antt.
 pub enum Refusal {
     // 1: the catalogue's or the printer's input is not in its text form.
@@ -25,7 +25,7 @@ pub enum Refusal {
     Room,
     // 10: the answer has another length than its query calls for.
     AnswerLength,
-    // 11: take before issue, a second take, or marks that no history of calls gives.
+    // 11: take before issue, a second take, or marks or meters that no history of calls gives.
     History,
     // 12: an answer is missing at recovery.
     Missing,
@@ -35,6 +35,8 @@ pub enum Refusal {
     OutOfSeason,
     // 15: symbols of an odd length (01: pieces) are no rows of words, which the catalogue adds.
     OddSymbol,
+    // 16: a meter would pass 4,294,967,295.
+    MeterFull,
     // 17: the catalogue has one message only (01: K is 1), which no query can hide.
     OneMessage,
 }
@@ -71,6 +73,7 @@ pub fn number(refusal: Refusal) -> u8
         Refusal::UnrealDay => 13,
         Refusal::OutOfSeason => 14,
         Refusal::OddSymbol => 15,
+        Refusal::MeterFull => 16,
         Refusal::OneMessage => 17,
     }
 }

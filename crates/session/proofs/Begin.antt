@@ -19,6 +19,7 @@ use Rattle.session.specs.declared.Handed.{Handed}
 use Rattle.session.specs.Fields.{newSession, zeroSession}
 use Rattle.session.specs.Calls.{keyOf, beginVerdict, beginBy, begin}
 use Rattle.session_parts.proofs.Marks.{marks-none}
+use Rattle.session_parts.proofs.Metering.{meters-none}
 use Rattle.session.proofs.Sound.{Sound}
 
 module _ (schemeOf : Catalogue → Scheme) (c : Catalogue) (wanted : ℕ) (key : List ℕ) where
@@ -79,4 +80,5 @@ module _ (schemeOf : Catalogue → Scheme) (c : Catalogue) (wanted : ℕ) (key :
     inside = b .inside;
     good = rw (key-kept (b .valid .long)) (b .valid .good);
     marks = marks-none (c .servers) .good;
+    meters = meters-none _ _;
   }

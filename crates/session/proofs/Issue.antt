@@ -2,7 +2,7 @@
 -- verdict on a sound session (`issue-sound`).
 use mathlib.Core.Path.{_≡_, refl, sym}
 use mathlib.Core.List.{List}
-use Prim.Native.Nat.{ℕ, _≤_, _<_}
+use Prim.Native.Nat.{ℕ, _+_, _≤_, _<_}
 use lib.Dec.{leb, ltb}
 use lib.ListN.{length}
 use borrow.Author.Tests.{lt-leb, ltb-false, le-ltb, not-false}
@@ -17,6 +17,7 @@ use Rattle.catalogue.specs.declared.Catalogue.{Catalogue}
 use Rattle.catalogue.specs.Days.{dayVerdict, Served}
 use Rattle.catalogue.proofs.Faults.{after-day}
 use Rattle.session.specs.declared.Session.{Session}
+use Rattle.session_parts.specs.Meters.{mostBytes, counted}
 use Rattle.session.specs.Fields.{markIssued}
 use Rattle.session.specs.Calls.{codeOf, queryOf, askFaultsOn, issueVerdict, issueBy, issue}
 use Rattle.session_checks.proofs.Links.{served-passed}
@@ -30,6 +31,7 @@ module _ (schemeOf : Catalogue → Scheme) (s : Session) (day : Day) (server : �
     pub served : Served (s .catalogue) day
     pub below : server < s .catalogue .servers
     pub roomy : codeOf schemeOf s .sizes .query ≤ room
+    pub counts : counted (s .meters .sent) server + codeOf schemeOf s .sizes .query ≤ mostBytes
 
   pub issue-passed : (room : ℕ) → issueVerdict schemeOf s day server room ≡ Accepted → Issues room
   unfolding issueVerdict
@@ -38,21 +40,23 @@ module _ (schemeOf : Catalogue → Scheme) (s : Session) (day : Day) (server : �
       let q = served-passed schemeOf (s .catalogue) (s .wanted) (s .key) day server (p .0) in
       let a = q .0 in
       record {
-        sound = holds-sound schemeOf s (a .holds) (not-false _ (p .1 .1 .0));
+        sound = holds-sound schemeOf s (a .holds) (not-false _ (p .1 .1 .0)) (not-false _ (p .1 .1 .1 .0));
         served = q .1;
         below = a .below;
         roomy = ltb-false room (codeOf schemeOf s .sizes .query) (p .1 .0);
+        counts = ltb-false mostBytes (counted (s .meters .sent) server + codeOf schemeOf s .sizes .query) (p .1 .1 .1 .1 .0);
       }
 
-  -- of a sound session, the day, the server and the room are left to ask
+  -- of a sound session, the day, the server, the room and the server's meter are left to ask
   pub issue-sound : Sound schemeOf s → (room : ℕ)
       → issueVerdict schemeOf s day server room
       ≡ andThen (dayVerdict (s .catalogue) day)
-      (refuseIf (leb (s .catalogue .servers) server) 3 (refuseIf (ltb room (codeOf schemeOf s .sizes .query)) 9 Accepted))
+      (refuseIf (leb (s .catalogue .servers) server) 3 (refuseIf (ltb room (codeOf schemeOf s .sizes .query)) 9
+      (refuseIf (ltb mostBytes (counted (s .meters .sent) server + codeOf schemeOf s .sizes .query)) 16 Accepted)))
   unfolding issueVerdict
   issue-sound sound room =
       sym (after-day (s .catalogue) day _ refl (dayVerdict (s .catalogue) day) _ (sound .admitted) refl
-      (rw (lt-leb (s .catalogue .messages) (s .wanted) (sound .inside), sound .good, sound .marks)))
+      (rw (lt-leb (s .catalogue .messages) (s .wanted) (sound .inside), sound .good, sound .marks, sound .meters)))
 
   pub issue-accepted : (room : ℕ) → Issues room → issueVerdict schemeOf s day server room ≡ Accepted
   issue-accepted room i =
@@ -61,13 +65,16 @@ module _ (schemeOf : Catalogue → Scheme) (s : Session) (day : Day) (server : �
         i .served,
         lt-leb (s .catalogue .servers) server (i .below),
         le-ltb room (codeOf schemeOf s .sizes .query) (i .roomy),
+        le-ltb mostBytes (counted (s .meters .sent) server + codeOf schemeOf s .sizes .query) (i .counts),
       )
 
   module _ (buffer : List ℕ) where
     pub issue-goes : Goes (issue schemeOf s day server buffer) (issueVerdict schemeOf s day server (length buffer))
-        s (markIssued s server) buffer (put 0 (queryOf schemeOf s server) buffer)
+        s (markIssued s server (codeOf schemeOf s .sizes .query)) buffer (put 0 (queryOf schemeOf s server) buffer)
     unfolding issue
-    issue-goes = goes s (markIssued s server) buffer (put 0 (queryOf schemeOf s server) buffer) (issueVerdict schemeOf s day server (length buffer))
+    issue-goes =
+        goes s (markIssued s server (codeOf schemeOf s .sizes .query)) buffer (put 0 (queryOf schemeOf s server) buffer)
+        (issueVerdict schemeOf s day server (length buffer))
 
     pub issue-by : (v : Verdict) → v ≡ issueVerdict schemeOf s day server (length buffer)
         → issue schemeOf s day server buffer ≡ issueBy schemeOf s server buffer v

@@ -36,10 +36,11 @@ module _ (schemeOf : Catalogue → Scheme) (s : Session) where
       let p = first-accepted (ownFaults schemeOf s) _ e in
       let n = p .1 in
       record {
-        sound = holds-sound schemeOf s (session-passed schemeOf (s .catalogue) (s .wanted) (s .key) (p .0)) (not-false _ (n .1 .1 .0));
+        sound = holds-sound schemeOf s (session-passed schemeOf (s .catalogue) (s .wanted) (s .key) (p .0)) (not-false _ (n .1 .1 .0))
+            (not-false _ (n .1 .1 .1 .0));
         slots-fit = ltb-false answersRoom (slotsOf schemeOf (s .catalogue)) (n .0);
         roomy = ltb-false room (wantedLength schemeOf s) (n .1 .0);
-        all-taken = not-false _ (n .1 .1 .1 .0);
+        all-taken = not-false _ (n .1 .1 .1 .1 .0);
       }
 
   -- of a sound session, the rooms and the answers are left to ask
@@ -50,7 +51,7 @@ module _ (schemeOf : Catalogue → Scheme) (s : Session) where
   unfolding recoverVerdict
   recover-verdict sound answersRoom room =
       let own = session-accepted schemeOf (s .catalogue) (s .wanted) (s .key) (sound-holds schemeOf s sound) in
-      sym (after-first (ownFaults schemeOf s) _ refl refl Accepted _ (sym own) (rw (sound .marks)))
+      sym (after-first (ownFaults schemeOf s) _ refl refl Accepted _ (sym own) (rw (sound .marks, sound .meters)))
 
   module _ (answers buffer : List ℕ) where
     pub recover-goes : Goes (recover schemeOf s answers buffer) (recoverVerdict schemeOf s (length answers) (length buffer))

@@ -16,9 +16,13 @@ use Rattle.scheme.specs.Scheme.{Scheme}
 use Rattle.catalogue.specs.declared.Catalogue.{Catalogue}
 use Rattle.catalogue.proofs.Faults.{after-catalogue}
 use Rattle.session.specs.declared.Session.{Session}
+use Rattle.parameters.specs.Measures.{mostServers}
 use Rattle.session_parts.specs.Marks.{marked}
+use Rattle.session_parts.specs.Meters.{counted}
+use Rattle.session_parts.proofs.Metering.{meters-at, none-got}
+use Rattle.session_checks.specs.Checks.{answerBytes}
 use Rattle.session.specs.Fields.{markTaken}
-use Rattle.session.specs.Calls.{codeOf, queryOf, slotsOf, askFaults, takeVerdict, takeBy, takeAnswer}
+use Rattle.session.specs.Calls.{codeOf, keyOf, queryOf, slotsOf, askFaults, takeVerdict, takeBy, takeAnswer}
 use Rattle.session_checks.proofs.Links.{server-passed}
 use Rattle.session.proofs.Sound.{Sound, holds-sound}
 use Rattle.session.proofs.Goes.{Goes, goes}
@@ -40,13 +44,20 @@ module _ (schemeOf : Catalogue → Scheme) (s : Session) (server : ℕ) where
       let a = server-passed schemeOf (s .catalogue) (s .wanted) (s .key) server (p .0) in
       let due = p .1 .1 .1 in
       record {
-        sound = holds-sound schemeOf s (a .holds) (not-false _ (due .0));
+        sound = holds-sound schemeOf s (a .holds) (not-false _ (due .0)) (not-false _ (due .1 .0));
         below = a .below;
         roomy = ltb-false room (slotsOf schemeOf (s .catalogue)) (p .1 .0);
         sized = eqb-true size (codeOf schemeOf s .answerLength (queryOf schemeOf s server)) (not-false _ (p .1 .1 .0));
-        was-issued = not-false _ (due .1 .0);
-        not-taken = due .1 .1 .0;
+        was-issued = not-false _ (due .1 .1 .0);
+        not-taken = due .1 .1 .1 .0;
       }
+
+  -- nothing was taken from the server before
+  pub take-first : (size room : ℕ) → Takes size room → server < mostServers → counted (s .meters .got) server ≡ 0
+  take-first size room t h =
+      let due = answerBytes schemeOf (s .catalogue) (s .wanted) (keyOf schemeOf s) in
+      let g = meters-at (codeOf schemeOf s .sizes .query) due (s .issued) (s .taken) (s .meters) (t .sound .meters) server h in
+      none-got (due server) (counted (s .meters .got) server) (rw (t .not-taken) at (g .got))
 
   -- of a sound session, the server, the room, the length and the server's own marks are left to ask
   pub take-sound : Sound schemeOf s → (size room : ℕ)
@@ -58,7 +69,7 @@ module _ (schemeOf : Catalogue → Scheme) (s : Session) (server : ℕ) where
   unfolding takeVerdict
   take-sound sound size room =
       sym (after-catalogue (s .catalogue) _ refl Accepted _ (sym (sound .admitted))
-      (rw (lt-leb (s .catalogue .messages) (s .wanted) (sound .inside), sound .good, sound .marks)))
+      (rw (lt-leb (s .catalogue .messages) (s .wanted) (sound .inside), sound .good, sound .marks, sound .meters)))
 
   pub take-accepted : (size room : ℕ) → Takes size room → takeVerdict schemeOf s server size room ≡ Accepted
   take-accepted size room t =
@@ -73,10 +84,10 @@ module _ (schemeOf : Catalogue → Scheme) (s : Session) (server : ℕ) where
 
   module _ (answer buffer : List ℕ) where
     pub take-goes : Goes (takeAnswer schemeOf s server answer buffer) (takeVerdict schemeOf s server (length answer) (length buffer))
-        s (markTaken s server) buffer (put (server * codeOf schemeOf s .sizes .slot) answer buffer)
+        s (markTaken s server (length answer)) buffer (put (server * codeOf schemeOf s .sizes .slot) answer buffer)
     unfolding takeAnswer
     take-goes =
-        goes s (markTaken s server) buffer (put (server * codeOf schemeOf s .sizes .slot) answer buffer)
+        goes s (markTaken s server (length answer)) buffer (put (server * codeOf schemeOf s .sizes .slot) answer buffer)
         (takeVerdict schemeOf s server (length answer) (length buffer))
 
     pub take-by : (v : Verdict) → v ≡ takeVerdict schemeOf s server (length answer) (length buffer)

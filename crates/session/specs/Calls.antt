@@ -1,6 +1,6 @@
--- The calls of a session, over the code of each catalogue (document 01, 'Session' and 'Numbers a call can give'; the day of an issue, and where a message
--- ends: document 02, items 1 and 6): the whole result, and the final bytes of the buffer that the call may write, for every input. A call goes by its
--- verdict, the foremost of its faults; refused, it changes nothing.
+-- The calls of a session, over the code of each catalogue (document 01, 'Session' and 'Numbers a call can give'; the day of an issue, the meters, and where
+-- a message ends: document 02, items 1, 5 and 6): the whole result, and the final bytes of the buffer that the call may write, for every input. A call goes
+-- by its verdict, the foremost of its faults; refused, it changes nothing.
 use mathlib.Core.Path.{_≡_}
 use mathlib.Core.Bool.{not}
 use mathlib.Core.List.{List, [], _∷_, _++_}
@@ -20,7 +20,7 @@ use Rattle.catalogue.specs.Catalogue.{catalogueFaults, catalogueVerdict}
 use Rattle.codes.specs.Messages.{messageLength, recoveredIn}
 use Rattle.session.specs.declared.Session.{Session}
 use Rattle.session.specs.declared.Handed.{Handed}
-use Rattle.session_checks.specs.Checks.{usedPlaces, sessionFaults, serverFaults, servedFaults, marksFault, dueFaults, missingFault}
+use Rattle.session_checks.specs.Checks.{usedPlaces, sessionFaults, serverFaults, servedFaults, historyFaults, fullFault, dueFaults, missingFault}
 use Rattle.session.specs.Fields.{newSession, zeroSession, markIssued, markTaken}
 
 -- What issue, take and recover do: what they hand back, and how they leave the buffer that they may write (the query's, the answers', the message's)
@@ -68,6 +68,10 @@ module _ (schemeOf : Catalogue → Scheme) where
   abbrev pub askFaultsOn : Session → Day → ℕ → List Fault
   askFaultsOn s day = servedFaults schemeOf (s .catalogue) day (s .wanted) (s .key)
 
+  -- and of its marks and meters
+  abbrev pub pastFaults : Session → List Fault
+  pastFaults s = historyFaults schemeOf (s .catalogue) (s .wanted) (keyOf s) (s .issued) (s .taken) (s .meters)
+
   -- begin catalogue wanted key
   abbrev pub beginFaults : Catalogue → ℕ → List ℕ → List Fault
   beginFaults c wanted key =
@@ -90,13 +94,14 @@ module _ (schemeOf : Catalogue → Scheme) where
   -- issue session day server buffer: the query, at the start of the buffer
   abbrev pub issueFaults : Session → Day → ℕ → ℕ → List Fault
   issueFaults s day server room =
-      askFaultsOn s day server ++ (fault 9 (ltb room (codeOf s .sizes .query)) ∷ marksFault (s .catalogue .servers) (s .issued) (s .taken) ∷ [])
+      askFaultsOn s day server
+      ++ (fault 9 (ltb room (codeOf s .sizes .query)) ∷ (pastFaults s ++ (fullFault (s .meters) server (codeOf s .sizes .query) ∷ [])))
 
   unfoldable pub issueVerdict : Session → Day → ℕ → ℕ → Verdict
   issueVerdict s day server room = foremost (issueFaults s day server room)
 
   abbrev pub issueBy : Session → ℕ → List ℕ → Verdict → Out
-  issueBy s server buffer = callBy s buffer (markIssued s server) (put 0 (queryOf s server) buffer)
+  issueBy s server buffer = callBy s buffer (markIssued s server (codeOf s .sizes .query)) (put 0 (queryOf s server) buffer)
 
   unfoldable pub issue : Session → Day → ℕ → List ℕ → Out
   issue s day server buffer = issueBy s server buffer (issueVerdict s day server (length buffer))
@@ -108,14 +113,13 @@ module _ (schemeOf : Catalogue → Scheme) where
       askFaults s server
       ++ (fault 9 (ltb room (slotsOf (s .catalogue)))
       ∷ fault 10 (not (eqb size (codeOf s .answerLength (queryOf s server))))
-      ∷ marksFault (s .catalogue .servers) (s .issued) (s .taken)
-      ∷ dueFaults (s .issued) (s .taken) server)
+      ∷ (pastFaults s ++ dueFaults (s .issued) (s .taken) server))
 
   unfoldable pub takeVerdict : Session → ℕ → ℕ → ℕ → Verdict
   takeVerdict s server size room = foremost (takeFaults s server size room)
 
   abbrev pub takeBy : Session → ℕ → List ℕ → List ℕ → Verdict → Out
-  takeBy s server answer buffer = callBy s buffer (markTaken s server) (put (server * codeOf s .sizes .slot) answer buffer)
+  takeBy s server answer buffer = callBy s buffer (markTaken s server (length answer)) (put (server * codeOf s .sizes .slot) answer buffer)
 
   unfoldable pub takeAnswer : Session → ℕ → List ℕ → List ℕ → Out
   takeAnswer s server answer buffer = takeBy s server answer buffer (takeVerdict s server (length answer) (length buffer))
@@ -131,9 +135,7 @@ module _ (schemeOf : Catalogue → Scheme) where
       ownFaults s
       ++ (fault 9 (ltb answersRoom (slotsOf (s .catalogue)))
       ∷ fault 9 (ltb room (wantedLength s))
-      ∷ marksFault (s .catalogue .servers) (s .issued) (s .taken)
-      ∷ missingFault (s .catalogue .servers) (s .taken)
-      ∷ [])
+      ∷ (pastFaults s ++ (missingFault (s .catalogue .servers) (s .taken) ∷ [])))
 
   unfoldable pub recoverVerdict : Session → ℕ → ℕ → Verdict
   recoverVerdict s answersRoom room = foremost (recoverFaults s answersRoom room)

@@ -1,9 +1,10 @@
 // The session: one fetch, from its key to its message, passed from call to call by value. Its calls are defined in specs/Calls.antt.
 // Each has a function for its verdict; refused, it hands back what it was given, else it writes, and marks the session.
 ghost use mathlib.Core.Path.{_≡_};
-ghost use Prim.Native.Nat.{_≤_, _<_};
+ghost use Prim.Native.Nat.{_+_, _≤_, _<_};
 ghost use lib.ListN.{length};
 ghost use Rattle.codes.specs.Codes.{schemeOf};
+ghost use Rattle.session_parts.specs.Meters.{counted};
 ghost use Rattle.session.specs.Fields.{zeroSession, newSession, markIssued, markTaken};
 ghost use Rattle.session.specs.Calls.{Did};
 ghost use Rattle.session.specs.Calls.{begin as begin·, issue as issue·, takeAnswer, recover as recover·, bound as bound·};
@@ -12,6 +13,7 @@ use catalogue::Catalogue;
 use refusal::Outcome;
 use refusal::Verdict;
 use session_checks::keyed;
+use session_parts::Meters;
 
 // The verdict of each call.
 mod verdicts;
@@ -27,6 +29,8 @@ pub struct Session {
     pub issued: [bool; 16],
     // For each server, whether its answer was taken.
     pub taken: [bool; 16],
+    // For each server, the bytes of the queries issued to it and of the answer taken from it.
+    pub meters: Meters,
 }
 
 // What a call on a session hands back.
@@ -47,6 +51,7 @@ fn new_session(catalogue: Catalogue, wanted: usize, key: &[u8]) -> Session
         key: places,
         issued: [false; 16],
         taken: [false; 16],
+        meters: session_parts::no_meters(),
     }
 }
 
@@ -72,6 +77,7 @@ impl Session {
             key: [0; 2048],
             issued: [false; 16],
             taken: [false; 16],
+            meters: session_parts::no_meters(),
         }
     }
 
@@ -104,10 +110,10 @@ impl Session {
             };
         }
         let key = self.key;
-        keyed::write_query(self.catalogue, self.wanted, &key, server, query);
+        let bytes = keyed::write_query(self.catalogue, self.wanted, &key, server, query);
         Handed {
             verdict: Verdict::Accepted,
-            session: self.mark_issued(server),
+            session: self.mark_issued(server, bytes),
         }
     }
 
@@ -126,7 +132,7 @@ impl Session {
         session_parts::put_answer(answers, server * sizes.slot, answer);
         Handed {
             verdict: Verdict::Accepted,
-            session: self.mark_taken(server),
+            session: self.mark_taken(server, answer.len()),
         }
     }
 
@@ -149,21 +155,25 @@ impl Session {
         }
     }
 
-    // The session with the mark that a query was issued to the server.
-    fn mark_issued(mut self, server: usize) -> Self
+    // The session with the mark that a query was issued to the server, and its bytes counted.
+    fn mark_issued(mut self, server: usize, bytes: usize) -> Self
         requires { ⌜ server < 16 ⌝ }
-        ensures { λ r. ⌜ r ≡ markIssued self server ⌝ }
+        requires { ⌜ counted (self .meters .sent) server + bytes ≤ 4294967295 ⌝ }
+        ensures { λ r. ⌜ r ≡ markIssued self server bytes ⌝ }
     {
         self.issued[server] = true;
+        self.meters = session_parts::count_issued(self.meters, server, bytes);
         self
     }
 
-    // The session with the mark that the server's answer was taken.
-    fn mark_taken(mut self, server: usize) -> Self
+    // The session with the mark that the server's answer was taken, and its bytes counted.
+    fn mark_taken(mut self, server: usize, bytes: usize) -> Self
         requires { ⌜ server < 16 ⌝ }
-        ensures { λ r. ⌜ r ≡ markTaken self server ⌝ }
+        requires { ⌜ counted (self .meters .got) server + bytes ≤ 4294967295 ⌝ }
+        ensures { λ r. ⌜ r ≡ markTaken self server bytes ⌝ }
     {
         self.taken[server] = true;
+        self.meters = session_parts::count_taken(self.meters, server, bytes);
         self
     }
 }

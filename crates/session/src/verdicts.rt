@@ -47,7 +47,17 @@ pub fn issue_verdict(s: Session, today: Day, server: usize, room: usize) -> Verd
     if room < sizes.query {
         return Verdict::Refused(Refusal::Room);
     }
-    session_checks::marks_verdict(s.catalogue.servers, &s.issued, &s.taken)
+    let size = sizes.key;
+    session_checks::sent_verdict(
+        s.catalogue,
+        sizes.query,
+        s.wanted,
+        &key[..size],
+        &s.issued,
+        &s.taken,
+        s.meters,
+        server,
+    )
 }
 
 // Whether an answer of `size` bytes can be taken.
@@ -70,7 +80,17 @@ pub fn take_verdict(s: Session, server: usize, size: usize, room: usize) -> Verd
     if size != keyed::answer_length(s.catalogue, s.wanted, &key, server) {
         return Verdict::Refused(Refusal::AnswerLength);
     }
-    session_checks::due_verdict(s.catalogue.servers, &s.issued, &s.taken, server)
+    let size = sizes.key;
+    session_checks::due_verdict(
+        s.catalogue,
+        sizes.query,
+        s.wanted,
+        &key[..size],
+        &s.issued,
+        &s.taken,
+        s.meters,
+        server,
+    )
 }
 
 // Whether the message can be recovered.
@@ -92,5 +112,14 @@ pub fn recover_verdict(s: Session, answers: usize, message: usize) -> Verdict
     if message < keyed::message_length(s.catalogue, s.wanted) {
         return Verdict::Refused(Refusal::Room);
     }
-    session_checks::missing_verdict(s.catalogue.servers, &s.issued, &s.taken)
+    let size = sizes.key;
+    session_checks::missing_verdict(
+        s.catalogue,
+        sizes.query,
+        s.wanted,
+        &key[..size],
+        &s.issued,
+        &s.taken,
+        s.meters,
+    )
 }

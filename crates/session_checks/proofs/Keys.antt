@@ -3,7 +3,7 @@
 use mathlib.Core.Path.{_≡_, ap, _∙_}
 use mathlib.Core.Bool.{true}
 use mathlib.Core.List.{List}
-use Prim.Native.Nat.{ℕ, _≤_}
+use Prim.Native.Nat.{ℕ, _≤_, _<_}
 use native.Mathlib.Omega.{arith}
 use lib.ListN.{length, take}
 use lib.Seq.{length-take-le}
@@ -13,13 +13,17 @@ use Rattle.parameters.proofs.SmallSizes.{Small}
 use Rattle.scheme.specs.Scheme.{Valid}
 use Rattle.catalogue.specs.declared.Catalogue.{Catalogue}
 use Rattle.catalogue.specs.Catalogue.{Admitted}
-use Rattle.catalogue.proofs.Admitted.{admitted-small}
+use Rattle.catalogue.proofs.Admitted.{admitted-small, admitted-query}
 use Rattle.codes.specs.Codes.{schemeOf}
 use Rattle.codes.proofs.Promises.{scheme-sizes}
 use Rattle.session_checks.specs.Checks.{usedPlaces}
 
 pub sizes-small : (c : Catalogue) (sizes : Sizes) → Admitted c → sizes ≡ schemeOf c .sizes → Small (c .servers) sizes
 sizes-small c sizes a e = rw (e, scheme-sizes c) (admitted-small c a)
+
+-- a query has at least one byte
+pub query-some : (c : Catalogue) → Admitted c → 0 < schemeOf c .sizes .query
+query-some c a = rw (scheme-sizes c) (admitted-query c a)
 
 -- all places of a key, and the sizes at hand
 module _ (c : Catalogue) (places : List ℕ) (long : length places ≡ keyPlaces) (sizes : Sizes) (a : Admitted c) (e : sizes ≡ schemeOf c .sizes) where

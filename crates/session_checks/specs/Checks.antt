@@ -1,5 +1,5 @@
--- What the calls of a session check of its fields (document 01, 'Numbers a call can give'; the day: document 02, item 1), as faults that several calls
--- share, over the code of each catalogue. `places`: those of the session's key.
+-- What the calls of a session check of its fields (document 01, 'Numbers a call can give'; the day and the meters: document 02, items 1 and 5), as
+-- faults that several calls share, over the code of each catalogue. `places`: those of the session's key, of which some are used.
 use mathlib.Core.Bool.{Bool, not}
 use mathlib.Core.List.{List, [], _∷_, _++_}
 use Prim.Native.Nat.{ℕ}
@@ -11,11 +11,17 @@ use Rattle.calendar.specs.declared.Day.{Day}
 use Rattle.catalogue.specs.declared.Catalogue.{Catalogue}
 use Rattle.catalogue.specs.Catalogue.{catalogueFaults}
 use Rattle.catalogue.specs.Days.{dayFaults}
+use Rattle.session_parts.specs.declared.Meters.{Meters}
 use Rattle.session_parts.specs.Marks.{marked, marksGood, allTaken}
+use Rattle.session_parts.specs.Meters.{meterFull, metersGood}
 
 -- marks that no history of calls gives
 abbrev pub marksFault : ℕ → List Bool → List Bool → Fault
 marksFault servers issued taken = fault 11 (not (marksGood servers issued taken))
+
+-- the server's meter would pass what it can say: `query` bytes more
+abbrev pub fullFault : Meters → ℕ → ℕ → Fault
+fullFault m server query = fault 16 (meterFull m server query)
 
 -- the server's answer is not due: no query was issued to it, or its answer was taken
 abbrev pub dueFaults : List Bool → List Bool → ℕ → List Fault
@@ -29,6 +35,19 @@ module _ (schemeOf : Catalogue → Scheme) where
   -- the places of the key that are used
   abbrev pub usedPlaces : Catalogue → List ℕ → List ℕ
   usedPlaces c places = take (schemeOf c .sizes .key) places
+
+  -- the bytes of the answer that wanted message and key call for at a server
+  abbrev pub answerBytes : Catalogue → ℕ → List ℕ → ℕ → ℕ
+  answerBytes c wanted key server = schemeOf c .answerLength (schemeOf c .query wanted server key)
+
+  -- some history of calls gives the meters, together with the marks and the other fields
+  abbrev pub metersFit : Catalogue → ℕ → List ℕ → List Bool → List Bool → Meters → Bool
+  metersFit c wanted key issued taken m = metersGood (schemeOf c .sizes .query) (answerBytes c wanted key) issued taken m
+
+  -- marks that no history of calls gives, and meters that none gives together with the other fields
+  abbrev pub historyFaults : Catalogue → ℕ → List ℕ → List Bool → List Bool → Meters → List Fault
+  historyFaults c wanted key issued taken m =
+      marksFault (c .servers) issued taken ∷ fault 11 (not (metersFit c wanted key issued taken m)) ∷ []
 
   -- wanted and key of a session are checked again
   abbrev pub fieldFaults : Catalogue → ℕ → List ℕ → List Fault

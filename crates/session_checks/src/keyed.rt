@@ -41,18 +41,26 @@ pub fn key_good(c: Catalogue, places: &[u8]) -> bool
     codes::key_good(c, &places[..size])
 }
 
-// Writes a server's query for the wanted message at the start of `query`.
-pub fn write_query(c: Catalogue, wanted: usize, places: &[u8], server: usize, query: &mut [u8])
+// Writes a server's query for the wanted message at the start of `query`, and gives its bytes.
+pub fn write_query(
+    c: Catalogue,
+    wanted: usize,
+    places: &[u8],
+    server: usize,
+    query: &mut [u8],
+) -> usize
     requires { ⌜ Admitted c ⌝ }
     requires { ⌜ length (now places) ≡ 2048 ⌝ }
     requires { ⌜ (wanted < c .messages) × (server < c .servers) ⌝ }
     requires { ⌜ schemeOf c .keyGood (usedPlaces schemeOf c (now places)) ≡ true ⌝ }
     requires { ⌜ schemeOf c .sizes .query ≤ length (now query) ⌝ }
+    ensures { λ r. ⌜ r ≡ schemeOf c .sizes .query ⌝ }
     ensures { λ _. ⌜ now (query .exit) ≡ put 0 (schemeOf c .query wanted server (usedPlaces schemeOf c (now (places .entry)))) (now (query .entry)) ⌝ }
 {
     let sizes = sizes_of(c);
     let size = sizes.key;
     codes::query(c, wanted, server, &places[..size], query);
+    sizes.query
 }
 
 // The bytes of the answer that a server's query for the wanted message calls for.

@@ -1,21 +1,26 @@
-// What the calls of a session check of its fields: the catalogue, the wanted message and the key, and the marks of its servers. The code's
+// What the calls of a session check of its fields: the catalogue, the wanted message and the key, and the marks and meters of its servers. The code's
 // calls by such a key are in keyed.rt; the faults are specs/Checks.antt.
 ghost use mathlib.Core.Path.{_≡_};
-ghost use mathlib.Core.List.{[], _∷_};
+ghost use mathlib.Core.List.{[], _∷_, _++_};
 ghost use Prim.Native.Nat.{_≤_, _<_};
 ghost use lib.ListN.{length};
 ghost use Rattle.refusal.specs.Foremost.{foremost};
 ghost use Rattle.refusal.specs.Chain.{chain};
+ghost use Rattle.scheme.specs.Scheme.{Valid};
 ghost use Rattle.catalogue.specs.Catalogue.{Admitted};
 ghost use Rattle.codes.specs.Codes.{schemeOf};
 ghost use Rattle.session_checks.specs.Checks.{fieldFaults, sessionFaults, namedFaults, serverFaults, servedFaults};
-ghost use Rattle.session_checks.specs.Checks.{marksFault, dueFaults, missingFault};
+ghost use Rattle.session_checks.specs.Checks.{historyFaults, fullFault, dueFaults, missingFault};
 use calendar::Day;
 use catalogue::Catalogue;
 use refusal::Refusal;
 use refusal::Verdict;
+use session_parts::Meters;
 
 pub mod keyed;
+
+// Whether the meters of a session are good.
+mod metered;
 
 // Whether wanted message and key are good.
 fn fields_verdict(c: Catalogue, wanted: usize, places: &[u8]) -> Verdict
@@ -86,28 +91,79 @@ pub fn session_verdict(c: Catalogue, wanted: usize, places: &[u8]) -> Verdict
     fields_verdict(c, wanted, places)
 }
 
-// Whether some history of calls gives these marks.
-pub fn marks_verdict<'a>(servers: usize, issued: &'a [bool; 16], taken: &'a [bool; 16]) -> Verdict
-    ensures { λ r. ⌜ r ≡ chain (marksFault servers (now (issued .entry)) (now (taken .entry)) ∷ []) ⌝ }
+// Whether some history of calls gives these marks, and these meters together with the other fields. A query has `query` bytes.
+fn history_verdict<'a>(
+    c: Catalogue,
+    query: usize,
+    wanted: usize,
+    key: &[u8],
+    issued: &'a [bool; 16],
+    taken: &'a [bool; 16],
+    m: Meters,
+) -> Verdict
+    requires { ⌜ Admitted c ⌝ }
+    requires { ⌜ query ≡ schemeOf c .sizes .query ⌝ }
+    requires { ⌜ wanted < c .messages ⌝ }
+    requires { ⌜ Valid (schemeOf c) (now key) ⌝ }
+    ensures { λ r. ⌜ r ≡ chain (historyFaults schemeOf c wanted (now (key .entry)) (now (issued .entry)) (now (taken .entry)) m) ⌝ }
 {
-    if session_parts::marks_good(servers, issued, taken) {
-        Verdict::Accepted
-    } else {
-        Verdict::Refused(Refusal::History)
+    if !session_parts::marks_good(c.servers, issued, taken) {
+        return Verdict::Refused(Refusal::History);
     }
+    if !metered::meters_good(c, query, wanted, key, issued, taken, m) {
+        return Verdict::Refused(Refusal::History);
+    }
+    Verdict::Accepted
+}
+
+// Whether one more query can be counted for a server.
+pub fn sent_verdict<'a>(
+    c: Catalogue,
+    query: usize,
+    wanted: usize,
+    key: &[u8],
+    issued: &'a [bool; 16],
+    taken: &'a [bool; 16],
+    m: Meters,
+    server: usize,
+) -> Verdict
+    requires { ⌜ Admitted c ⌝ }
+    requires { ⌜ query ≡ schemeOf c .sizes .query ⌝ }
+    requires { ⌜ wanted < c .messages ⌝ }
+    requires { ⌜ Valid (schemeOf c) (now key) ⌝ }
+    requires { ⌜ server < 16 ⌝ }
+    ensures { λ r. ⌜ r ≡ chain (historyFaults schemeOf c wanted (now (key .entry)) (now (issued .entry)) (now (taken .entry)) m
+        ++ (fullFault m server (schemeOf c .sizes .query) ∷ [])) ⌝ }
+{
+    if let Verdict::Refused(refusal) = history_verdict(c, query, wanted, key, issued, taken, m) {
+        return Verdict::Refused(refusal);
+    }
+    if session_parts::meter_full(m, server, query) {
+        return Verdict::Refused(Refusal::MeterFull);
+    }
+    Verdict::Accepted
 }
 
 // Whether the answer of a server is due.
 pub fn due_verdict<'a>(
-    servers: usize,
+    c: Catalogue,
+    query: usize,
+    wanted: usize,
+    key: &[u8],
     issued: &'a [bool; 16],
     taken: &'a [bool; 16],
+    m: Meters,
     server: usize,
 ) -> Verdict
+    requires { ⌜ Admitted c ⌝ }
+    requires { ⌜ query ≡ schemeOf c .sizes .query ⌝ }
+    requires { ⌜ wanted < c .messages ⌝ }
+    requires { ⌜ Valid (schemeOf c) (now key) ⌝ }
     requires { ⌜ server < 16 ⌝ }
-    ensures { λ r. ⌜ r ≡ chain (marksFault servers (now (issued .entry)) (now (taken .entry)) ∷ dueFaults (now (issued .entry)) (now (taken .entry)) server) ⌝ }
+    ensures { λ r. ⌜ r ≡ chain (historyFaults schemeOf c wanted (now (key .entry)) (now (issued .entry)) (now (taken .entry)) m
+        ++ dueFaults (now (issued .entry)) (now (taken .entry)) server) ⌝ }
 {
-    if let Verdict::Refused(refusal) = marks_verdict(servers, issued, taken) {
+    if let Verdict::Refused(refusal) = history_verdict(c, query, wanted, key, issued, taken, m) {
         return Verdict::Refused(refusal);
     }
     if !issued[server] {
@@ -120,14 +176,27 @@ pub fn due_verdict<'a>(
 }
 
 // Whether every answer was taken.
-pub fn missing_verdict<'a>(servers: usize, issued: &'a [bool; 16], taken: &'a [bool; 16]) -> Verdict
-    requires { ⌜ servers ≤ 16 ⌝ }
-    ensures { λ r. ⌜ r ≡ chain (marksFault servers (now (issued .entry)) (now (taken .entry)) ∷ missingFault servers (now (taken .entry)) ∷ []) ⌝ }
+pub fn missing_verdict<'a>(
+    c: Catalogue,
+    query: usize,
+    wanted: usize,
+    key: &[u8],
+    issued: &'a [bool; 16],
+    taken: &'a [bool; 16],
+    m: Meters,
+) -> Verdict
+    requires { ⌜ Admitted c ⌝ }
+    requires { ⌜ query ≡ schemeOf c .sizes .query ⌝ }
+    requires { ⌜ wanted < c .messages ⌝ }
+    requires { ⌜ Valid (schemeOf c) (now key) ⌝ }
+    requires { ⌜ c .servers ≤ 16 ⌝ }
+    ensures { λ r. ⌜ r ≡ chain (historyFaults schemeOf c wanted (now (key .entry)) (now (issued .entry)) (now (taken .entry)) m
+        ++ (missingFault (c .servers) (now (taken .entry)) ∷ [])) ⌝ }
 {
-    if let Verdict::Refused(refusal) = marks_verdict(servers, issued, taken) {
+    if let Verdict::Refused(refusal) = history_verdict(c, query, wanted, key, issued, taken, m) {
         return Verdict::Refused(refusal);
     }
-    if !session_parts::all_taken(servers, taken) {
+    if !session_parts::all_taken(c.servers, taken) {
         return Verdict::Refused(Refusal::Missing);
     }
     Verdict::Accepted

@@ -35,7 +35,7 @@ module _ (schemeOf : Catalogue → Scheme) (s : Session) (places : List ℕ) (sa
   issue-same day server buffer Accepted e =
       let f : Accepted ≡ issueVerdict schemeOf t day server (length buffer) = rw same e in
       rw (issue-by schemeOf t day server buffer Accepted f, issue-by schemeOf s day server buffer Accepted e)
-      (ap (λ (query : List ℕ). out Accepted (markIssued t server) (put 0 query buffer)) (query-same server))
+      (ap (λ (query : List ℕ). out Accepted (markIssued t server (codeOf schemeOf s .sizes .query)) (put 0 query buffer)) (query-same server))
   issue-same day server buffer (Refused refusal) e =
       let f : Refused refusal ≡ issueVerdict schemeOf t day server (length buffer) = rw same e in
       rw (issue-by schemeOf t day server buffer (Refused refusal) f, issue-by schemeOf s day server buffer (Refused refusal) e)

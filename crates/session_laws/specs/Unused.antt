@@ -12,7 +12,7 @@ use Rattle.session.specs.Calls.{Out, codeOf, keyOf, issue, takeAnswer, recover}
 
 -- the session with these places in its key's stead
 abbrev pub withPlaces : List ℕ → Session → Session
-withPlaces places s = record { catalogue = s .catalogue; wanted = s .wanted; key = places; issued = s .issued; taken = s .taken }
+withPlaces places s = record { catalogue = s .catalogue; wanted = s .wanted; key = places; issued = s .issued; taken = s .taken; meters = s .meters }
 
 -- the same in what a call hands back
 abbrev pub handedWith : List ℕ → Out → Out

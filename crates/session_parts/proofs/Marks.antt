@@ -5,7 +5,7 @@ use mathlib.Core.Bool.{Bool, true, false}
 use mathlib.Core.List.{List}
 use Prim.Native.Nat.{ℕ, _≤_, _<_}
 use native.Mathlib.Omega.{arith}
-use borrow.Author.Tests.{eqb-true, eqb-false, lt-ltb}
+use borrow.Author.Tests.{eqb-true, eqb-false, lt-ltb, ltb-true, not-true}
 use lib.Dec.{eqb}
 use lib.ListN.{length, set, length-set, length-replicate}
 use lib.Seq.{getD-set-same, getD-set-other}
@@ -18,6 +18,17 @@ pub record Marks (servers : ℕ) (issued taken : List Bool) : Type 0 where
   pub issued-long : length issued ≡ mostServers
   pub taken-long : length taken ≡ mostServers
   pub good : marksGood servers issued taken ≡ true
+
+-- an answer is taken only from a server
+pub taken-below : (servers : ℕ) (issued taken : List Bool) → marksGood servers issued taken ≡ true → (place : ℕ) → place < mostServers
+    → marked taken place ≡ true → place < servers
+unfolding marksGood
+taken-below servers issued taken good place h t =
+    go (marked issued place) (every-at mostServers (λ place. markGood servers place (marked issued place) (marked taken place)) good place h)
+  where
+    go : (b : Bool) → markGood servers place b (marked taken place) ≡ true → place < servers
+    go true e = ltb-true place servers e
+    go false e = let f = not-true (marked taken place) e in absurd (let z : _≡_ {A = ℕ} 0 1 = cc in let w : ⊥ = omega arith in w)
 
 pub none-marked : (place : ℕ) → marked noMarks place ≡ false
 unfolding noMarks

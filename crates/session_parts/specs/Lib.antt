@@ -1,2 +1,3 @@
 pub mod Marks
+pub mod Meters
 pub mod Places

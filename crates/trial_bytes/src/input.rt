@@ -17,9 +17,9 @@ pub struct Line {
     pub next: usize,
 }
 
-// The value with one digit more; a value of nine digits stays.
+// The value with one digit more; a value of ten digits stays.
 fn appended(value: usize, digit: u8) -> usize {
-    if value < 100000000 {
+    if value < 1000000000 {
         if 48 <= digit {
             let d = (digit - 48) as usize;
             return value * 10 + d;

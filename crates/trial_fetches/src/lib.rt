@@ -86,16 +86,19 @@ fn exchanges(
     so_far
 }
 
-// Recovers the message, and prints the verdict and the message.
+// Recovers the message, and prints the verdict, the message, and a sum of the meters.
 fn recovered(s: Session, answers: &[u8], message: &mut [u8]) {
     draw::fill(204, message);
     let handed = s.recover(answers, message);
     let verdict = handed.verdict;
     show::verdict(verdict);
     show::bytes(message);
+    let session = handed.session;
+    show::metered(session.meters);
 }
 
-// The exchanges and the recovery, after begin: the sums of queries and answers, the bytes received, recover's verdict and the message.
+// The exchanges and the recovery, after begin: the sums of queries and answers, the bytes received, recover's verdict and the message, and a sum of
+// the meters.
 fn rest(
     begun: Session,
     today: Day,

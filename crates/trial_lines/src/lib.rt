@@ -1,5 +1,6 @@
 // The lines of a conformance program's input that read a catalogue, or set what later calls are lent. Proved safe and to end, like all of the
 // test program; the other calls are `trial_calls`, whole fetches `trial_fetches`.
+use session::Session;
 use trial_bytes::draw;
 use trial_bytes::input::Line;
 use trials::fields;
@@ -54,6 +55,32 @@ pub fn on_buffer(
     s
 }
 
+// M: the session's meters.
+fn shown(session: Session) {
+    show::letter(b'M');
+    show::meters(session.meters);
+    show::end();
+}
+
+// Lines that set a field of the session, or show its meters.
+fn on_session_field(s: State, line: Line) -> State {
+    let session = s.session;
+    let letter = line.letter;
+    match letter {
+        b'v' => s.with_session(fields::wanted(session, line.a)),
+        b'y' => s.with_session(fields::key(session, line.a, line.b)),
+        b'u' => s.with_session(fields::issued(session, line.a, line.b)),
+        b'j' => s.with_session(fields::taken(session, line.a, line.b)),
+        b'U' => s.with_session(fields::sent(session, line.a, line.b)),
+        b'J' => s.with_session(fields::got(session, line.a, line.b)),
+        b'M' => {
+            shown(session);
+            s
+        }
+        _ => s,
+    }
+}
+
 // Lines that set the catalogue, days, lengths, or a field of the session, without a call on a session.
 pub fn on_field(s: State, line: Line) -> State {
     let session = s.session;
@@ -63,10 +90,6 @@ pub fn on_field(s: State, line: Line) -> State {
         b'g' => s.with_session(fields::catalogue(session, catalogues::catalogue_of(s.given, line))),
         b'f' | b'l' | b'n' => catalogues::set_day(s, line),
         b'p' | b'm' => catalogues::set_lengths(s, line),
-        b'v' => s.with_session(fields::wanted(session, line.a)),
-        b'y' => s.with_session(fields::key(session, line.a, line.b)),
-        b'u' => s.with_session(fields::issued(session, line.a, line.b)),
-        b'j' => s.with_session(fields::taken(session, line.a, line.b)),
-        _ => s,
+        _ => on_session_field(s, line),
     }
 }

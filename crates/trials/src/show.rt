@@ -8,6 +8,7 @@ use libc::STDOUT_FILENO;
 use refusal::Outcome;
 use refusal::Verdict;
 use session::Session;
+use session_parts::Meters;
 use symbol::Operation;
 
 // Prints a letter at the start of a line.
@@ -175,7 +176,50 @@ fn marks(all: &[bool; 16]) -> usize {
     out
 }
 
-// Prints a session: catalogue, wanted message, sum of the key's places, and the marks.
+fn wider(x: u32) -> usize {
+    x as usize
+}
+
+// The sum with the meters of a row, each as two numbers: its high half, then its low one.
+fn row_sum(start: u64, row: &[u32; 16]) -> u64 {
+    let mut out = start;
+    let mut i: usize = 0;
+    while i < 16 {
+        let bytes = wider(row[i]);
+        out = added(added(out, bytes / 65536), bytes);
+        i += 1;
+    }
+    out
+}
+
+// Prints a sum over all meters, those of the queries first.
+pub fn metered(m: Meters) {
+    let sent = m.sent;
+    let got = m.got;
+    total(row_sum(row_sum(0, &sent), &got));
+}
+
+// Prints a row of meters, one by one.
+fn row(meters: &[u32; 16]) {
+    let mut i: usize = 0;
+    while i < 16 {
+        number(wider(meters[i]));
+        i += 1;
+    }
+}
+
+// Prints all meters, a row in brackets for the queries and one for the answers.
+pub fn meters(m: Meters) {
+    let sent = m.sent;
+    let got = m.got;
+    io::write_all(STDOUT_FILENO, b" (");
+    row(&sent);
+    io::write_all(STDOUT_FILENO, b" ) (");
+    row(&got);
+    io::write_all(STDOUT_FILENO, b" )");
+}
+
+// Prints a session: catalogue, wanted message, sum of the key's places, the marks, and a sum of the meters.
 pub fn session(s: Session) {
     io::write_all(STDOUT_FILENO, b" [");
     let c = s.catalogue;
@@ -187,6 +231,7 @@ pub fn session(s: Session) {
     number(marks(&issued));
     let taken = s.taken;
     number(marks(&taken));
+    metered(s.meters);
     io::write_all(STDOUT_FILENO, b" ]");
 }
 

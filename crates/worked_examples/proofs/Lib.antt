@@ -1,4 +1,5 @@
 pub mod Cards
 pub mod Runs
+pub mod Counting
 pub mod Turned
 pub mod Rounds

@@ -29,6 +29,7 @@ use Rattle.codes.specs.Codes.{schemeOf}
 use Rattle.server.specs.Answering.{answerVerdict, answering}
 use Rattle.session.specs.Calls.{beginVerdict, begin, issueVerdict, issue, takeVerdict, takeAnswer, recoverVerdict, recover}
 use Rattle.session_parts.specs.Marks.{noMarks, marksGood, allTaken}
+use Rattle.session_parts.specs.Meters.{noBytes, metersGood}
 use Rattle.number_lists.specs.NumberLists.{afterSpaces, spaced, numeralFrom, numbersFrom, numbersAt}
 use Rattle.printing.specs.Input.{keyLine, linesAsk, inputAsks}
 use Rattle.printing.specs.Output.{queryLine, askedVerdict, queryLines, answerTo, printed}
@@ -63,5 +64,5 @@ pub table-four : Run (cat Round 2 2 1) letters (record {
 unfolding foremost allBelow stands distinct isPermutation range every sum roundFits roundSizes total totalFrom xorBytes answersIn isNone undated datesFit
     noLengths lengthsFit lengthOf sizesOf catalogueVerdict digitSum shortQuery shortAdmits shortAnswerLength named orZeros recovered shortRecover digits number
     shortKey roundQuery row roundAdmits rowLength lengthBefore rowAnswer roundAnswer answersTo roundRecover schemeOf answerVerdict answering beginVerdict begin
-    issueVerdict issue takeVerdict takeAnswer recoverVerdict recover noMarks marksGood allTaken flatMap
+    issueVerdict issue takeVerdict takeAnswer recoverVerdict recover noMarks marksGood noBytes metersGood allTaken flatMap
 table-four = record { server-0 = refl; server-1 = refl; buffers = refl }

@@ -32,6 +32,7 @@ use Rattle.codes.specs.Codes.{schemeOf}
 use Rattle.server.specs.Answering.{answerVerdict, answering}
 use Rattle.session.specs.Calls.{beginVerdict, begin, issueVerdict, issue, takeVerdict, takeAnswer, recoverVerdict, recover}
 use Rattle.session_parts.specs.Marks.{noMarks, marksGood, allTaken}
+use Rattle.session_parts.specs.Meters.{noBytes, metersGood}
 use Rattle.fetches.specs.Fetches.{issuing, taking, recovering, Fetch, Made, history}
 use Rattle.fetches.specs.Shown.{Shown, refused, asked, shownTo}
 
@@ -70,7 +71,8 @@ pub b2 : Run small store (anyDay 1 (153 ∷ []) (195 ∷ []))
 unfolding foremost allBelow range every shortFits shortSizes
     total totalFrom xorBytes answersIn isNone undated datesFit noLengths lengthsFit lengthOf sizesOf catalogueVerdict digitSum shortQuery
     shortAdmits shortAnswerLength named shortAnswer orZeros recovered shortRecover schemeOf
-    answerVerdict answering beginVerdict begin issueVerdict issue takeVerdict takeAnswer recoverVerdict recover noMarks marksGood allTaken flatMap
+    answerVerdict answering beginVerdict begin issueVerdict issue takeVerdict takeAnswer recoverVerdict recover
+    noMarks marksGood noBytes metersGood allTaken flatMap
 b2 = record { server-0 = refl; server-1 = refl; buffers = refl }
 
 -- B3: key 0. Server 0 gets the row of zeros and answers with no bytes
@@ -81,7 +83,8 @@ pub b3 : Run small store (anyDay 0 [] (90 ∷ []))
 unfolding foremost allBelow range every shortFits shortSizes
     total totalFrom xorBytes answersIn isNone undated datesFit noLengths lengthsFit lengthOf sizesOf catalogueVerdict digitSum shortQuery
     shortAdmits shortAnswerLength named shortAnswer orZeros recovered shortRecover schemeOf
-    answerVerdict answering beginVerdict begin issueVerdict issue takeVerdict takeAnswer recoverVerdict recover noMarks marksGood allTaken flatMap
+    answerVerdict answering beginVerdict begin issueVerdict issue takeVerdict takeAnswer recoverVerdict recover
+    noMarks marksGood noBytes metersGood allTaken flatMap
 b3 = record { server-0 = refl; server-1 = refl; buffers = refl }
 
 abbrev turning : Catalogue
@@ -101,7 +104,8 @@ pub b3-turned : Run turning store (record {
 unfolding foremost allBelow range every shortFits shortSizes turnSizes
     total totalFrom xorBytes answersIn isNone undated datesFit noLengths lengthsFit lengthOf sizesOf catalogueVerdict digitSum shortQuery
     shortAnswerLength named shortAnswer orZeros recovered shortRecover turnQuery turnAdmits byPart turnRecover schemeOf
-    answerVerdict answering beginVerdict begin issueVerdict issue takeVerdict takeAnswer recoverVerdict recover noMarks marksGood allTaken flatMap
+    answerVerdict answering beginVerdict begin issueVerdict issue takeVerdict takeAnswer recoverVerdict recover
+    noMarks marksGood noBytes metersGood allTaken flatMap
 b3-turned = record { server-0 = refl; server-1 = refl; buffers = refl }
 
 -- two servers that add, two messages of one symbol of two bytes: the words 255 and 1
@@ -125,7 +129,8 @@ pub added : Run adding words (record {
 unfolding foremost allBelow range every shortFits shortSizes
     total totalFrom onWords answersIn isNone undated datesFit noLengths lengthsFit lengthOf sizesOf catalogueVerdict digitSum shortQuery
     shortAdmits shortAnswerLength named shortAnswer orZeros recovered shortRecover schemeOf
-    answerVerdict answering beginVerdict begin issueVerdict issue takeVerdict takeAnswer recoverVerdict recover noMarks marksGood allTaken flatMap
+    answerVerdict answering beginVerdict begin issueVerdict issue takeVerdict takeAnswer recoverVerdict recover
+    noMarks marksGood noBytes metersGood allTaken flatMap
 added = record { server-0 = refl; server-1 = refl; buffers = refl }
 
 -- ---- a season of two days, from the leap day of 2096 on
@@ -154,7 +159,8 @@ unfolding stands foremost allBelow range every shortFits shortSizes
     total totalFrom xorBytes answersIn leapYear daysIn realDay before inSeason isNone undated datesFit
     noLengths lengthsFit lengthOf sizesOf catalogueVerdict digitSum shortQuery
     shortAdmits shortAnswerLength named shortAnswer orZeros recovered shortRecover schemeOf
-    answerVerdict answering beginVerdict begin issueVerdict issue takeVerdict takeAnswer recoverVerdict recover noMarks marksGood allTaken flatMap
+    answerVerdict answering beginVerdict begin issueVerdict issue takeVerdict takeAnswer recoverVerdict recover
+    noMarks marksGood noBytes metersGood allTaken flatMap
 in-season = record { server-0 = refl; server-1 = refl; buffers = refl }
 
 -- the same fetch where server 0 is asked on the last day and answers on the closing day, and server 1 is asked on a day that is not real: server 0
@@ -167,7 +173,8 @@ unfolding stands foremost allBelow range every shortFits shortSizes
     total totalFrom xorBytes answersIn leapYear daysIn realDay before inSeason isNone undated datesFit
     noLengths lengthsFit lengthOf sizesOf catalogueVerdict digitSum shortQuery
     shortAdmits shortAnswerLength named shortAnswer orZeros recovered shortRecover schemeOf
-    answerVerdict answering beginVerdict begin issueVerdict issue takeVerdict takeAnswer recoverVerdict recover noMarks marksGood allTaken flatMap
+    answerVerdict answering beginVerdict begin issueVerdict issue takeVerdict takeAnswer recoverVerdict recover
+    noMarks marksGood noBytes metersGood allTaken flatMap
 out-of-season = record { server-0 = refl; server-1 = refl; buffers = refl }
 
 -- ---- where a message ends
@@ -199,5 +206,6 @@ pub cut-short : Run measured words (record {
 unfolding foremost allBelow range every shortFits shortSizes
     total totalFrom onWords answersIn isNone undated datesFit lengthsFit lengthOf sizesOf catalogueVerdict digitSum shortQuery
     shortAdmits shortAnswerLength named shortAnswer orZeros recovered shortRecover schemeOf
-    answerVerdict answering beginVerdict begin issueVerdict issue takeVerdict takeAnswer recoverVerdict recover noMarks marksGood allTaken flatMap
+    answerVerdict answering beginVerdict begin issueVerdict issue takeVerdict takeAnswer recoverVerdict recover
+    noMarks marksGood noBytes metersGood allTaken flatMap
 cut-short = record { server-0 = refl; server-1 = refl; buffers = refl }

@@ -4,6 +4,7 @@ use crate::catalogue::{CODES, Catalogue, Short, ZERO, admitted, in_season, judge
 use crate::codes::answering;
 use crate::days::{Day, NO_DAY};
 use crate::draws::{drawn_key, fill_drawn};
+use crate::meters::Meters;
 use crate::session::{Session, begin, blank};
 use crate::sizes::{key_length, pack_end, pack_length, pieces, request_length, slot};
 use crate::text::{lines, read, write_text};
@@ -33,9 +34,22 @@ fn shown_catalogue(c: Catalogue) -> String {
     format!("{} {}", given(c), numbers.iter().map(|x| x.to_string()).collect::<Vec<_>>().join(" "))
 }
 
+/// The sum of all meters, those of the requests first, each as two numbers: what is above 16 bits, and what is not.
+fn metered(s: &Session) -> u64 {
+    let Meters { sent, got } = s.meters();
+    sent.into_iter().chain(got).flat_map(|x| [x >> 16, x & 65535]).fold(0, |sum, half| (sum * 257 + half as u64 + 1) % 1000003)
+}
+
+/// All meters, one by one.
+fn shown_meters(Meters { sent, got }: Meters) -> String {
+    let row = |meters: [usize; 16]| meters.map(|x| x.to_string()).join(" ");
+    format!("M ( {} ) ( {} )\n", row(sent), row(got))
+}
+
 fn shown_session(s: &Session) -> String {
     let marks = |all: [bool; 16]| all.iter().fold(0, |out, &m| out * 2 + m as usize);
-    format!("[ {} {} {} {} {} ]", shown_catalogue(s.cat), s.wanted, sum(0, &s.key), marks(s.issued), marks(s.taken))
+    let marks = [s.marks.issued, s.marks.taken].map(marks);
+    format!("[ {} {} {} {} {} {} ]", shown_catalogue(s.cat), s.wanted, sum(0, &s.key), marks[0], marks[1], metered(s))
 }
 
 fn verdict(result: Result<(), u8>) -> u8 {
@@ -114,8 +128,11 @@ impl Bench {
             "g" => self.session.cat = cat,
             "v" => self.session.wanted = a,
             "y" => self.session.key[a] = b as u8,
-            "u" => self.session.issued[a] = b != 0,
-            "j" => self.session.taken[a] = b != 0,
+            "u" => self.session.marks.issued[a] = b != 0,
+            "j" => self.session.marks.taken[a] = b != 0,
+            "U" => self.session.history.forge(|meters| meters.sent[a] = b % (1 << 32)),
+            "J" => self.session.history.forge(|meters| meters.got[a] = b % (1 << 32)),
+            "M" => return shown_meters(self.session.meters()),
             "x" => return self.whole(a, b),
             _ => return self.call(letter, a, b, c),
         }
@@ -206,7 +223,9 @@ impl Bench {
         let (number, written) = if message.len() < meant.len() { (9, 0) } else { season.map_or((12, 0), |_| (0, meant.len())) };
         assert_eq!((gave, &message[..written]), (number, &meant[..written]));
         assert!(message[written..].iter().all(|&b| b == 204));
-        format!("x 0 {queries} {answers} {received} {gave} {}\n", shown_bytes(message))
+        let Meters { sent, got } = session.meters();
+        assert_eq!((sent.iter().sum(), got.iter().sum()), season.map_or((0, 0), |_| (cat.n * asked, received)));
+        format!("x 0 {queries} {answers} {received} {gave} {} {}\n", shown_bytes(message), metered(&session))
     }
 }
 
@@ -224,6 +243,7 @@ pub fn expected(input: &[u8]) -> Bytes {
                 let (letter, numbers) = line.split_at(1);
                 let mut five = [0; 5];
                 for (place, word) in five.iter_mut().zip(numbers.split_whitespace()) {
+                    assert!(word.len() <= 10, "a program reads ten digits: {line}");
                     *place = word.parse().unwrap();
                 }
                 out.extend(bench.line(letter, five).bytes());

@@ -7,12 +7,15 @@ mod refusals;
 mod seasons;
 mod lengths;
 mod sessions;
+mod meters;
+mod limits;
 
 use crate::Bytes;
 use crate::bench::given;
 use crate::catalogue::{Catalogue, Even, Round, Short, Turn, ZERO, adding, dated, has_dates, measured, plain};
+use crate::codes::{answer_length, request};
 use crate::days::{Day, spelled};
-use crate::draws::Draw;
+use crate::draws::{Draw, drawn_key};
 use crate::samples::lengths::with_some;
 use crate::samples::seasons::SEASONS;
 use crate::sizes::{key_length, pack_length, slot};
@@ -20,6 +23,11 @@ use crate::sizes::{key_length, pack_length, slot};
 /// A length that a mirror's answer may have: in the round code the only one, in the even code, too; in the others it may be empty as well.
 pub fn some_answer(c: Catalogue, mirror: usize) -> usize {
     slot(c) - if c.code == Round && mirror == 0 { c.s } else { 0 }
+}
+
+/// The length of the answer that a mirror's request calls for, by the key that is drawn from a number.
+pub fn called(c: Catalogue, wanted: usize, seed: usize, mirror: usize) -> usize {
+    answer_length(c, &request(c, wanted, mirror, &drawn_key(seed as u64, c, key_length(c))))
 }
 
 /// A catalogue in the title of a section.
@@ -134,7 +142,7 @@ impl Cases {
 }
 
 /// The lines of a program: `conformance` has the codes of document 01 with all that the requests add to them, `conformance_codes` the codes that the
-/// requests add. The outputs of both together are longer than a program's may be.
+/// requests add, `conformance_meters` the meters, in all codes. Their outputs together are longer than a program's may be.
 pub fn cases(program: &str) -> Bytes {
     let mut cases = Cases { out: Vec::new(), draw: Draw(7), last: ZERO };
     match program {
@@ -143,6 +151,7 @@ pub fn cases(program: &str) -> Bytes {
             turning(&mut cases);
             going_round(&mut cases);
         }
+        "conformance_meters" => limits::metering(&mut cases),
         _ => panic!("no such program: {program}"),
     }
     cases.out

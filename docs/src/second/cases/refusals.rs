@@ -1,6 +1,6 @@
 //! Every refusal of every call, from both sides, and each beside the others.
 use crate::bench::given;
-use crate::cases::{Cases, some_answer, titled};
+use crate::cases::{Cases, called, some_answer, titled};
 use crate::catalogue::{Catalogue, Round, Turn, adding, admitted};
 use crate::codes::request;
 use crate::draws::drawn_key;
@@ -76,26 +76,34 @@ impl Cases {
             (set_cat(c.n, c.k, 4097), set_cat(c.n, c.k, c.s)),
             (set_cat(c.n, 1, c.s), set_cat(c.n, c.k, c.s)),
             (format!("v {}", c.k), "v 0".to_string()),
-            ("u 0 0".to_string(), "u 0 1".to_string()),
-            ("j 0 0".to_string(), "j 0 1".to_string()),
+            ("u 0 0\nU 0 0".to_string(), format!("u 0 1\nU 0 {asked}")),
+            ("j 0 0\nJ 0 0".to_string(), format!("j 0 1\nJ 0 {}", called(c, 0, 3, 0))),
             ("y 2047 9".to_string(), "y 2047 0".to_string()),
-            (format!("y 0 {most}"), format!("y 0 {}", if c.code == Round { key[0] as usize } else { most - 1 })),
+            (format!("y 0 {most}"), format!("y 0 {}", if permuted(c) { key[0] as usize } else { most - 1 })),
         ];
+        if permuted(c) {
+            // an entry twice
+            sets.push((format!("y 0 {}", key[1]), format!("y 0 {}", key[0])));
+        }
         if c.code == Turn {
             let (turn, unused) = (c.k - 1, c.k);
             sets.push((format!("y {turn} {most}"), format!("y {turn} 1")));
             sets.push((format!("y {unused} 255"), format!("y {unused} 0")));
         }
         if c.code == Round {
-            // an entry twice, an entry of two bits more, and the first place that is not used
+            // an entry of two bits more, and the first place that is not used
             let (last, unused) = (key_length(c) - 1, key_length(c));
-            sets.push((format!("y 0 {}", key[1]), format!("y 0 {}", key[0])));
             sets.push((format!("y {last} {}", key[last] | 192), format!("y {last} {}", key[last])));
             sets.push((format!("y {unused} 255"), format!("y {unused} 0")));
         }
         if c.n < 16 {
-            sets.push((format!("u {} 1", c.n), format!("u {} 0", c.n)));
-            sets.push(("j 15 1".to_string(), "j 15 0".to_string()));
+            // marks of no mirror, with the meters at 0, and with what they would come to
+            for bytes in [0, asked] {
+                sets.push((format!("u {0} 1\nU {0} {bytes}", c.n), format!("u {0} 0\nU {0} 0", c.n)));
+            }
+            for bytes in [0, slot(c)] {
+                sets.push((format!("j 15 1\nJ 15 {bytes}"), "j 15 0\nJ 15 0".to_string()));
+            }
         }
         for (set, undo) in sets {
             self.put(format!("{set}\n{calls}\n{undo}"));
@@ -189,8 +197,10 @@ impl Cases {
         let (asked, room, slots, pack) = (request_length(two), slot(two), two.n * slot(two), pack_end(two, 1));
         for &c in held {
             self.hold(c);
-            // nothing else, then 4, 6, 11 by a mark, 11 or 12 by a mark; with each 3, 9, 10
-            for (set, undo) in [("v 1", "v 1"), ("v 9", "v 1"), ("y 0 255", "y 0 0"), ("u 0 0", "u 0 1"), ("j 0 0", "j 0 1")] {
+            // nothing else, then 4, 6, 11 by a mark, 11 or 12 by a mark, the meters as the marks have it; with each 3, 9, 10
+            let (issued, taken) = (format!("u 0 1\nU 0 {asked}"), format!("j 0 1\nJ 0 {}", called(two, 1, 0, 0)));
+            let marks = [("u 0 0\nU 0 0", &issued[..]), ("j 0 0\nJ 0 0", &taken)];
+            for (set, undo) in [("v 1", "v 1"), ("v 9", "v 1"), ("y 0 255", "y 0 0")].into_iter().chain(marks) {
                 self.put(format!("{set}\ni 0 {asked}\ni {} {asked}\ni 0 0", two.n));
                 self.put(format!("h 1 {room} {slots}\nh {0} {room} {slots}\nh 1 {room} 0\nh 1 {1} {slots}", two.n, room + 1));
                 self.put(format!("r {slots} {pack}\nr 0 {pack}\nr {slots} 0\n{undo}"));

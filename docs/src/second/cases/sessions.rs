@@ -1,5 +1,5 @@
 //! Sessions with calls in any order, recovery with other lengths, the same exchanges with lengths and without.
-use crate::cases::{Cases, some_answer, titled};
+use crate::cases::{Cases, called, some_answer, titled};
 use crate::catalogue::{Catalogue, has_dates, measured};
 use crate::days::{Day, later};
 use crate::draws::drawn_key;
@@ -34,7 +34,8 @@ impl Cases {
         }
         let (length, less, few) = (lengths[wanted], lengths[wanted] - 1, slots - 1);
         let (back, digit) = (format!("v {wanted}"), format!("y 0 {}", drawn_key(key as u64, c, key_length(c))[0]));
-        for (set, undo) in [("v 99", &back[..]), ("y 0 255", &digit), ("u 0 0", "u 0 1"), ("j 0 0", "j 0 1")] {
+        let (issued, taken) = (format!("u 0 1\nU 0 {asked}"), format!("j 0 1\nJ 0 {}", called(c, wanted, key, 0)));
+        for (set, undo) in [("v 99", &back[..]), ("y 0 255", &digit), ("u 0 0\nU 0 0", &issued), ("j 0 0\nJ 0 0", &taken)] {
             self.put(format!("{set}\nr {slots} {length}\nr {slots} {less}\nr {few} {length}\nr {few} {less}\nr {slots} 0\n{undo}"));
         }
     }

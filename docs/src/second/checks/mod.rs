@@ -3,6 +3,7 @@ mod papers;
 mod rules;
 mod turns;
 mod rounds;
+mod meters;
 
 use crate::Bytes;
 use crate::catalogue::{Catalogue, Even, Round, Short, Turn, adding, admitted, dated, has_dates, measured, plain};
@@ -28,9 +29,10 @@ pub fn all() {
     rules::days();
     rules::season_rules();
     rules::length_rules();
+    meters::meters();
     fetches();
     cut_packs();
-    println!("second implementation: the papers' tables, the bench cards, balancing digits, turns, rounds, the calendar, lengths and whole fetches agree");
+    println!("second implementation: papers' tables, bench cards, balancing digits, turns, rounds, calendar, lengths, meters and whole fetches agree");
 }
 
 /// The sum of 02, item 2, by its words: low byte first, carried into the high one, wrapping at 65,536, nothing carried into the next word.

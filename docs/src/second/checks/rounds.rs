@@ -237,7 +237,7 @@ fn taken() {
             session.take(mirror, &got, &mut buffer).unwrap();
         }
         let meant = &store[pack_length(c)..2 * pack_length(c)];
-        let recovered = |buffer: &[u8]| {
+        let mut recovered = |buffer: &[u8]| {
             let mut pack = vec![9; pack_length(c)];
             session.recover(buffer, &mut pack).unwrap();
             pack

@@ -1,8 +1,10 @@
 -- `session::Session::issue` meets its contract: it goes by its verdict.
 use native.Mathlib.Omega.{arith}
 use mathlib.Core.Path.{refl, sym, _∙_}
+use Prim.Native.Nat.{_+_, _≤_}
 use lib.ListN.{length}
 use Rattle.codes.specs.Codes.{schemeOf}
+use Rattle.session_parts.specs.Meters.{mostBytes, counted}
 use Rattle.session.proofs.Issue.{issue-passed, issue-goes}
 use Rattle.session_checks.proofs.Keys.{sizes-small}
 use Rattle.session.proofs.Places.{key-places}
@@ -42,13 +44,14 @@ write-query-requires c κs =
 
 mark-issued-requires : tie.Need-mark-issued-requires
 mark-issued-requires c κs =
-    let told = c .before .before .before .before .before .before in
+    let written = c .before .before in
+    let told = written .before .before .before .before in
     let asked = told .before .before in
-    let start = asked .before .before in
-    let args = start .args in
+    let args = asked .before .before .args in
     let v = asked .issue-verdict in
     let i = issue-passed schemeOf (args .self) (args .today) (args .server) (length (args .query .now)) (sym (v .ensures) ∙ told .enum-told2 .given .1) in
-    omega (arith, i .below, sizes-small (args .self .catalogue) (schemeOf (args .self .catalogue) .sizes) (i .sound .admitted) refl .servers)
+    let counts : counted (args .self .meters .sent) (args .server) + written .write-query .result ≤ mostBytes = rw (written .write-query .ensures .0) (i .counts) in
+    (omega (arith, i .below, sizes-small (args .self .catalogue) (schemeOf (args .self .catalogue) .sizes) (i .sound .admitted) refl .servers), counts)
 
 same-length : tie.Need-same-length
 same-length c = search needs
@@ -61,9 +64,9 @@ returns-2 c =
     let start = asked .before .before in
     let args = start .args in
     let v = asked .issue-verdict in
-    rw (c .mark-issued .ensures)
+    rw (c .mark-issued .ensures, written .write-query .ensures .0)
     (issue-goes schemeOf (args .self) (args .today) (args .server) (args .query .now) .done (v .result) _ (v .ensures) (told .enum-told2 .given .1)
-    (written .write-query .ensures))
+    (written .write-query .ensures .1))
 
 pub issue-spec : {M : Type 1} → statement M
 issue-spec =

@@ -1,4 +1,4 @@
--- `session::Session::take` meets its contract: it goes by its verdict, and the answer fits the server's slot.
+-- `session::Session::take` meets its contract: it goes by its verdict, and the answer fits the server's slot and its meter.
 use native.Mathlib.Omega.{arith}
 use mathlib.Core.Path.{sym, ap, _∙_}
 use Prim.Native.Nat.{_*_}
@@ -10,7 +10,7 @@ use Rattle.codes.specs.Codes.{schemeOf}
 use Rattle.session.proofs.Take.{take-passed, take-goes}
 use Rattle.session.proofs.Places.{key-places}
 use Rattle.session_checks.proofs.Keys.{sizes-small}
-use Rattle.session.proofs.Promised.{slot-holds}
+use Rattle.session.proofs.Promised.{slot-holds, meter-holds}
 use borrow.Author.Needs.{needs}
 use Rattle.session.proofs.Session.take.Statement.{statement}
 use Rattle.session.proofs.Session.take.Tie as tie
@@ -81,9 +81,12 @@ mark-taken-requires c κs =
     let args = start .args in
     let v = asked .take-verdict in
     let sizes = sized .sizes-of in
-    let t = take-passed schemeOf (args .self) (args .server) (length (args .answer .now)) (length (args .answers .now))
-    (sym (v .ensures) ∙ told .enum-told2 .given .1) in
-    omega (arith, t .below, sizes-small (args .self .catalogue) (sizes .result) (t .sound .admitted) (sizes .ensures) .servers)
+    let accepted = sym (v .ensures) ∙ told .enum-told2 .given .1 in
+    let t = take-passed schemeOf (args .self) (args .server) (length (args .answer .now)) (length (args .answers .now)) accepted in
+    let long = key-places (args .self) _ (start .good .0) in (
+      omega (arith, t .below, sizes-small (args .self .catalogue) (sizes .result) (t .sound .admitted) (sizes .ensures) .servers),
+      meter-holds (args .self) long (args .server) (length (args .answer .now)) (length (args .answers .now)) accepted,
+    )
 
 same-length : tie.Need-same-length
 same-length c = search needs

@@ -1,13 +1,16 @@
--- `session::verdicts::issue_verdict` meets its contract: the first faults are `served_verdict`'s, the last `marks_verdict`'s.
-use mathlib.Core.Path.{_≡_, refl, sym, _∙_}
+-- `session::verdicts::issue_verdict` meets its contract: the first faults are `served_verdict`'s, the last `sent_verdict`'s.
+use mathlib.Core.Path.{_≡_, refl, sym, ap, _∙_}
+use native.Mathlib.Omega.{arith}
 use borrow.Author.Needs.{needs}
 use borrow.Author.Tests.{lt-ltb, le-ltb}
 use Rattle.refusal.specs.declared.Verdict.the-variants.{Accepted}
 use Rattle.refusal.specs.Foremost.{foremost}
 use Rattle.refusal.proofs.Foremost.{after-first}
+use Rattle.parameters.specs.declared.Sizes.{Sizes}
 use Rattle.codes.specs.Codes.{schemeOf}
 use Rattle.session.specs.Calls.{askFaultsOn, issueVerdict}
 use Rattle.session_checks.proofs.Links.{Asks, served-passed}
+use Rattle.session_checks.proofs.Keys.{sizes-small, key-fits, key-count, key-valid}
 use Rattle.session.proofs.Places.{key-places}
 use Rattle.session.proofs.verdicts.issue_verdict.Statement.{statement}
 use Rattle.session.proofs.verdicts.issue_verdict.Tie as tie
@@ -53,16 +56,44 @@ returns-2 c =
     let sized = c .before .before in
     after-first _ _ refl refl Accepted _ (sym (accepted (sized .before .before))) (rw (← sized .sizes-of .ensures, lt-ltb _ _ (c .if1 .taken)))
 
-marks-verdict-requires : tie.Need-marks-verdict-requires
-marks-verdict-requires c κs = search needs
+array-share-prefix-key : tie.Need-array-share-prefix-key
+array-share-prefix-key c =
+    let sized = c .before .before .before in
+    let told = sized .before .before in
+    let start = told .before .before .before .before .before .before in
+    let s = start .args .t1 in
+    key-fits (s .catalogue) (s .key) (key-places s _ (start .good .0)) (sized .sizes-of .result) (asks told .holds .admitted) (sized .sizes-of .ensures)
+
+slice-aggregate-sent-verdict : tie.Need-slice-aggregate-sent-verdict
+slice-aggregate-sent-verdict c =
+    let sized = c .before .before .before .before in
+    let told = sized .before .before in
+    let start = told .before .before .before .before .before .before in
+    let s = start .args .t1 in
+    sym (key-count (s .catalogue) (s .key) (key-places s _ (start .good .0)) (sized .sizes-of .result) (asks told .holds .admitted) (sized .sizes-of .ensures))
+
+sent-verdict-requires : tie.Need-sent-verdict-requires
+sent-verdict-requires c κs =
+    let sized = c .before .before .before .before .before .before .before .before in
+    let told = sized .before .before in
+    let start = told .before .before .before .before .before .before in
+    let s = start .args .t1 in
+    let long = key-places s _ (start .good .0) in
+    let sizes = sized .sizes-of in
+    let passed = asks told in
+    let holds = passed .holds in
+    let valid = key-valid (s .catalogue) (s .key) long (sizes .result) (holds .admitted) (sizes .ensures) (holds .good) in
+    let few = sizes-small (s .catalogue) (sizes .result) (holds .admitted) (sizes .ensures) .servers in
+    (holds .admitted, (ap (λ (z : Sizes). z .query) (sizes .ensures), (holds .inside, (valid, omega (arith, passed .below, few)))))
 
 returns-3 : tie.Need-returns-3
 unfolding issueVerdict
 returns-3 c =
-    let first = c .before .before .before .before in
+    let first = c .before .before .before .before .before .before .before in
     let sized = first .before .before in
+    let roomy = rw (sized .sizes-of .ensures) at (first .if1 .left) in
     after-first _ _ refl refl Accepted _ (sym (accepted (sized .before .before)))
-    (rw (← sized .sizes-of .ensures, le-ltb _ _ (first .if1 .left)) (c .marks-verdict .ensures))
+    (rw (le-ltb _ _ roomy) (rw (sized .sizes-of .ensures) at (c .sent-verdict .ensures)))
 
 pub issue-verdict-spec : {M : Type 1} → statement M
 issue-verdict-spec =
@@ -75,5 +106,7 @@ issue-verdict-spec =
     enum-told
     sizes-of-requires
     returns-2
-    marks-verdict-requires
+    array-share-prefix-key
+    slice-aggregate-sent-verdict
+    sent-verdict-requires
     returns-3)

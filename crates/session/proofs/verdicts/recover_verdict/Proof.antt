@@ -1,16 +1,17 @@
 -- `session::verdicts::recover_verdict` meets its contract: the first faults are `session_verdict`'s, the last `missing_verdict`'s.
-use mathlib.Core.Path.{_≡_, refl, sym, _∙_}
+use mathlib.Core.Path.{_≡_, refl, sym, ap, _∙_}
 use native.Mathlib.Omega.{arith}
 use borrow.Author.Needs.{needs}
 use borrow.Author.Tests.{lt-ltb, le-ltb}
 use Rattle.refusal.specs.declared.Verdict.the-variants.{Accepted}
 use Rattle.refusal.specs.Foremost.{foremost}
 use Rattle.refusal.proofs.Foremost.{after-first}
+use Rattle.parameters.specs.declared.Sizes.{Sizes}
 use Rattle.catalogue.specs.Catalogue.{Admitted}
 use Rattle.codes.specs.Codes.{schemeOf}
 use Rattle.session.specs.Calls.{ownFaults, recoverVerdict}
 use Rattle.session_checks.proofs.Links.{session-passed}
-use Rattle.session_checks.proofs.Keys.{sizes-small}
+use Rattle.session_checks.proofs.Keys.{sizes-small, key-fits, key-count, key-valid}
 use Rattle.session.proofs.Places.{key-places}
 use Rattle.session.proofs.verdicts.recover_verdict.Statement.{statement}
 use Rattle.session.proofs.verdicts.recover_verdict.Tie as tie
@@ -71,27 +72,46 @@ returns-3 c =
     after-first _ _ refl refl Accepted _ (sym (accepted (sized .before .before)))
     (rw (← measured .message-length .ensures, ← sized .sizes-of .ensures, le-ltb _ _ (first .if1 .left), lt-ltb _ _ (c .if2 .taken)))
 
+array-share-prefix-key : tie.Need-array-share-prefix-key
+array-share-prefix-key c =
+    let sized = c .before .before .before .before .before .before in
+    let told = sized .before .before in
+    let start = told .before .before .before .before .before .before in
+    let s = start .args .t1 in
+    key-fits (s .catalogue) (s .key) (key-places s _ (start .good .0)) (sized .sizes-of .result) (admitted told) (sized .sizes-of .ensures)
+
+slice-aggregate-missing-verdict : tie.Need-slice-aggregate-missing-verdict
+slice-aggregate-missing-verdict c =
+    let sized = c .before .before .before .before .before .before .before in
+    let told = sized .before .before in
+    let start = told .before .before .before .before .before .before in
+    let s = start .args .t1 in
+    sym (key-count (s .catalogue) (s .key) (key-places s _ (start .good .0)) (sized .sizes-of .result) (admitted told) (sized .sizes-of .ensures))
+
 missing-verdict-requires : tie.Need-missing-verdict-requires
 missing-verdict-requires c κs =
-    let sized = c .before .before .before .before .before .before .before .before in
+    let sized = c .before .before .before .before .before .before .before .before .before .before .before in
     let told = sized .before .before in
-    let s = told .before .before .before .before .before .before .args .t1 in
-    omega (arith, sizes-small (s .catalogue) (sized .sizes-of .result) (admitted told) (sized .sizes-of .ensures) .servers)
+    let start = told .before .before .before .before .before .before in
+    let s = start .args .t1 in
+    let long = key-places s _ (start .good .0) in
+    let sizes = sized .sizes-of in
+    let holds = session-passed schemeOf (s .catalogue) (s .wanted) (s .key) (accepted told) in
+    let valid = key-valid (s .catalogue) (s .key) long (sizes .result) (holds .admitted) (sizes .ensures) (holds .good) in
+    let few = sizes-small (s .catalogue) (sizes .result) (holds .admitted) (sizes .ensures) .servers in
+    (holds .admitted, (ap (λ (z : Sizes). z .query) (sizes .ensures), (holds .inside, (valid, few))))
 
 returns-4 : tie.Need-returns-4
 unfolding recoverVerdict
 returns-4 c =
-    let second = c .before .before .before .before in
+    let second = c .before .before .before .before .before .before .before in
     let measured = second .before in
-    let first = second .before .before .before in
-    let sized = first .before .before in
+    let tested = measured .before .before in
+    let sized = tested .before .before in
+    let slots = rw (sized .sizes-of .ensures) at (tested .if1 .left) in
+    let roomy = rw (measured .message-length .ensures) at (second .if2 .left) in
     after-first _ _ refl refl Accepted _ (sym (accepted (sized .before .before)))
-    (rw (
-      ← measured .message-length .ensures,
-      ← sized .sizes-of .ensures,
-      le-ltb _ _ (first .if1 .left),
-      le-ltb _ _ (second .if2 .left),
-    ) (c .missing-verdict .ensures))
+    (rw (le-ltb _ _ slots, le-ltb _ _ roomy) (rw (sized .sizes-of .ensures) at (c .missing-verdict .ensures)))
 
 pub recover-verdict-spec : {M : Type 1} → statement M
 recover-verdict-spec =
@@ -107,5 +127,7 @@ recover-verdict-spec =
     returns-2
     message-length-requires
     returns-3
+    array-share-prefix-key
+    slice-aggregate-missing-verdict
     missing-verdict-requires
     returns-4)

@@ -1,15 +1,16 @@
 -- `session::verdicts::take_verdict` meets its contract: the first faults are `server_verdict`'s, the last `due_verdict`'s.
-use mathlib.Core.Path.{_≡_, refl, sym, _∙_}
+use mathlib.Core.Path.{_≡_, refl, sym, ap, _∙_}
 use native.Mathlib.Omega.{arith}
 use borrow.Author.Needs.{needs}
 use borrow.Author.Tests.{lt-ltb, le-ltb, eq-eqb, ne-eqb}
 use Rattle.refusal.specs.declared.Verdict.the-variants.{Accepted}
 use Rattle.refusal.specs.Foremost.{foremost}
 use Rattle.refusal.proofs.Foremost.{after-first}
+use Rattle.parameters.specs.declared.Sizes.{Sizes}
 use Rattle.codes.specs.Codes.{schemeOf}
 use Rattle.session.specs.Calls.{askFaults, takeVerdict}
 use Rattle.session_checks.proofs.Links.{Asks, server-passed}
-use Rattle.session_checks.proofs.Keys.{sizes-small}
+use Rattle.session_checks.proofs.Keys.{sizes-small, key-fits, key-count, key-valid}
 use Rattle.session.proofs.Places.{key-places}
 use Rattle.session.proofs.verdicts.take_verdict.Statement.{statement}
 use Rattle.session.proofs.verdicts.take_verdict.Tie as tie
@@ -81,25 +82,46 @@ returns-3 c =
     after-first _ _ refl refl Accepted _ (sym (accepted (sized .before .before)))
     (rw (← checked .answer-length .ensures, ne-eqb _ _ (c .if2 .taken), ← sized .sizes-of .ensures, le-ltb _ _ (first .if1 .left)))
 
+array-share-prefix-key : tie.Need-array-share-prefix-key
+array-share-prefix-key c =
+    let sized = c .before .before .before .before .before .before .before in
+    let told = sized .before .before in
+    let start = told .before .before .before .before .before .before in
+    let s = start .args .t1 in
+    key-fits (s .catalogue) (s .key) (key-places s _ (start .good .0)) (sized .sizes-of .result) (asks told .holds .admitted) (sized .sizes-of .ensures)
+
+slice-aggregate-due-verdict : tie.Need-slice-aggregate-due-verdict
+slice-aggregate-due-verdict c =
+    let sized = c .before .before .before .before .before .before .before .before in
+    let told = sized .before .before in
+    let start = told .before .before .before .before .before .before in
+    let s = start .args .t1 in
+    sym (key-count (s .catalogue) (s .key) (key-places s _ (start .good .0)) (sized .sizes-of .result) (asks told .holds .admitted) (sized .sizes-of .ensures))
+
 due-verdict-requires : tie.Need-due-verdict-requires
 due-verdict-requires c κs =
-    let first = c .before .before .before .before .before .before .before in
-    let sized = first .before .before in
+    let sized = c .before .before .before .before .before .before .before .before .before .before .before .before in
     let told = sized .before .before in
+    let start = told .before .before .before .before .before .before in
+    let s = start .args .t1 in
+    let long = key-places s _ (start .good .0) in
+    let sizes = sized .sizes-of in
     let passed = asks told in
-    let s = told .before .before .before .before .before .before .args .t1 in
-    omega (arith, passed .below, sizes-small (s .catalogue) (sized .sizes-of .result) (passed .holds .admitted) (sized .sizes-of .ensures) .servers)
+    let holds = passed .holds in
+    let valid = key-valid (s .catalogue) (s .key) long (sizes .result) (holds .admitted) (sizes .ensures) (holds .good) in
+    let few = sizes-small (s .catalogue) (sizes .result) (holds .admitted) (sizes .ensures) .servers in
+    (holds .admitted, (ap (λ (z : Sizes). z .query) (sizes .ensures), (holds .inside, (valid, omega (arith, passed .below, few)))))
 
 returns-4 : tie.Need-returns-4
 unfolding takeVerdict
 returns-4 c =
-    let second = c .before .before .before .before in
+    let second = c .before .before .before .before .before .before .before in
     let checked = second .before in
     let first = checked .before .before .before in
     let sized = first .before .before in
+    let roomy = rw (sized .sizes-of .ensures) at (first .if1 .left) in
     after-first _ _ refl refl Accepted _ (sym (accepted (sized .before .before)))
-    (rw (← checked .answer-length .ensures, eq-eqb _ _ (second .if2 .left), ← sized .sizes-of .ensures, le-ltb _ _ (first .if1 .left))
-    (c .due-verdict .ensures))
+    (rw (eq-eqb _ _ (second .if2 .left ∙ checked .answer-length .ensures), le-ltb _ _ roomy) (rw (sized .sizes-of .ensures) at (c .due-verdict .ensures)))
 
 pub take-verdict-spec : {M : Type 1} → statement M
 take-verdict-spec =
@@ -116,5 +138,7 @@ take-verdict-spec =
     slice-aggregate-answer-length
     answer-length-requires
     returns-3
+    array-share-prefix-key
+    slice-aggregate-due-verdict
     due-verdict-requires
     returns-4)

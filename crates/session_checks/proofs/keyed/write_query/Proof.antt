@@ -1,4 +1,4 @@
--- `session_checks::keyed::write_query` meets its contract: the code writes the query of the key's places that are used.
+-- `session_checks::keyed::write_query` meets its contract: the code writes the query of the key's places that are used, of the length that it has.
 use mathlib.Core.Path.{sym, ap, _∙_}
 use lib.ListN.{take}
 use Rattle.lists.specs.Parts.{put}
@@ -37,9 +37,12 @@ returns c =
     let written = c .before .before in
     let sized = written .before .before .before in
     let args = sized .before .before .before .args in
-    written .query .ensures
-    ∙ ap (λ (sizes : Sizes). put 0 (schemeOf (args .c) .query (args .wanted) (args .server) (take (sizes .key) (args .places .now))) (args .query .now))
-    (sized .sizes-of .ensures)
+    let sizes-right = sized .sizes-of .ensures in (
+      ap (λ (sizes : Sizes). sizes .query) sizes-right,
+      written .query .ensures
+          ∙ ap (λ (sizes : Sizes). put 0 (schemeOf (args .c) .query (args .wanted) (args .server) (take (sizes .key) (args .places .now))) (args .query .now))
+          sizes-right,
+    )
 
 pub write-query-spec : {M : Type 1} → statement M
 write-query-spec = tie.close (tie.spec sizes-of-requires slice-aggregate-query query-requires same-length returns)
