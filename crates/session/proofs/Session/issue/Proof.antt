@@ -50,7 +50,8 @@ mark-issued-requires c κs =
     let args = asked .before .before .args in
     let v = asked .issue-verdict in
     let i = issue-passed schemeOf (args .self) (args .today) (args .server) (length (args .query .now)) (sym (v .ensures) ∙ told .enum-told2 .given .1) in
-    let counts : counted (args .self .meters .sent) (args .server) + written .write-query .result ≤ mostBytes = rw (written .write-query .ensures .0) (i .counts) in
+    let counts : counted (args .self .meters .sent) (args .server) + written .write-query .result ≤ mostBytes =
+    rw (written .write-query .ensures .0) (i .counts) in
     (omega (arith, i .below, sizes-small (args .self .catalogue) (schemeOf (args .self .catalogue) .sizes) (i .sound .admitted) refl .servers), counts)
 
 same-length : tie.Need-same-length
