@@ -6,13 +6,16 @@
 //! rows, cuts the store into one of the short code for each block, and recovers by walking along all answers at once. A day is looked up in a list
 //! of all days of the calendar, walked month by month; no date is compared or tested by its numbers. Lines `length=` are collected, however many there are, and
 //! counted afterwards; a pack is recovered whole and then cut. A session keeps every call since begin, and its meters are sums over these; whether bytes
-//! are those of whole requests is told by adding up, without a division. Each module of the folder `second` says in its first line what it holds.
+//! are those of whole requests is told by adding up, without a division. The answer unit keeps a byte for each register, and a read looks in the row
+//! of all six. Each module of the folder `second` says in its first line what it holds.
 //!
 //!     rustc --edition 2021 -O docs/src/second.rs -o second
 //!     ./second self               checks it against the bench cards and the papers' tables, balancing digits, turns, rounds, the rules of
-//!                                 seasons and lengths, the meters against all short lists of calls, and that fetches recover
+//!                                 seasons and lengths, the meters against all short lists of calls, the answer unit against what all short
+//!                                 lists of accesses leave, and that fetches recover
 //!     ./second printer FOLDER     writes inputs of the request printer, and what it must print for each
-//!     ./second cases PROGRAM      prints the calls that the program makes, `conformance`, `conformance_codes` or `conformance_meters` (its `stdin`)
+//!     ./second cases PROGRAM      prints the calls that the program makes, `conformance`, `conformance_codes`, `conformance_meters` or
+//!                                 `conformance_unit` (its `stdin`)
 //!     ./second expected PROGRAM   prints what they must give (its `stdout`)
 #[path = "second/days.rs"]
 mod days;
@@ -40,8 +43,14 @@ mod session;
 mod printer;
 #[path = "second/draws.rs"]
 mod draws;
+#[path = "second/unit.rs"]
+mod unit;
+#[path = "second/lines.rs"]
+mod lines;
 #[path = "second/bench.rs"]
 mod bench;
+#[path = "second/unit_bench.rs"]
+mod unit_bench;
 #[path = "second/samples/mod.rs"]
 mod samples;
 #[path = "second/inputs/mod.rs"]
@@ -66,6 +75,7 @@ fn main() {
             }
         }
         ["cases", program] => std::io::stdout().write_all(&cases::cases(program)).unwrap(),
+        ["expected", "conformance_unit"] => std::io::stdout().write_all(&unit_bench::expected(&cases::cases("conformance_unit"))).unwrap(),
         ["expected", program] => std::io::stdout().write_all(&bench::expected(&cases::cases(program))).unwrap(),
         _ => eprintln!("usage: second self | printer FOLDER | cases PROGRAM | expected PROGRAM"),
     }

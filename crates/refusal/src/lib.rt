@@ -2,8 +2,8 @@
 ghost use mathlib.Core.Path.{_≡_};
 ghost use Rattle.refusal.specs.Numbers.{numberOf};
 
-// Why a call is refused, by ascending number (document 01, 'Numbers a call can give'; document 02: 13 and 14 item 1, 15 item 2, 16 item 5, 17 item 9). Which is
-// given where several apply is another order: `order` of specs/Numbers.antt.
+// Why a call is refused, by ascending number (document 01, 'Numbers a call can give'; document 02: 13 and 14 item 1, 15 item 2, 16 item 5, 17 item 9,
+// 18 item 12). Which is given where several apply is another order: `order` of specs/Numbers.antt.
 pub enum Refusal {
     // 1: the catalogue's or the printer's input is not in its text form.
     Text,
@@ -25,7 +25,7 @@ pub enum Refusal {
     Room,
     // 10: the answer has another length than its query calls for.
     AnswerLength,
-    // 11: take before issue, a second take, or marks or meters that no history of calls gives.
+    // 11: take before issue, a second take, or marks or meters that no history of calls gives; of an answer unit, more bytes held than it can hold.
     History,
     // 12: an answer is missing at recovery.
     Missing,
@@ -39,6 +39,8 @@ pub enum Refusal {
     MeterFull,
     // 17: the catalogue has one message only (01: K is 1), which no query can hide.
     OneMessage,
+    // 18: the answer unit has no such register.
+    Register,
 }
 
 // What a check or a call answers that has nothing else to say.
@@ -75,5 +77,6 @@ pub fn number(refusal: Refusal) -> u8
         Refusal::OddSymbol => 15,
         Refusal::MeterFull => 16,
         Refusal::OneMessage => 17,
+        Refusal::Register => 18,
     }
 }

@@ -47,6 +47,12 @@ pub fn numbers(seed: u64, n: usize, out: &mut [u8]) {
     }
 }
 
+// Fills so many bytes from the start of a buffer, or all of it, with bytes of the sequence.
+pub fn start(seed: u64, count: usize, out: &mut [u8]) {
+    let end = at_most(count, out.len());
+    numbers(seed, 256, &mut out[..end]);
+}
+
 // Stores one byte, where there is such a place.
 pub fn poke(out: &mut [u8], place: usize, value: usize) {
     if place < out.len() {

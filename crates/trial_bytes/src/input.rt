@@ -1,4 +1,5 @@
 // The lines of the input: a letter, then numbers with one space before each; or `t`, then a text up to the byte `~`.
+ghost use Prim.Native.Nat.{_<_};
 
 // A number, and where it ends.
 pub struct Number {
@@ -114,4 +115,12 @@ pub fn line_at(text: &[u8], at: usize) -> Line {
         e: e.value,
         next: after(e.next, text.len()),
     }
+}
+
+// Where the next line begins: behind the start of this one, or else at the end.
+pub fn further(at: usize, next: usize, end: usize) -> usize
+    requires { ⌜ at < end ⌝ }
+    ensures { λ r. ⌜ at < r ⌝ }
+{
+    if at < next { next } else { end }
 }

@@ -77,15 +77,15 @@ fn day_of(line: Line) -> Day {
 }
 
 // f, l, n: the opening day and the closing day that later catalogues are given, and the day of later calls.
-pub fn set_day(s: State, line: Line) -> State {
-    let mut given = s.given;
+pub fn set_day(before: Given, line: Line) -> Given {
+    let mut given = before;
     let letter = line.letter;
     match letter {
         b'f' => given.opening = day_of(line),
         b'l' => given.closing = day_of(line),
         _ => given.today = day_of(line),
     }
-    s.with_given(given)
+    given
 }
 
 // The lengths with another mark, and zeros in all places.
@@ -105,14 +105,14 @@ fn with_length(l: Lengths, place: usize, n: u32) -> Lengths {
 }
 
 // p, m: whether later catalogues have lengths, all places 0; and what one of the places holds.
-pub fn set_lengths(s: State, line: Line) -> State {
-    let mut given = s.given;
+pub fn set_lengths(before: Given, line: Line) -> Given {
+    let mut given = before;
     if line.letter == b'p' {
         given.lengths = marked(line.a != 0);
     } else {
         given.lengths = with_length(given.lengths, line.a, narrow(line.b));
     }
-    s.with_given(given)
+    given
 }
 
 // c: a catalogue, its verdict, its sizes, or why it has none, and the bound on received bytes.

@@ -11,17 +11,23 @@ use trials::state::State;
 // Catalogues.
 pub mod catalogues;
 
-// A comment, which is printed, or a catalogue's text.
-pub fn on_part(s: State, line: Line, text: &[u8]) -> State {
+// A comment, which is printed.
+pub fn comment(line: Line, text: &[u8]) {
     let to = draw::at_most(line.b, text.len());
     let from = draw::at_most(line.a, to);
-    let part = &text[from..to];
-    if line.letter == b't' {
-        return catalogues::text(s, part);
-    }
-    show::text(part);
+    show::text(&text[from..to]);
     show::end();
-    s
+}
+
+// A comment or a catalogue's text.
+pub fn on_part(s: State, line: Line, text: &[u8]) -> State {
+    if line.letter == b'#' {
+        comment(line, text);
+        return s;
+    }
+    let to = draw::at_most(line.b, text.len());
+    let from = draw::at_most(line.a, to);
+    catalogues::text(s, &text[from..to])
 }
 
 // Lines that set what later calls are lent, without a call: the key and its length, the store and its length, an answer, single bytes, and all answers.
@@ -41,8 +47,7 @@ pub fn on_buffer(
             return s.with_lengths(line.b, s.store);
         }
         b's' => {
-            let length = draw::at_most(line.b, store.len());
-            draw::numbers(line.a as u64, 256, &mut store[..length]);
+            draw::start(line.a as u64, line.b, store);
             return s.with_lengths(s.key, line.b);
         }
         b'e' => draw::numbers(line.a as u64, 256, answer),
@@ -88,8 +93,8 @@ pub fn on_field(s: State, line: Line) -> State {
     match letter {
         b'c' => catalogues::catalogue(s, line),
         b'g' => s.with_session(fields::catalogue(session, catalogues::catalogue_of(s.given, line))),
-        b'f' | b'l' | b'n' => catalogues::set_day(s, line),
-        b'p' | b'm' => catalogues::set_lengths(s, line),
+        b'f' | b'l' | b'n' => s.with_given(catalogues::set_day(s.given, line)),
+        b'p' | b'm' => s.with_given(catalogues::set_lengths(s.given, line)),
         _ => on_session_field(s, line),
     }
 }

@@ -1,6 +1,5 @@
 // The lines of a conformance program's input, one after another: each makes its call, or sets what later calls are lent. Proved safe and to end,
 // like all of the test program.
-ghost use Prim.Native.Nat.{_<_};
 use libc::STDIN_FILENO;
 use trial_bytes::input;
 use trial_bytes::input::Line;
@@ -47,14 +46,6 @@ fn on_line(
     s
 }
 
-// Where the next line begins: behind the start of this one, or else at the end.
-fn further(at: usize, next: usize, end: usize) -> usize
-    requires { ⌜ at < end ⌝ }
-    ensures { λ r. ⌜ at < r ⌝ }
-{
-    if at < next { next } else { end }
-}
-
 // All lines of a text, in buffers that each line finds as the last one left them.
 pub fn run(
     text: &[u8],
@@ -70,7 +61,7 @@ pub fn run(
     while at < text.len() {
         let line = input::line_at(text, at);
         s = on_line(s, line, text, key, store, query, answer, answers, message);
-        at = further(at, line.next, text.len());
+        at = input::further(at, line.next, text.len());
     }
 }
 

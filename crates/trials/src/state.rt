@@ -21,6 +21,16 @@ pub struct State {
     pub given: Given,
 }
 
+// No dates, no lengths, and no day.
+pub fn nothing() -> Given {
+    Given {
+        opening: calendar::none(),
+        closing: calendar::none(),
+        lengths: lengths::none(),
+        today: calendar::none(),
+    }
+}
+
 // Before the first call.
 pub fn first() -> State {
     State {
@@ -28,12 +38,7 @@ pub fn first() -> State {
         session: Session::blank(),
         key: 0,
         store: 0,
-        given: Given {
-            opening: calendar::none(),
-            closing: calendar::none(),
-            lengths: lengths::none(),
-            today: calendar::none(),
-        },
+        given: nothing(),
     }
 }
 

@@ -1,16 +1,17 @@
 //! What each line of a conformance program gives.
 use crate::Bytes;
-use crate::catalogue::{CODES, Catalogue, Short, ZERO, admitted, in_season, judged};
+use crate::catalogue::{Catalogue, ZERO, admitted, in_season, judged};
 use crate::codes::answering;
 use crate::days::{Day, NO_DAY};
 use crate::draws::{drawn_key, fill_drawn};
+use crate::lines::{Line, made, printed, set_optional};
 use crate::meters::Meters;
 use crate::session::{Session, begin, blank};
 use crate::sizes::{key_length, pack_end, pack_length, pieces, request_length, slot};
 use crate::text::{lines, read, write_text};
 use std::fmt::Write;
 
-fn sum(start: u64, bytes: &[u8]) -> u64 {
+pub fn sum(start: u64, bytes: &[u8]) -> u64 {
     bytes.iter().fold(start, |sum, &b| (sum * 257 + b as u64 + 1) % 1000003)
 }
 
@@ -28,7 +29,7 @@ pub fn given(c: Catalogue) -> String {
     format!("{} {} {} {} {}", c.code as u8, c.n, c.k, c.s, c.add as u8)
 }
 
-fn shown_catalogue(c: Catalogue) -> String {
+pub fn shown_catalogue(c: Catalogue) -> String {
     let places = c.lengths.iter().rposition(|&length| length != 0).map_or(0, |last| last + 1);
     let numbers = [&c.open[..], &c.close, &[c.measured as usize, places], &c.lengths[..places]].concat();
     format!("{} {}", given(c), numbers.iter().map(|x| x.to_string()).collect::<Vec<_>>().join(" "))
@@ -100,14 +101,10 @@ impl Bench {
 
     /// A line of a letter and numbers; those that make no call print nothing.
     pub fn line(&mut self, letter: &str, [a, b, c, d, e]: [usize; 5]) -> String {
-        let code = CODES.get(a).map_or(Short, |&(code, _)| code);
-        let cat = Catalogue { code, n: b, k: c, s: d, add: e != 0, ..self.next };
+        let cat = made(self.next, [a, b, c, d, e]);
         match letter {
             "c" => return self.catalogue(cat),
-            "f" => self.next.open = [a, b, c],
-            "l" => self.next.close = [a, b, c],
-            "p" => (self.next.measured, self.next.lengths) = (a != 0, [0; 32]),
-            "m" => self.next.lengths.iter_mut().skip(a).take(1).for_each(|place| *place = b % (1 << 32)),
+            "f" | "l" | "p" | "m" => set_optional(&mut self.next, letter, [a, b, c]),
             "n" => self.today = [a, b, c],
             "k" => {
                 if admitted(self.cat) {
@@ -231,25 +228,9 @@ impl Bench {
 
 /// What a program must print for an input.
 pub fn expected(input: &[u8]) -> Bytes {
-    let (mut bench, mut out, mut at) = (Bench::new(), Vec::new(), 0);
-    while at < input.len() {
-        let stop = if input[at] == b't' { b'~' } else { b'\n' };
-        let end = at + input[at..].iter().position(|&b| b == stop).unwrap();
-        match input[at] {
-            b'#' => out.extend_from_slice(&input[at..=end]),
-            b't' => out.extend(bench.text(&input[at + 1..end]).bytes()),
-            _ => {
-                let line = std::str::from_utf8(&input[at..end]).unwrap();
-                let (letter, numbers) = line.split_at(1);
-                let mut five = [0; 5];
-                for (place, word) in five.iter_mut().zip(numbers.split_whitespace()) {
-                    assert!(word.len() <= 10, "a program reads ten digits: {line}");
-                    *place = word.parse().unwrap();
-                }
-                out.extend(bench.line(letter, five).bytes());
-            }
-        }
-        at = if stop == b'~' { end + 2 } else { end + 1 };
-    }
-    out
+    let mut bench = Bench::new();
+    printed(input, |line| match line {
+        Line::Text(text) => bench.text(text),
+        Line::Numbers(letter, five) => bench.line(letter, five),
+    })
 }

@@ -1,5 +1,4 @@
--- `on_buffer` is safe: each part that is lent is no longer than its buffer.
-use Rattle.trial_bytes.proofs.Taken.{taken}
+-- `on_buffer` is safe: the buffers' lengths stay.
 use borrow.Author.Needs.{needs}
 use Rattle.trial_lines.proofs.on_buffer.Statement.{statement}
 use Rattle.trial_lines.proofs.on_buffer.Tie as tie
@@ -16,17 +15,8 @@ same-length c = search needs
 returns : tie.Need-returns
 returns c = search needs
 
-at-most-requires : tie.Need-at-most-requires
-at-most-requires c κs = search needs
-
-slice-relend-prefix-numbers : tie.Need-slice-relend-prefix-numbers
-slice-relend-prefix-numbers c = search needs
-
-slice-aggregate-numbers : tie.Need-slice-aggregate-numbers
-slice-aggregate-numbers c = search (needs, taken)
-
-numbers-requires : tie.Need-numbers-requires
-numbers-requires c κs = search needs
+start-requires : tie.Need-start-requires
+start-requires c κs = search needs
 
 with-lengths-requires-2 : tie.Need-with-lengths-requires-2
 with-lengths-requires-2 c κs = search needs
@@ -37,8 +27,8 @@ same-length-2 c = search needs
 returns-2 : tie.Need-returns-2
 returns-2 c = search needs
 
-numbers-requires-2 : tie.Need-numbers-requires-2
-numbers-requires-2 c κs = search needs
+numbers-requires : tie.Need-numbers-requires
+numbers-requires c κs = search needs
 
 poke-requires : tie.Need-poke-requires
 poke-requires c κs = search needs
@@ -96,14 +86,11 @@ on-buffer-spec =
     with-lengths-requires
     same-length
     returns
-    at-most-requires
-    slice-relend-prefix-numbers
-    slice-aggregate-numbers
-    numbers-requires
+    start-requires
     with-lengths-requires-2
     same-length-2
     returns-2
-    numbers-requires-2
+    numbers-requires
     poke-requires
     poke-requires-2
     poke-requires-3

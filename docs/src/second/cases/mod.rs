@@ -9,6 +9,7 @@ mod lengths;
 mod sessions;
 mod meters;
 mod limits;
+mod units;
 
 use crate::Bytes;
 use crate::bench::given;
@@ -142,7 +143,7 @@ impl Cases {
 }
 
 /// The lines of a program: `conformance` has the codes of document 01 with all that the requests add to them, `conformance_codes` the codes that the
-/// requests add, `conformance_meters` the meters, in all codes. Their outputs together are longer than a program's may be.
+/// requests add, `conformance_meters` the meters, in all codes, `conformance_unit` the answer unit. Their outputs together are longer than a program's may be.
 pub fn cases(program: &str) -> Bytes {
     let mut cases = Cases { out: Vec::new(), draw: Draw(7), last: ZERO };
     match program {
@@ -152,6 +153,7 @@ pub fn cases(program: &str) -> Bytes {
             going_round(&mut cases);
         }
         "conformance_meters" => limits::metering(&mut cases),
+        "conformance_unit" => units::units(&mut cases),
         _ => panic!("no such program: {program}"),
     }
     cases.out

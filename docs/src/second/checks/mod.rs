@@ -4,6 +4,7 @@ mod rules;
 mod turns;
 mod rounds;
 mod meters;
+mod units;
 
 use crate::Bytes;
 use crate::catalogue::{Catalogue, Even, Round, Short, Turn, adding, admitted, dated, has_dates, measured, plain};
@@ -30,9 +31,10 @@ pub fn all() {
     rules::season_rules();
     rules::length_rules();
     meters::meters();
+    units::units();
     fetches();
     cut_packs();
-    println!("second implementation: papers' tables, bench cards, balancing digits, turns, rounds, calendar, lengths, meters and whole fetches agree");
+    println!("second implementation: papers' tables, bench cards, balancing digits, turns, rounds, calendar, lengths, meters, answer unit and whole fetches agree");
 }
 
 /// The sum of 02, item 2, by its words: low byte first, carried into the high one, wrapping at 65,536, nothing carried into the next word.

@@ -1,0 +1,11 @@
+pub mod Seen
+pub mod Answers
+pub mod Kept
+pub mod ReadOut
+pub mod Starts
+pub mod Written
+pub mod Whole
+pub mod Replies
+pub mod Told
+pub mod Numbers
+pub mod Example
