@@ -5,55 +5,55 @@ use Rattle.refusal.specs.declared.Verdict.{Verdict}
 use Rattle.refusal.specs.declared.Verdict.TheVariants.{Accepted, Refused}
 use Rattle.refusal.specs.declared.Outcome.{Outcome}
 use Rattle.refusal.specs.declared.Outcome.TheVariants.{Value, Refused as NoValue}
-use Rattle.refusal.specs.Numbers.{number_of, refusalOf}
+use Rattle.refusal.specs.Numbers.{number_of, refusal_of}
 use Rattle.refusal.specs.Foremost.{Fault, fault, foremost}
-use Rattle.calendar.specs.Calendar.{noDay, undated}
+use Rattle.calendar.specs.Calendar.{no_day, undated}
 use Rattle.symbol.specs.declared.Operation.{Operation}
 use Rattle.symbol.specs.declared.Operation.TheVariants.{ExclusiveOr, Addition}
 use Rattle.catalogue.specs.declared.Code.{Code}
 use Rattle.catalogue.specs.declared.Code.TheVariants.{Short, Even, Turn, Round}
 use Rattle.catalogue.specs.declared.Catalogue.{Catalogue}
-use Rattle.catalogue.specs.Catalogue.{inBounds}
-use Rattle.codes.specs.Codes.{schemeOf}
+use Rattle.catalogue.specs.Catalogue.{in_bounds}
+use Rattle.codes.specs.Codes.{scheme_of}
 use Rattle.server.specs.Answering.{Answered, answering}
 use Rattle.answer_unit.specs.declared.AnswerUnit.{AnswerUnit}
 use Rattle.answer_unit.specs.declared.Handed.{Handed}
 use Rattle.answer_unit.specs.declared.Got.{Got}
-use Rattle.answer_unit.specs.Unit.{bit, weigh, fresh, zero_unit, waits, asked, withLine, withQuery, withAnswer}
+use Rattle.answer_unit.specs.Unit.{bit, weigh, fresh, zero_unit, waits, asked, with_line, with_query, with_answer}
 
 -- ---- what the registers show
 
 -- register 1, status: bit 0 answer waiting, bit 1 refused, bit 2 query overrun
-abbrev pub statusOf : AnswerUnit → ℕ
-statusOf u = weigh (waits u) 1 + weigh u.refused 2 + weigh u.overrun 4
+abbrev pub status_of : AnswerUnit → ℕ
+status_of u = weigh (waits u) 1 + weigh u.refused 2 + weigh u.overrun 4
 
 -- register 3: the next byte of the answer, or 0 if none waits
-abbrev pub nextByte : AnswerUnit → ℕ
-nextByte u = cond (waits u) (get_or u.answer (u.catalogue.symbol - u.waiting) 0) 0
+abbrev pub next_byte : AnswerUnit → ℕ
+next_byte u = cond (waits u) (get_or u.answer (u.catalogue.symbol - u.waiting) 0) 0
 
 -- registers 0 to 5. Of register 0 only bit 1 reads back, register 2 reads 0, register 4 is the last start's refusal, and all bits not named are 0
 unfoldable pub shown : AnswerUnit → ℕ → ℕ
 shown u register =
-    get_or (weigh u.enable 2 ∷ statusOf u ∷ 0 ∷ nextByte u ∷ u.refusal ∷ weigh u.flag 1 ∷ []) register 0
+    get_or (weigh u.enable 2 ∷ status_of u ∷ 0 ∷ next_byte u ∷ u.refusal ∷ weigh u.flag 1 ∷ []) register 0
 
 -- ---- reading: register 3 goes on to the next byte, the others change nothing
 
 abbrev pub advance : AnswerUnit → AnswerUnit
-advance u = withAnswer u u.refused u.refusal (u.waiting - 1) u.answer
+advance u = with_answer u u.refused u.refusal (u.waiting - 1) u.answer
 
-unfoldable pub afterRead : AnswerUnit → ℕ → AnswerUnit
-afterRead u register = cond (eqb register 3) (advance u) u
+unfoldable pub after_read : AnswerUnit → ℕ → AnswerUnit
+after_read u register = cond (eqb register 3) (advance u) u
 
 -- ---- writing register 2: a byte of the query; a 33rd sets the overrun bit and is dropped
 
 unfoldable pub append : AnswerUnit → ℕ → AnswerUnit
 append u value =
-    cond (ltb u.held 32) (withQuery u u.overrun (u.held + 1) (set u.query u.held value)) (withQuery u true u.held u.query)
+    cond (ltb u.held 32) (with_query u u.overrun (u.held + 1) (set u.query u.held value)) (with_query u true u.held u.query)
 
 -- ---- writing register 5: 1 in bit 0 clears the flag
 
 unfoldable pub acknowledge : AnswerUnit → ℕ → AnswerUnit
-acknowledge u value = cond (bit 1 value) (withLine u u.enable false) u
+acknowledge u value = cond (bit 1 value) (with_line u u.enable false) u
 
 -- ---- the line is flag and enable
 
@@ -63,22 +63,22 @@ line u = u.flag && u.enable
 -- ---- start
 
 -- what the answering end gives for the bytes so far. The catalogue has no dates, so that no day is looked at
-abbrev pub answeredFor : AnswerUnit → List ℕ → Answered
-answeredFor u store = answering schemeOf u.catalogue noDay u.server store (asked u) u.answer
+abbrev pub answered_for : AnswerUnit → List ℕ → Answered
+answered_for u store = answering scheme_of u.catalogue no_day u.server store (asked u) u.answer
 
 -- refused bit and register 4 by what came out, and an answer waits, unless it is empty
-abbrev pub endedBy : AnswerUnit → Outcome → List ℕ → AnswerUnit
-endedBy u (Value size) answer = withAnswer u false 0 size answer
-endedBy u (NoValue refusal) answer = withAnswer u true (number_of refusal) 0 answer
+abbrev pub ended_by : AnswerUnit → Outcome → List ℕ → AnswerUnit
+ended_by u (Value size) answer = with_answer u false 0 size answer
+ended_by u (NoValue refusal) answer = with_answer u true (number_of refusal) 0 answer
 
 -- overrun counts as 7
 unfoldable pub answer_of : AnswerUnit → List ℕ → AnswerUnit
 answer_of u store =
-    cond u.overrun (endedBy u (NoValue (refusalOf 7)) u.answer) (endedBy u (answeredFor u store).outcome (answeredFor u store).buffer)
+    cond u.overrun (ended_by u (NoValue (refusal_of 7)) u.answer) (ended_by u (answered_for u store).outcome (answered_for u store).buffer)
 
 -- then the query and the overrun bit are emptied, and the flag is set
 abbrev pub finished : AnswerUnit → AnswerUnit
-finished u = withLine (withQuery u false 0 u.query) u.enable true
+finished u = with_line (with_query u false 0 u.query) u.enable true
 
 unfoldable pub start : AnswerUnit → List ℕ → AnswerUnit
 start u store = finished (answer_of u store)
@@ -88,72 +88,72 @@ start u store = finished (answer_of u store)
 unfoldable pub control : AnswerUnit → ℕ → List ℕ → AnswerUnit
 control u value store =
     cond (bit 128 value) (fresh u.catalogue u.server)
-    (cond (bit 1 value && not (waits u)) (start (withLine u (bit 2 value) u.flag) store) (withLine u (bit 2 value) u.flag))
+    (cond (bit 1 value && not (waits u)) (start (with_line u (bit 2 value) u.flag) store) (with_line u (bit 2 value) u.flag))
 
 -- ---- writing registers 0 to 5, of which 1, 3 and 4 ignore it
 
-unfoldable pub afterWrite : AnswerUnit → ℕ → ℕ → List ℕ → AnswerUnit
-afterWrite u register value store = get_or (control u value store ∷ u ∷ append u value ∷ u ∷ u ∷ acknowledge u value ∷ []) register u
+unfoldable pub after_write : AnswerUnit → ℕ → ℕ → List ℕ → AnswerUnit
+after_write u register value store = get_or (control u value store ∷ u ∷ append u value ∷ u ∷ u ∷ acknowledge u value ∷ []) register u
 
 -- ---- set-up: a short catalogue with S up to 64 under exclusive or, without dates; any other is 2. Then 17 and 3
 
-abbrev pub isShort : Code → Bool
-isShort Short = true
-isShort Even = false
-isShort Turn = false
-isShort Round = false
+abbrev pub is_short : Code → Bool
+is_short Short = true
+is_short Even = false
+is_short Turn = false
+is_short Round = false
 
-abbrev pub isExclusive : Operation → Bool
-isExclusive ExclusiveOr = true
-isExclusive Addition = false
+abbrev pub is_exclusive : Operation → Bool
+is_exclusive ExclusiveOr = true
+is_exclusive Addition = false
 
-unfoldable pub unitTakes : Catalogue → Bool
-unitTakes c = isShort c.code && (isExclusive c.sum && (undated c.opening c.closing && leb c.symbol 64))
+unfoldable pub unit_takes : Catalogue → Bool
+unit_takes c = is_short c.code && (is_exclusive c.sum && (undated c.opening c.closing && leb c.symbol 64))
 
-abbrev pub setUpFaults : Catalogue → ℕ → List Fault
-setUpFaults c server = fault 2 (not (unitTakes c && inBounds c)) ∷ fault 17 (eqb c.messages 1) ∷ fault 3 (leb c.servers server) ∷ []
+abbrev pub set_up_faults : Catalogue → ℕ → List Fault
+set_up_faults c server = fault 2 (not (unit_takes c && in_bounds c)) ∷ fault 17 (eqb c.messages 1) ∷ fault 3 (leb c.servers server) ∷ []
 
-unfoldable pub setUpVerdict : Catalogue → ℕ → Verdict
-setUpVerdict c server = foremost (setUpFaults c server)
+unfoldable pub set_up_verdict : Catalogue → ℕ → Verdict
+set_up_verdict c server = foremost (set_up_faults c server)
 
-abbrev pub setUpBy : Catalogue → ℕ → Verdict → Handed
-setUpBy c server Accepted = record { verdict = Accepted; unit = fresh c server }
-setUpBy c server (Refused refusal) = record { verdict = Refused refusal; unit = zero_unit }
+abbrev pub set_up_by : Catalogue → ℕ → Verdict → Handed
+set_up_by c server Accepted = record { verdict = Accepted; unit = fresh c server }
+set_up_by c server (Refused refusal) = record { verdict = Refused refusal; unit = zero_unit }
 
--- setUp catalogue server: refused, it hands back zeros
-unfoldable pub setUp : Catalogue → ℕ → Handed
-setUp c server = setUpBy c server (setUpVerdict c server)
+-- set_up catalogue server: refused, it hands back zeros
+unfoldable pub set_up : Catalogue → ℕ → Handed
+set_up c server = set_up_by c server (set_up_verdict c server)
 
 -- ---- what refuses an access: 18 before anything else, then the set-up's faults, a wrong store (8), over 32 query or S answer bytes held (11)
 
-abbrev pub heldFaults : AnswerUnit → ℕ → List Fault
-heldFaults u stored =
-    fault 8 (not (eqb stored (schemeOf u.catalogue).sizes.store))
+abbrev pub held_faults : AnswerUnit → ℕ → List Fault
+held_faults u stored =
+    fault 8 (not (eqb stored (scheme_of u.catalogue).sizes.store))
     ∷ fault 11 (ltb 32 u.held)
     ∷ fault 11 (ltb u.catalogue.symbol u.waiting)
     ∷ []
 
--- accessFaults unit register stored: from the length of the store
-abbrev pub accessFaults : AnswerUnit → ℕ → ℕ → List Fault
-accessFaults u register stored = fault 18 (ltb 5 register) ∷ (setUpFaults u.catalogue u.server ++ heldFaults u stored)
+-- access_faults unit register stored: from the length of the store
+abbrev pub access_faults : AnswerUnit → ℕ → ℕ → List Fault
+access_faults u register stored = fault 18 (ltb 5 register) ∷ (set_up_faults u.catalogue u.server ++ held_faults u stored)
 
-unfoldable pub accessVerdict : AnswerUnit → ℕ → ℕ → Verdict
-accessVerdict u register stored = foremost (accessFaults u register stored)
+unfoldable pub access_verdict : AnswerUnit → ℕ → ℕ → Verdict
+access_verdict u register stored = foremost (access_faults u register stored)
 
 -- ---- the accesses: a refused one leaves the unit as it was, and a refused read gives 0
 
 abbrev pub read_by : AnswerUnit → ℕ → Verdict → Got
-read_by u register Accepted = record { verdict = Accepted; byte = shown u register; unit = afterRead u register }
+read_by u register Accepted = record { verdict = Accepted; byte = shown u register; unit = after_read u register }
 read_by u register (Refused refusal) = record { verdict = Refused refusal; byte = 0; unit = u }
 
--- readRegister unit register store
-unfoldable pub readRegister : AnswerUnit → ℕ → List ℕ → Got
-readRegister u register store = read_by u register (accessVerdict u register (length store))
+-- read_register unit register store
+unfoldable pub read_register : AnswerUnit → ℕ → List ℕ → Got
+read_register u register store = read_by u register (access_verdict u register (length store))
 
-abbrev pub writeBy : AnswerUnit → ℕ → ℕ → List ℕ → Verdict → Handed
-writeBy u register value store Accepted = record { verdict = Accepted; unit = afterWrite u register value store }
-writeBy u register value store (Refused refusal) = record { verdict = Refused refusal; unit = u }
+abbrev pub write_by : AnswerUnit → ℕ → ℕ → List ℕ → Verdict → Handed
+write_by u register value store Accepted = record { verdict = Accepted; unit = after_write u register value store }
+write_by u register value store (Refused refusal) = record { verdict = Refused refusal; unit = u }
 
--- writeRegister unit register value store
-unfoldable pub writeRegister : AnswerUnit → ℕ → ℕ → List ℕ → Handed
-writeRegister u register value store = writeBy u register value store (accessVerdict u register (length store))
+-- write_register unit register value store
+unfoldable pub write_register : AnswerUnit → ℕ → ℕ → List ℕ → Handed
+write_register u register value store = write_by u register value store (access_verdict u register (length store))

@@ -2,7 +2,7 @@
 -- `held` bytes are there; of an answer, which has S bytes or none, the last `waiting` are still to be read.
 use Rattle.std.specs.Prelude.{Bool, false, cond, List, ℕ, ◌/◌, ◌%◌, ltb, eqb, take, replicate}
 use Rattle.catalogue.specs.declared.Catalogue.{Catalogue}
-use Rattle.catalogue.specs.Catalogue.{zeroCatalogue}
+use Rattle.catalogue.specs.Catalogue.{zero_catalogue}
 use Rattle.answer_unit.specs.declared.AnswerUnit.{AnswerUnit}
 
 -- ---- bits
@@ -35,7 +35,7 @@ fresh c server = record {
 
 -- zeros, the code short, the sum exclusive or: a unit that was never set up
 unfoldable pub zero_unit : AnswerUnit
-zero_unit = fresh zeroCatalogue 0
+zero_unit = fresh zero_catalogue 0
 
 -- ---- parts of a unit
 
@@ -50,8 +50,8 @@ asked u = take u.held u.query
 -- ---- a unit with other interrupt bits (enable, flag), another query (overrun bit, bytes held, places), another answer (refused bit, refusal number,
 -- bytes waiting, places)
 
-abbrev pub withLine : AnswerUnit → Bool → Bool → AnswerUnit
-withLine u enable flag = record {
+abbrev pub with_line : AnswerUnit → Bool → Bool → AnswerUnit
+with_line u enable flag = record {
   catalogue = u.catalogue;
   server = u.server;
   enable = enable;
@@ -65,8 +65,8 @@ withLine u enable flag = record {
   answer = u.answer;
 }
 
-abbrev pub withQuery : AnswerUnit → Bool → ℕ → List ℕ → AnswerUnit
-withQuery u overrun held query = record {
+abbrev pub with_query : AnswerUnit → Bool → ℕ → List ℕ → AnswerUnit
+with_query u overrun held query = record {
   catalogue = u.catalogue;
   server = u.server;
   enable = u.enable;
@@ -80,8 +80,8 @@ withQuery u overrun held query = record {
   answer = u.answer;
 }
 
-abbrev pub withAnswer : AnswerUnit → Bool → ℕ → ℕ → List ℕ → AnswerUnit
-withAnswer u refused refusal waiting answer = record {
+abbrev pub with_answer : AnswerUnit → Bool → ℕ → ℕ → List ℕ → AnswerUnit
+with_answer u refused refusal waiting answer = record {
   catalogue = u.catalogue;
   server = u.server;
   enable = u.enable;

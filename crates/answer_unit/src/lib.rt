@@ -2,7 +2,7 @@
 // come in: each access checks its fields again. The rules stand in specs/Registers.antt, register by register.
 ghost use Rattle.std.specs.Prelude.{◌≡◌};
 ghost use Rattle.answer_unit.specs.Unit.{fresh as fresh·, zero_unit};
-ghost use Rattle.answer_unit.specs.Registers.{setUp, readRegister, writeRegister, line as line·};
+ghost use Rattle.answer_unit.specs.Registers.{set_up, read_register, write_register, line as line·};
 
 use catalogue::Catalogue;
 use refusal::Verdict;
@@ -80,7 +80,7 @@ impl AnswerUnit {
 
     // Sets up a new unit, for a catalogue and one of its servers (01: mirrors); the old one is not read.
     pub fn set_up(self, c: Catalogue, server: usize) -> Handed
-        ensures { result ≡ setUp c server }
+        ensures { result ≡ set_up c server }
     {
         let verdict = verdicts::set_up_verdict(c, server);
         if let Verdict::Refused(_) = verdict {
@@ -97,7 +97,7 @@ impl AnswerUnit {
 
     // Reads a register.
     pub fn read(self, register: usize, store: &[u8]) -> Got
-        ensures { result ≡ readRegister self register store.now }
+        ensures { result ≡ read_register self register store.now }
     {
         let verdict = verdicts::access_verdict(self, register, store.len());
         if let Verdict::Refused(_) = verdict {
@@ -116,7 +116,7 @@ impl AnswerUnit {
 
     // Writes a register.
     pub fn write(self, register: usize, value: u8, store: &[u8]) -> Handed
-        ensures { result ≡ writeRegister self register value store.now }
+        ensures { result ≡ write_register self register value store.now }
     {
         let verdict = verdicts::access_verdict(self, register, store.len());
         if let Verdict::Refused(_) = verdict {

@@ -1,7 +1,7 @@
 // What a register shows, and what reading it does.
 ghost use Rattle.std.specs.Prelude.{◌≡◌, ◌≤◌};
 ghost use Rattle.answer_unit.specs.Unit.{weigh};
-ghost use Rattle.answer_unit.specs.Registers.{statusOf, nextByte, shown as shown·, afterRead};
+ghost use Rattle.answer_unit.specs.Registers.{status_of, next_byte, shown as shown·, after_read};
 
 use crate::AnswerUnit;
 
@@ -17,7 +17,7 @@ fn weighed(there: bool, weight: u8) -> u8
 
 // What register 1 shows.
 fn status(unit: AnswerUnit) -> u8
-    ensures { result ≡ statusOf unit }
+    ensures { result ≡ status_of unit }
 {
     weighed(0 < unit.waiting, 1) + weighed(unit.refused, 2) + weighed(unit.overrun, 4)
 }
@@ -26,7 +26,7 @@ fn status(unit: AnswerUnit) -> u8
 fn next_byte(unit: AnswerUnit) -> u8
     requires waiting_le_symbol { unit.waiting ≤ unit.catalogue.symbol }
     requires symbol_bound { unit.catalogue.symbol ≤ 64 }
-    ensures { result ≡ nextByte unit }
+    ensures { result ≡ next_byte unit }
 {
     if unit.waiting == 0 {
         return 0;
@@ -54,7 +54,7 @@ pub fn shown(unit: AnswerUnit, register: usize) -> u8
 
 // The unit after a register was read.
 pub fn after_read(mut unit: AnswerUnit, register: usize) -> AnswerUnit
-    ensures { result ≡ afterRead unit register }
+    ensures { result ≡ after_read unit register }
 {
     if register == 3 {
         if 0 < unit.waiting {

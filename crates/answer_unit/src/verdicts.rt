@@ -1,6 +1,6 @@
 // Whether a unit can be set up, and whether an access to it is done: the faults of each, in their order.
 ghost use Rattle.std.specs.Prelude.{◌≡◌};
-ghost use Rattle.answer_unit.specs.Registers.{isShort, isExclusive, unitTakes, setUpVerdict, accessVerdict};
+ghost use Rattle.answer_unit.specs.Registers.{is_short, is_exclusive, unit_takes, set_up_verdict, access_verdict};
 
 use crate::AnswerUnit;
 use catalogue::{Catalogue, Code};
@@ -9,7 +9,7 @@ use refusal::{Refusal, Verdict};
 use symbol::Operation;
 
 fn is_short(code: Code) -> bool
-    ensures { result ≡ isShort code }
+    ensures { result ≡ is_short code }
 {
     match code {
         Code::Short => true,
@@ -20,7 +20,7 @@ fn is_short(code: Code) -> bool
 }
 
 fn is_exclusive(sum: Operation) -> bool
-    ensures { result ≡ isExclusive sum }
+    ensures { result ≡ is_exclusive sum }
 {
     match sum {
         Operation::ExclusiveOr => true,
@@ -30,7 +30,7 @@ fn is_exclusive(sum: Operation) -> bool
 
 // Whether the unit takes such a catalogue: short, exclusive or, no dates, S up to 64.
 fn takes(c: Catalogue) -> bool
-    ensures { result ≡ unitTakes c }
+    ensures { result ≡ unit_takes c }
 {
     let code = c.code;
     if !is_short(code) {
@@ -48,7 +48,7 @@ fn takes(c: Catalogue) -> bool
 
 // Whether a unit can be set up.
 pub fn set_up_verdict(c: Catalogue, server: usize) -> Verdict
-    ensures { result ≡ setUpVerdict c server }
+    ensures { result ≡ set_up_verdict c server }
 {
     if !takes(c) {
         return Verdict::Refused(Refusal::Bounds);
@@ -64,7 +64,7 @@ pub fn set_up_verdict(c: Catalogue, server: usize) -> Verdict
 
 // Whether an access to the register, with a store of `stored` bytes, is done.
 pub fn access_verdict(unit: AnswerUnit, register: usize, stored: usize) -> Verdict
-    ensures { result ≡ accessVerdict unit register stored }
+    ensures { result ≡ access_verdict unit register stored }
 {
     if 5 < register {
         return Verdict::Refused(Refusal::Register);

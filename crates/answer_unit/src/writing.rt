@@ -1,8 +1,8 @@
 // What writing a register does.
 ghost use Rattle.std.specs.Prelude.{◌≡◌, ◌≤◌, ◌<◌};
 ghost use Rattle.answer_unit.specs.Unit.{bit as bit·};
-ghost use Rattle.answer_unit.specs.Registers.{append as append·, acknowledge as acknowledge·, endedBy, answer_of, start as start·};
-ghost use Rattle.answer_unit.specs.Registers.{control as control·, afterWrite};
+ghost use Rattle.answer_unit.specs.Registers.{append as append·, acknowledge as acknowledge·, ended_by, answer_of, start as start·};
+ghost use Rattle.answer_unit.specs.Registers.{control as control·, after_write};
 
 use crate::AnswerUnit;
 use refusal::{Outcome, Refusal};
@@ -41,7 +41,7 @@ fn acknowledge(mut unit: AnswerUnit, value: u8) -> AnswerUnit
 
 // Register 4, the refused bit and the bytes that wait, by what came out.
 fn ended(mut unit: AnswerUnit, outcome: Outcome) -> AnswerUnit
-    ensures { result ≡ endedBy unit outcome unit.answer }
+    ensures { result ≡ ended_by unit outcome unit.answer }
 {
     match outcome {
         Outcome::Value(size) => {
@@ -115,7 +115,7 @@ fn control(mut unit: AnswerUnit, value: u8, store: &[u8]) -> AnswerUnit
 pub fn after_write(unit: AnswerUnit, register: usize, value: u8, store: &[u8]) -> AnswerUnit
     requires register_bound { register ≤ 5 }
     requires held_bound { unit.held ≤ 32 }
-    ensures { result ≡ afterWrite unit register value store.now }
+    ensures { result ≡ after_write unit register value store.now }
 {
     match register {
         0 => control(unit, value, store),

@@ -9,7 +9,7 @@ use lib.Dec.{leb, ltb, eqb}
 use Rattle.lists.specs.Distinct.{stands}
 use Rattle.lists.proofs.Both.{both_true}
 use Rattle.calendar.specs.declared.Day.{Day}
-use Rattle.calendar.specs.Calendar.{shortMonths, leapYear, daysIn, realDay, before, noDay, is_none}
+use Rattle.calendar.specs.Calendar.{short_months, leap_year, days_in, real_day, before, no_day, is_none}
 
 -- ---- real days
 
@@ -20,16 +20,16 @@ pub record Real (d : Day) : Type 0 where
   pub month-low : 1 ≤ d.month
   pub month-high : d.month ≤ 12
   pub day-low : 1 ≤ d.day
-  pub day-high : d.day ≤ daysIn d.year d.month
+  pub day-high : d.day ≤ days_in d.year d.month
 
-pub real : (d : Day) → realDay d ≡ true → Real d
-unfolding realDay
+pub real : (d : Day) → real_day d ≡ true → Real d
+unfolding real_day
 real d e =
     let p = both_true (leb 2000 d.year && leb d.year 2399) _ e in
     let y = both_true (leb 2000 d.year) (leb d.year 2399) p.0 in
     let q = both_true (leb 1 d.month && leb d.month 12) _ p.1 in
     let m = both_true (leb 1 d.month) (leb d.month 12) q.0 in
-    let x = both_true (leb 1 d.day) (leb d.day (daysIn d.year d.month)) q.1 in
+    let x = both_true (leb 1 d.day) (leb d.day (days_in d.year d.month)) q.1 in
     record {
       year-low = leb-true _ _ y.0;
       year-high = leb-true _ _ y.1;
@@ -40,9 +40,9 @@ real d e =
     }
 
 -- no month is longer than 31 days
-pub days-high : (year month : ℕ) → daysIn year month ≤ 31
-unfolding daysIn
-days-high year month = go (eqb month 2) (leapYear year) (stands month shortMonths)
+pub days-high : (year month : ℕ) → days_in year month ≤ 31
+unfolding days_in
+days-high year month = go (eqb month 2) (leap_year year) (stands month short_months)
   where
     go : (t u v : Bool) → cond t (cond u 29 28) (cond v 30 31) ≤ 31
     go true true v = omega arith
@@ -58,15 +58,15 @@ same-day a b y m d =
     ∙ ap (λ (n : ℕ). record { year = b.year; month = n; day = a.day }) m
     ∙ ap (λ (n : ℕ). record { year = b.year; month = b.month; day = n }) d
 
-pub none_is : (d : Day) → is_none d ≡ true → d ≡ noDay
+pub none_is : (d : Day) → is_none d ≡ true → d ≡ no_day
 unfolding is_none
 none_is d e =
     let p = both_true (eqb d.year 0) (eqb d.month 0 && eqb d.day 0) e in
     let q = both_true (eqb d.month 0) (eqb d.day 0) p.1 in
-    same-day d noDay (eqb-true _ _ p.0) (eqb-true _ _ q.0) (eqb-true _ _ q.1)
+    same-day d no_day (eqb-true _ _ p.0) (eqb-true _ _ q.0) (eqb-true _ _ q.1)
 
 -- a real day is given
-pub real-given : (d : Day) → realDay d ≡ true → is_none d ≡ false
+pub real-given : (d : Day) → real_day d ≡ true → is_none d ≡ false
 unfolding is_none
 real-given d e = let r = real d e in rw (ne_eqb d.year 0 (λ z. omega arith))
 

@@ -9,7 +9,7 @@ use borrow.Author.Tests.{ltb-true, ltb-false, eqb-true, eqb-false, lt-ltb, le-lt
 use lib.Dec.{ltb, eqb}
 use Rattle.lists.proofs.Both.{both_true}
 use Rattle.calendar.specs.declared.Day.{Day}
-use Rattle.calendar.specs.Calendar.{before, inSeason}
+use Rattle.calendar.specs.Calendar.{before, in_season}
 use Rattle.calendar.proofs.Days.{same-day, by-year, by-month, by-day}
 
 -- the number that decides
@@ -87,13 +87,13 @@ before-total a b = years (ltb a.year b.year) (ltb b.year a.year) refl refl
 -- ---- a season
 
 -- the opening day is inside, where it comes before the closing day
-pub opening-inside : (opening closing : Day) → before opening closing ≡ true → inSeason opening closing opening ≡ true
-unfolding inSeason
+pub opening-inside : (opening closing : Day) → before opening closing ≡ true → in_season opening closing opening ≡ true
+unfolding in_season
 opening-inside opening closing e = rw (before-irreflexive opening, e)
 
 -- the closing day is outside
-pub closing-outside : (opening closing : Day) → inSeason opening closing closing ≡ false
-unfolding inSeason
+pub closing-outside : (opening closing : Day) → in_season opening closing closing ≡ false
+unfolding in_season
 closing-outside opening closing = go (not (before closing opening))
   where
     go : (t : Bool) → t && before closing closing ≡ false
@@ -101,8 +101,8 @@ closing-outside opening closing = go (not (before closing opening))
     go false = refl
 
 -- a season that has a day in it opens before it closes
-pub season-opens : (opening closing today : Day) → inSeason opening closing today ≡ true → before opening closing ≡ true
-unfolding inSeason
+pub season-opens : (opening closing today : Day) → in_season opening closing today ≡ true → before opening closing ≡ true
+unfolding in_season
 season-opens opening closing today e =
     let p = both_true (not (before today opening)) (before today closing) e in
     go (not-true (before today opening) p.0) p.1 (before-total opening today)

@@ -1,6 +1,6 @@
 // Days of the Gregorian calendar, years 2000 to 2399 (document 02, item 1): which are real, their order, and whether a day lies in a season.
 ghost use Rattle.std.specs.Prelude.{◌≡◌};
-ghost use Rattle.calendar.specs.Calendar.{leapYear, daysIn, within, realDay, before, inSeason, noDay, is_none, undated};
+ghost use Rattle.calendar.specs.Calendar.{leap_year, days_in, within, real_day, before, in_season, no_day, is_none, undated};
 
 // Three numbers, which can be anything.
 #[derive(Drop)]
@@ -12,7 +12,7 @@ pub struct Day {
 
 // Whether the year has a leap day.
 fn is_leap(year: u32) -> bool
-    ensures { result ≡ leapYear year }
+    ensures { result ≡ leap_year year }
 {
     if year % 4 != 0 {
         return false;
@@ -25,7 +25,7 @@ fn is_leap(year: u32) -> bool
 
 // The days in a month of a year.
 fn days_in(year: u32, month: u32) -> u32
-    ensures { result ≡ daysIn year month }
+    ensures { result ≡ days_in year month }
 {
     match month {
         2 => { if is_leap(year) { 29 } else { 28 } }
@@ -46,7 +46,7 @@ fn is_within(first: u32, last: u32, n: u32) -> bool
 
 // Whether the three numbers are a day of the calendar.
 pub fn is_real(d: Day) -> bool
-    ensures { result ≡ realDay d }
+    ensures { result ≡ real_day d }
 {
     if !is_within(2000, 2399, d.year) {
         return false;
@@ -72,7 +72,7 @@ pub fn is_before(a: Day, b: Day) -> bool
 
 // Whether today lies in the season: the opening day does, the closing day does not.
 pub fn in_season(opening: Day, closing: Day, today: Day) -> bool
-    ensures { result ≡ inSeason opening closing today }
+    ensures { result ≡ in_season opening closing today }
 {
     if is_before(today, opening) {
         return false;
@@ -82,7 +82,7 @@ pub fn in_season(opening: Day, closing: Day, today: Day) -> bool
 
 // Three zeros, where no day is given.
 pub fn none() -> Day
-    ensures { result ≡ noDay }
+    ensures { result ≡ no_day }
 {
     Day {
         year: 0,

@@ -4,11 +4,11 @@ use Rattle.refusal.specs.declared.Verdict.{Verdict}
 use Rattle.refusal.specs.declared.Verdict.TheVariants.{Accepted, Refused}
 use Rattle.refusal.specs.Foremost.{Fault, fault, foremost}
 use Rattle.parameters.specs.declared.Sizes.{Sizes}
-use Rattle.parameters.specs.Bounds.{shortFits, evenFits, roundFits}
-use Rattle.parameters.specs.Measures.{shortSizes, evenSizes, turnSizes, roundSizes}
+use Rattle.parameters.specs.Bounds.{short_fits, even_fits, round_fits}
+use Rattle.parameters.specs.Measures.{short_sizes, even_sizes, turn_sizes, round_sizes}
 use Rattle.calendar.specs.declared.Day.{Day}
-use Rattle.calendar.specs.Calendar.{realDay, before, noDay, undated}
-use Rattle.lengths.specs.Lengths.{noLengths, lengthsFit}
+use Rattle.calendar.specs.Calendar.{real_day, before, no_day, undated}
+use Rattle.lengths.specs.Lengths.{no_lengths, lengths_fit}
 use Rattle.symbol.specs.declared.Operation.{Operation}
 use Rattle.symbol.specs.declared.Operation.TheVariants.{ExclusiveOr, Addition}
 use Rattle.catalogue.specs.declared.Code.{Code}
@@ -19,67 +19,67 @@ use Rattle.catalogue.specs.declared.Measured.TheVariants.{Of, Refused as NotMeas
 
 -- N, K and S are within the bounds of the code; the turning code has the short code's (02, item 4)
 abbrev pub fits : Code → ℕ → ℕ → ℕ → Bool
-fits Short = shortFits
-fits Even = evenFits
-fits Turn = shortFits
-fits Round = roundFits
+fits Short = short_fits
+fits Even = even_fits
+fits Turn = short_fits
+fits Round = round_fits
 
 -- the catalogue's numbers are within the bounds of its code
-abbrev pub numbersFit : Catalogue → Bool
-numbersFit c = fits c.code c.servers c.messages c.symbol
+abbrev pub numbers_fit : Catalogue → Bool
+numbers_fit c = fits c.code c.servers c.messages c.symbol
 
 -- two dates that a catalogue may hold (02, item 1): none, or two real days, of which the opening comes before the closing. One date only is not such
-unfoldable pub datesFit : Day → Day → Bool
-datesFit opening closing = undated opening closing || realDay opening && (realDay closing && before opening closing)
+unfoldable pub dates_fit : Day → Day → Bool
+dates_fit opening closing = undated opening closing || real_day opening && (real_day closing && before opening closing)
 
-abbrev pub sizesBy : Code → ℕ → ℕ → ℕ → Sizes
-sizesBy Short = shortSizes
-sizesBy Even = evenSizes
-sizesBy Turn = turnSizes
-sizesBy Round = roundSizes
+abbrev pub sizes_by : Code → ℕ → ℕ → ℕ → Sizes
+sizes_by Short = short_sizes
+sizes_by Even = even_sizes
+sizes_by Turn = turn_sizes
+sizes_by Round = round_sizes
 
 -- the sizes of a catalogue, from its numbers alone
-unfoldable pub sizesOf : Catalogue → Sizes
-sizesOf c = sizesBy c.code c.servers c.messages c.symbol
+unfoldable pub sizes_of : Catalogue → Sizes
+sizes_of c = sizes_by c.code c.servers c.messages c.symbol
 
 -- its lengths, if it has any, are from 1 to all the bytes of a message (02, item 6), and every place that no line fills holds 0
-abbrev pub messagesEnd : Catalogue → Bool
-messagesEnd c = lengthsFit c.messages (sizesOf c).message c.lengths
+abbrev pub messages_end : Catalogue → Bool
+messages_end c = lengths_fit c.messages (sizes_of c).message c.lengths
 
 -- the catalogue keeps its bounds, those of its dates and lengths too
-abbrev pub inBounds : Catalogue → Bool
-inBounds c = numbersFit c && (datesFit c.opening c.closing && messagesEnd c)
+abbrev pub in_bounds : Catalogue → Bool
+in_bounds c = numbers_fit c && (dates_fit c.opening c.closing && messages_end c)
 
 -- symbols (01: pieces) of S bytes are whole words, where words are added (02, item 2)
-abbrev pub wholeWords : Operation → ℕ → Bool
-wholeWords ExclusiveOr S = true
-wholeWords Addition S = eqb (S % 2) 0
+abbrev pub whole_words : Operation → ℕ → Bool
+whole_words ExclusiveOr S = true
+whole_words Addition S = eqb (S % 2) 0
 
 -- What a catalogue value can be refused with ('Numbers a call can give'); every call that has a catalogue puts these faults in front of its own.
 -- One message is within every code's bounds, and is turned away by 17 (02, item 9); an odd symbol under addition by 15 (02, item 2)
-abbrev pub catalogueFaults : Catalogue → List Fault
-catalogueFaults c = fault 2 (not (inBounds c)) ∷ fault 17 (eqb c.messages 1) ∷ fault 15 (not (wholeWords c.sum c.symbol)) ∷ []
+abbrev pub catalogue_faults : Catalogue → List Fault
+catalogue_faults c = fault 2 (not (in_bounds c)) ∷ fault 17 (eqb c.messages 1) ∷ fault 15 (not (whole_words c.sum c.symbol)) ∷ []
 
 -- their numbers
-abbrev pub catalogueNumbers : List ℕ
-catalogueNumbers = 2 ∷ 17 ∷ 15 ∷ []
+abbrev pub catalogue_numbers : List ℕ
+catalogue_numbers = 2 ∷ 17 ∷ 15 ∷ []
 
-unfoldable pub catalogueVerdict : Catalogue → Verdict
-catalogueVerdict c = foremost (catalogueFaults c)
+unfoldable pub catalogue_verdict : Catalogue → Verdict
+catalogue_verdict c = foremost (catalogue_faults c)
 
 -- admitted (01, 'Lists of fetches'; 02, items 2 and 9): none of 2, 17, 15, so that it has two messages or more; `admitted-exactly` says so in numbers
 abbrev pub Admitted : Catalogue → Type 0
-Admitted c = catalogueVerdict c ≡ Accepted
+Admitted c = catalogue_verdict c ≡ Accepted
 
-abbrev measuredBy : Verdict → Sizes → Measured
-measuredBy Accepted sizes = Of sizes
-measuredBy (Refused refusal) sizes = NotMeasured refusal
+abbrev measured_by : Verdict → Sizes → Measured
+measured_by Accepted sizes = Of sizes
+measured_by (Refused refusal) sizes = NotMeasured refusal
 
 -- the sizes, or why the catalogue is refused
-unfoldable pub measuredOf : Catalogue → Measured
-measuredOf c = measuredBy (catalogueVerdict c) (sizesOf c)
+unfoldable pub measured_of : Catalogue → Measured
+measured_of c = measured_by (catalogue_verdict c) (sizes_of c)
 
 -- what a refused reading hands back: zeros, in the places of dates and lengths too, the code short, the sum exclusive or
-abbrev pub zeroCatalogue : Catalogue
-zeroCatalogue =
-    record { code = Short; sum = ExclusiveOr; opening = noDay; closing = noDay; lengths = noLengths; servers = 0; messages = 0; symbol = 0 }
+abbrev pub zero_catalogue : Catalogue
+zero_catalogue =
+    record { code = Short; sum = ExclusiveOr; opening = no_day; closing = no_day; lengths = no_lengths; servers = 0; messages = 0; symbol = 0 }

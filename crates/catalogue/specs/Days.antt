@@ -5,7 +5,7 @@ use Rattle.refusal.specs.declared.Verdict.{Verdict}
 use Rattle.refusal.specs.declared.Verdict.TheVariants.{Accepted}
 use Rattle.refusal.specs.Foremost.{Fault, fault, foremost}
 use Rattle.calendar.specs.declared.Day.{Day}
-use Rattle.calendar.specs.Calendar.{realDay, inSeason, undated}
+use Rattle.calendar.specs.Calendar.{real_day, in_season, undated}
 use Rattle.catalogue.specs.declared.Catalogue.{Catalogue}
 
 -- the catalogue has dates
@@ -13,16 +13,16 @@ abbrev pub dated : Catalogue → Bool
 dated c = not (undated c.opening c.closing)
 
 -- What a call of this day can be refused with, directly behind the catalogue's own faults
-abbrev pub dayFaults : Catalogue → Day → List Fault
-dayFaults c day = fault 13 (dated c && not (realDay day)) ∷ fault 14 (dated c && not (inSeason c.opening c.closing day)) ∷ []
+abbrev pub day_faults : Catalogue → Day → List Fault
+day_faults c day = fault 13 (dated c && not (real_day day)) ∷ fault 14 (dated c && not (in_season c.opening c.closing day)) ∷ []
 
 -- their numbers
-abbrev pub dayNumbers : List ℕ
-dayNumbers = 13 ∷ 14 ∷ []
+abbrev pub day_numbers : List ℕ
+day_numbers = 13 ∷ 14 ∷ []
 
-unfoldable pub dayVerdict : Catalogue → Day → Verdict
-dayVerdict c day = foremost (dayFaults c day)
+unfoldable pub day_verdict : Catalogue → Day → Verdict
+day_verdict c day = foremost (day_faults c day)
 
 -- the catalogue is served on this day: neither of the two is there
 abbrev pub Served : Catalogue → Day → Type 0
-Served c day = dayVerdict c day ≡ Accepted
+Served c day = day_verdict c day ≡ Accepted

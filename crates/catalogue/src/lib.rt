@@ -1,8 +1,8 @@
 // The catalogue: which code, how many servers and messages, how long a symbol, what symbols are combined by, in which season, where messages end;
 // whether it is admitted, and on which days it is served, and the sizes that follow.
 ghost use Rattle.std.specs.Prelude.{◌≡◌, true};
-ghost use Rattle.catalogue.specs.Catalogue.{numbersFit, datesFit, inBounds, wholeWords, catalogueVerdict, zeroCatalogue, sizesOf, measuredOf};
-ghost use Rattle.catalogue.specs.Days.{dayVerdict};
+ghost use Rattle.catalogue.specs.Catalogue.{numbers_fit, dates_fit, in_bounds, whole_words, catalogue_verdict, zero_catalogue, sizes_of, measured_of};
+ghost use Rattle.catalogue.specs.Days.{day_verdict};
 
 use calendar::Day;
 use lengths::Lengths;
@@ -50,7 +50,7 @@ pub enum Measured {
 
 // Whether the numbers of servers, messages and a symbol's bytes are within the bounds of the code.
 fn numbers_fit(c: Catalogue) -> bool
-    ensures { result ≡ numbersFit c }
+    ensures { result ≡ numbers_fit c }
 {
     let code = c.code;
     match code {
@@ -63,7 +63,7 @@ fn numbers_fit(c: Catalogue) -> bool
 
 // Whether two dates can be a season's: none, or two real days, of which the opening comes first.
 fn dates_fit(opening: Day, closing: Day) -> bool
-    ensures { result ≡ datesFit opening closing }
+    ensures { result ≡ dates_fit opening closing }
 {
     if calendar::are_none(opening, closing) {
         return true;
@@ -79,8 +79,8 @@ fn dates_fit(opening: Day, closing: Day) -> bool
 
 // The sizes that follow from numbers within their bounds.
 fn sizes_of(c: Catalogue) -> Sizes
-    requires { numbersFit c ≡ true }
-    ensures { result ≡ sizesOf c }
+    requires { numbers_fit c ≡ true }
+    ensures { result ≡ sizes_of c }
 {
     let code = c.code;
     match code {
@@ -93,7 +93,7 @@ fn sizes_of(c: Catalogue) -> Sizes
 
 // Whether the catalogue keeps its bounds.
 fn in_bounds(c: Catalogue) -> bool
-    ensures { result ≡ inBounds c }
+    ensures { result ≡ in_bounds c }
 {
     if !numbers_fit(c) {
         return false;
@@ -107,7 +107,7 @@ fn in_bounds(c: Catalogue) -> bool
 
 // Whether symbols of s bytes are whole words, where words are added.
 fn whole_words(sum: Operation, s: usize) -> bool
-    ensures { result ≡ wholeWords sum s }
+    ensures { result ≡ whole_words sum s }
 {
     match sum {
         Operation::ExclusiveOr => true,
@@ -117,7 +117,7 @@ fn whole_words(sum: Operation, s: usize) -> bool
 
 // Whether the catalogue is admitted: it breaks none of its bounds, has more than one message, and adds only whole words.
 pub fn verdict(c: Catalogue) -> Verdict
-    ensures { result ≡ catalogueVerdict c }
+    ensures { result ≡ catalogue_verdict c }
 {
     if !in_bounds(c) {
         return Verdict::Refused(Refusal::Bounds);
@@ -134,7 +134,7 @@ pub fn verdict(c: Catalogue) -> Verdict
 
 // Whether today is a day on which the catalogue is served: any day where it has no dates, else a real one in its season.
 pub fn day_verdict(c: Catalogue, today: Day) -> Verdict
-    ensures { result ≡ dayVerdict c today }
+    ensures { result ≡ day_verdict c today }
 {
     if calendar::are_none(c.opening, c.closing) {
         return Verdict::Accepted;
@@ -150,7 +150,7 @@ pub fn day_verdict(c: Catalogue, today: Day) -> Verdict
 
 // The catalogue of zeros, its code short, its sum exclusive or.
 pub fn zero() -> Catalogue
-    ensures { result ≡ zeroCatalogue }
+    ensures { result ≡ zero_catalogue }
 {
     Catalogue {
         code: Code::Short,
@@ -166,7 +166,7 @@ pub fn zero() -> Catalogue
 
 // The sizes that follow from the catalogue, if it is admitted.
 pub fn sizes(c: Catalogue) -> Measured
-    ensures { result ≡ measuredOf c }
+    ensures { result ≡ measured_of c }
 {
     if let Verdict::Refused(refusal) = verdict(c) {
         return Measured::Refused(refusal);

@@ -13,49 +13,49 @@ use Rattle.refusal.specs.declared.Verdict.{Verdict}
 use Rattle.refusal.specs.declared.Verdict.TheVariants.{Accepted, Refused}
 use Rattle.refusal.specs.declared.Outcome.TheVariants.{Value, Refused as NotWritten}
 use Rattle.refusal.specs.Foremost.{foremost}
-use Rattle.refusal.specs.Chain.{refuseIf, and_then}
+use Rattle.refusal.specs.Chain.{refuse_if, and_then}
 use Rattle.refusal.proofs.Foremost.{foremost-chain}
 use Rattle.catalogue.specs.declared.Catalogue.{Catalogue}
-use Rattle.catalogue.specs.Catalogue.{catalogueVerdict}
+use Rattle.catalogue.specs.Catalogue.{catalogue_verdict}
 use Rattle.catalogue.proofs.Faults.{catalogue-chain}
 use Rattle.catalogue_text.specs.Text.{text_of}
-use Rattle.catalogue_text.specs.Parsing.{catalogueLines, lineFault, linesFaults, linesBy, lines_of, readFaults, readingBy, read_of}
-use Rattle.catalogue_text.specs.Writing.{writeVerdict, Wrote}
+use Rattle.catalogue_text.specs.Parsing.{catalogue_lines, line_fault, lines_faults, lines_by, lines_of, read_faults, reading_by, read_of}
+use Rattle.catalogue_text.specs.Writing.{write_verdict, Wrote}
 use Rattle.catalogue_text.proofs.CatalogueLines.{lines-cases}
 
 module _ (text : List ℕ) where
   -- the lines are refused with 1 or not at all
-  pub line-chain : foremost (lineFault text ∷ []) ≡ (catalogueLines text).verdict
-  line-chain = foremost-chain (lineFault text ∷ []) refl ∙ ⊎_elim (λ e. rw e) (λ r. rw r.1.accepted) (lines-cases text)
+  pub line-chain : foremost (line_fault text ∷ []) ≡ (catalogue_lines text).verdict
+  line-chain = foremost-chain (line_fault text ∷ []) refl ∙ ⊎_elim (λ e. rw e) (λ r. rw r.1.accepted) (lines-cases text)
 
-  pub lines-chain : foremost (linesFaults text) ≡ and_then (catalogueLines text).verdict (catalogueVerdict (catalogueLines text).catalogue)
+  pub lines-chain : foremost (lines_faults text) ≡ and_then (catalogue_lines text).verdict (catalogue_verdict (catalogue_lines text).catalogue)
   lines-chain =
-      foremost-chain (linesFaults text) refl
-      ∙ ⊎_elim (λ e. rw e) (λ r. rw (r.1.accepted, catalogue-chain (catalogueLines text).catalogue)) (lines-cases text)
+      foremost-chain (lines_faults text) refl
+      ∙ ⊎_elim (λ e. rw e) (λ r. rw (r.1.accepted, catalogue-chain (catalogue_lines text).catalogue)) (lines-cases text)
 
   -- a whole text: the lines, then its end, then the catalogue
-  abbrev pub readVerdict : Verdict
-  readVerdict =
-      and_then (catalogueLines text).verdict
-      (refuseIf (not (eqb (catalogueLines text).next (length text))) 1 (catalogueVerdict (catalogueLines text).catalogue))
+  abbrev pub read_verdict : Verdict
+  read_verdict =
+      and_then (catalogue_lines text).verdict
+      (refuse_if (not (eqb (catalogue_lines text).next (length text))) 1 (catalogue_verdict (catalogue_lines text).catalogue))
 
-  pub read-chain : foremost (readFaults text) ≡ readVerdict
+  pub read-chain : foremost (read_faults text) ≡ read_verdict
   read-chain =
-      foremost-chain (readFaults text) refl
-      ∙ ⊎_elim (λ e. rw e) (λ r. rw (r.1.accepted, catalogue-chain (catalogueLines text).catalogue)) (lines-cases text)
+      foremost-chain (read_faults text) refl
+      ∙ ⊎_elim (λ e. rw e) (λ r. rw (r.1.accepted, catalogue-chain (catalogue_lines text).catalogue)) (lines-cases text)
 
-  pub read_is : read_of text ≡ readingBy readVerdict (catalogueLines text).catalogue
+  pub read_is : read_of text ≡ reading_by read_verdict (catalogue_lines text).catalogue
   unfolding read_of
-  read_is = ap (λ (v : Verdict). readingBy v (catalogueLines text).catalogue) read-chain
+  read_is = ap (λ (v : Verdict). reading_by v (catalogue_lines text).catalogue) read-chain
 
-  pub lines-is : lines_of text ≡ linesBy (and_then (catalogueLines text).verdict (catalogueVerdict (catalogueLines text).catalogue)) (catalogueLines text)
+  pub lines-is : lines_of text ≡ lines_by (and_then (catalogue_lines text).verdict (catalogue_verdict (catalogue_lines text).catalogue)) (catalogue_lines text)
   unfolding lines_of
-  lines-is = ap (λ (v : Verdict). linesBy v (catalogueLines text)) lines-chain
+  lines-is = ap (λ (v : Verdict). lines_by v (catalogue_lines text)) lines-chain
 
 module _ (c : Catalogue) (buffer : List ℕ) where
-  pub wrote-refused : (refusal : Refusal) → Refused refusal ≡ writeVerdict c (length buffer) → Wrote c buffer (NotWritten refusal) buffer
+  pub wrote-refused : (refusal : Refusal) → Refused refusal ≡ write_verdict c (length buffer) → Wrote c buffer (NotWritten refusal) buffer
   wrote-refused refusal e = record { outcome-is = rw (← e); after_is = rw (← e) }
 
-  pub wrote-text : (size : ℕ) (after : List ℕ) → Accepted ≡ writeVerdict c (length buffer) → size ≡ length (text_of c) → after ≡ put 0 (text_of c) buffer
+  pub wrote-text : (size : ℕ) (after : List ℕ) → Accepted ≡ write_verdict c (length buffer) → size ≡ length (text_of c) → after ≡ put 0 (text_of c) buffer
       → Wrote c buffer (Value size) after
   wrote-text size after e s a = record { outcome-is = rw (← e, s); after_is = rw (← e) a }

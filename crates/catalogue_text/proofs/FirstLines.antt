@@ -10,39 +10,39 @@ use lib.Seq.{drop-append_seam}
 use Rattle.lists.proofs.Cuts.{drop-after}
 use Rattle.text_lines.specs.declared.Line.{Line}
 use Rattle.text_lines.specs.declared.Line.TheVariants.{Value, Refused}
-use Rattle.text_lines.specs.Lines.{numberText, begins, numberLine}
+use Rattle.text_lines.specs.Lines.{number_text, begins, number_line}
 use Rattle.text_lines.proofs.Begins.{begins-split}
 use Rattle.text_lines.proofs.RoundTrip.{LineRead, line-written, line_read}
 use Rattle.catalogue.specs.declared.Code.{Code}
 use Rattle.catalogue.specs.declared.Code.TheVariants.{Short, Even, Turn, Round}
 use Rattle.catalogue_text.specs.declared.First.{First}
 use Rattle.catalogue_text.specs.declared.First.TheVariants.{Of}
-use Rattle.catalogue_text.specs.Text.{codeText, serversName, messagesName, symbolName}
-use Rattle.catalogue_text.specs.Parsing.{codeNamed, codeLine, onFirst, first_lines}
-use Rattle.catalogue_text.proofs.TextParts.{firstText, first-length}
+use Rattle.catalogue_text.specs.Text.{code_text, servers_name, messages_name, symbol_name}
+use Rattle.catalogue_text.specs.Parsing.{code_named, code_line, on_first, first_lines}
+use Rattle.catalogue_text.proofs.TextParts.{first_text, first-length}
 
 -- ---- the first line
 
-pub code-round : (n : ℕ) → (n ≡ 0 → ⊥) → (n ≡ 1 → ⊥) → (n ≡ 2 → ⊥) → Round ≡ codeNamed n
+pub code-round : (n : ℕ) → (n ≡ 0 → ⊥) → (n ≡ 1 → ⊥) → (n ≡ 2 → ⊥) → Round ≡ code_named n
 code-round zero h i j = absurd (h refl)
 code-round (suc zero) h i j = absurd (i refl)
 code-round (suc (suc zero)) h i j = absurd (j refl)
 code-round (suc (suc (suc n))) h i j = refl
 
-abbrev codeNumber : Code → ℕ
-codeNumber Short = 0
-codeNumber Even = 1
-codeNumber Turn = 2
-codeNumber Round = 3
+abbrev code_number : Code → ℕ
+code_number Short = 0
+code_number Even = 1
+code_number Turn = 2
+code_number Round = 3
 
-code-number : (code : Code) → codeNamed (codeNumber code) ≡ code
+code-number : (code : Code) → code_named (code_number code) ≡ code
 code-number Short = refl
 code-number Even = refl
 code-number Turn = refl
 code-number Round = refl
 
-code-written : (code : Code) (rest : List ℕ) → codeLine (codeText code ++ rest) ≡ Value (codeNumber code) (length (codeText code))
-unfolding codeLine begins
+code-written : (code : Code) (rest : List ℕ) → code_line (code_text code ++ rest) ≡ Value (code_number code) (length (code_text code))
+unfolding code_line begins
 code-written Short rest = refl
 code-written Even rest = refl
 code-written Turn rest = refl
@@ -50,57 +50,57 @@ code-written Round rest = refl
 
 -- a first line that was read
 record CodeRead (text : List ℕ) (code next : ℕ) : Type 0 where
-  next-is : next ≡ length (codeText (codeNamed code))
-  here : text ≡ codeText (codeNamed code) ++ drop next text
+  next-is : next ≡ length (code_text (code_named code))
+  here : text ≡ code_text (code_named code) ++ drop next text
 
-code_read : (text : List ℕ) (code next : ℕ) → codeLine text ≡ Value code next → CodeRead text code next
-unfolding codeLine
+code_read : (text : List ℕ) (code next : ℕ) → code_line text ≡ Value code next → CodeRead text code next
+unfolding code_line
 code_read text code next e =
-    go (begins (codeText Short) text) (begins (codeText Even) text) (begins (codeText Turn) text) (begins (codeText Round) text) refl refl refl refl e
+    go (begins (code_text Short) text) (begins (code_text Even) text) (begins (code_text Turn) text) (begins (code_text Round) text) refl refl refl refl e
   where
-    go : (s t u v : Bool) → begins (codeText Short) text ≡ s → begins (codeText Even) text ≡ t → begins (codeText Turn) text ≡ u
-        → begins (codeText Round) text ≡ v → cond s (Value 0 11) (cond t (Value 1 10) (cond u (Value 2 10) (cond v (Value 3 11) Refused))) ≡ Value code next
+    go : (s t u v : Bool) → begins (code_text Short) text ≡ s → begins (code_text Even) text ≡ t → begins (code_text Turn) text ≡ u
+        → begins (code_text Round) text ≡ v → cond s (Value 0 11) (cond t (Value 1 10) (cond u (Value 2 10) (cond v (Value 3 11) Refused))) ≡ Value code next
         → CodeRead text code next
     go true t u v short even turn round e =
         let c : code ≡ 0 = cc in
         let n : next ≡ 11 = cc in
-        rw (c, n) (record { next-is = refl; here = begins-split (codeText Short) text short })
+        rw (c, n) (record { next-is = refl; here = begins-split (code_text Short) text short })
     go false true u v short even turn round e =
         let c : code ≡ 1 = cc in
         let n : next ≡ 10 = cc in
-        rw (c, n) (record { next-is = refl; here = begins-split (codeText Even) text even })
+        rw (c, n) (record { next-is = refl; here = begins-split (code_text Even) text even })
     go false false true v short even turn round e =
         let c : code ≡ 2 = cc in
         let n : next ≡ 10 = cc in
-        rw (c, n) (record { next-is = refl; here = begins-split (codeText Turn) text turn })
+        rw (c, n) (record { next-is = refl; here = begins-split (code_text Turn) text turn })
     go false false false true short even turn round e =
         let c : code ≡ 3 = cc in
         let n : next ≡ 11 = cc in
-        rw (c, n) (record { next-is = refl; here = begins-split (codeText Round) text round })
+        rw (c, n) (record { next-is = refl; here = begins-split (code_text Round) text round })
     go false false false false short even turn round e = let z : ◌≡◌ {A = ℕ} 0 1 = cc in absurd (let w : ⊥ = omega arith in w)
 
 -- ---- the four lines
 
 pub first-written : (code : Code) (N K S : ℕ) (rest : List ℕ) → N < 100000 → K < 100000 → S < 100000
-    → first_lines (firstText code N K S ++ rest) ≡ Of code N K S (length (firstText code N K S))
+    → first_lines (first_text code N K S ++ rest) ≡ Of code N K S (length (first_text code N K S))
 unfolding first_lines
 first-written code N K S rest servers messages symbol =
-    let a = codeText code in
-    let b = numberText serversName N in
-    let d = numberText messagesName K in
-    let e = numberText symbolName S in
-    let text = firstText code N K S ++ rest in
+    let a = code_text code in
+    let b = number_text servers_name N in
+    let d = number_text messages_name K in
+    let e = number_text symbol_name S in
+    let text = first_text code N K S ++ rest in
     let after-a = b ++ (d ++ (e ++ rest)) in
     let whole : text ≡ a ++ after-a = simp append_assoc in
-    let first : codeLine text ≡ Value (codeNumber code) (length a) = ap codeLine whole ∙ code-written code after-a in
+    let first : code_line text ≡ Value (code_number code) (length a) = ap code_line whole ∙ code-written code after-a in
     let at_b : drop (length a) text ≡ after-a = ap (drop (length a)) whole ∙ drop-append_seam a after-a in
     let at-d : drop (length a + length b) text ≡ d ++ (e ++ rest) = drop-after text b (d ++ (e ++ rest)) (length a) at_b in
     let at-e : drop (length a + length b + length d) text ≡ e ++ rest = drop-after text d (e ++ rest) (length a + length b) at-d in
     simp (
       first,
-      line-written 5 serversName text (d ++ (e ++ rest)) (length a) N (omega arith) servers at_b,
-      line-written 5 messagesName text (e ++ rest) (length a + length b) K (omega arith) messages at-d,
-      line-written 5 symbolName text rest (length a + length b + length d) S (omega arith) symbol at-e,
+      line-written 5 servers_name text (d ++ (e ++ rest)) (length a) N (omega arith) servers at_b,
+      line-written 5 messages_name text (e ++ rest) (length a + length b) K (omega arith) messages at-d,
+      line-written 5 symbol_name text rest (length a + length b + length d) S (omega arith) symbol at-e,
       code-number code,
       first-length code N K S,
     )
@@ -110,18 +110,18 @@ pub record FirstRead (text : List ℕ) (code : Code) (N K S next : ℕ) : Type 0
   pub servers : N < 100000
   pub messages : K < 100000
   pub symbol : S < 100000
-  pub next-is : next ≡ length (firstText code N K S)
-  pub here : text ≡ firstText code N K S ++ drop next text
+  pub next-is : next ≡ length (first_text code N K S)
+  pub here : text ≡ first_text code N K S ++ drop next text
 
 all_read : (text : List ℕ) (code a N b K d S e : ℕ) → CodeRead text code a
-    → LineRead 5 serversName text a N b → LineRead 5 messagesName text b K d → LineRead 5 symbolName text d S e
-    → FirstRead text (codeNamed code) N K S e
+    → LineRead 5 servers_name text a N b → LineRead 5 messages_name text b K d → LineRead 5 symbol_name text d S e
+    → FirstRead text (code_named code) N K S e
 all_read text code a N b K d S e first servers messages symbol =
-    let p = codeText (codeNamed code) in
-    let q = numberText serversName N in
-    let r = numberText messagesName K in
-    let s = numberText symbolName S in
-    let l = first-length (codeNamed code) N K S in
+    let p = code_text (code_named code) in
+    let q = number_text servers_name N in
+    let r = number_text messages_name K in
+    let s = number_text symbol_name S in
+    let l = first-length (code_named code) N K S in
     let i = first.next-is in
     let j = servers.next-is in
     let k = messages.next-is in
@@ -138,7 +138,7 @@ all_read text code a N b K d S e first servers messages symbol =
     }
 
 -- a line that goes on to the four was read
-went_on : (line : Line) (continue : ℕ → ℕ → First) (code : Code) (N K S next : ℕ) (A : Type 0) → onFirst line continue ≡ Of code N K S next
+went_on : (line : Line) (continue : ℕ → ℕ → First) (code : Code) (N K S next : ℕ) (A : Type 0) → on_first line continue ≡ Of code N K S next
     → ((value place : ℕ) → line ≡ Value value place → continue value place ≡ Of code N K S next → A) → A
 went_on (Value value place) continue code N K S next A e then = then value place refl e
 went_on Refused continue code N K S next A e then = let z : ◌≡◌ {A = ℕ} 0 1 = cc in absurd (let w : ⊥ = omega arith in w)
@@ -146,11 +146,11 @@ went_on Refused continue code N K S next A e then = let z : ◌≡◌ {A = ℕ} 
 pub first_read : (text : List ℕ) (code : Code) (N K S next : ℕ) → first_lines text ≡ Of code N K S next → FirstRead text code N K S next
 unfolding first_lines
 first_read text code N K S next e =
-    went_on (codeLine text) _ code N K S next _ e λ value a first after-a.
-    went_on (numberLine 5 serversName text a) _ code N K S next _ after-a λ n b servers after-b.
-    went_on (numberLine 5 messagesName text b) _ code N K S next _ after-b λ k d messages after-d.
-    went_on (numberLine 5 symbolName text d) _ code N K S next _ after-d λ s f symbol done.
-    let h : codeNamed value ≡ code = cc in
+    went_on (code_line text) _ code N K S next _ e λ value a first after-a.
+    went_on (number_line 5 servers_name text a) _ code N K S next _ after-a λ n b servers after-b.
+    went_on (number_line 5 messages_name text b) _ code N K S next _ after-b λ k d messages after-d.
+    went_on (number_line 5 symbol_name text d) _ code N K S next _ after-d λ s f symbol done.
+    let h : code_named value ≡ code = cc in
     let i : n ≡ N = cc in
     let j : k ≡ K = cc in
     let l : s ≡ S = cc in
@@ -158,6 +158,6 @@ first_read text code N K S next e =
     rw (h, i, j, l, m) at
     (all_read text value a n b k d s f
     (code_read text value a first)
-    (line_read 5 serversName text a n b servers)
-    (line_read 5 messagesName text b k d messages)
-    (line_read 5 symbolName text d s f symbol))
+    (line_read 5 servers_name text a n b servers)
+    (line_read 5 messages_name text b k d messages)
+    (line_read 5 symbol_name text d s f symbol))

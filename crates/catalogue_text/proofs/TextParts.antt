@@ -10,69 +10,69 @@ use lib.ListN.{length, length-append}
 use Rattle.lists.specs.Parts.{put}
 use Rattle.lists.proofs.Both.{both_true, true-both}
 use Rattle.lists.proofs.Puts.{put_next, put_three}
-use Rattle.text_lines.specs.Lines.{numberText}
+use Rattle.text_lines.specs.Lines.{number_text}
 use Rattle.symbol.specs.declared.Operation.{Operation}
 use Rattle.symbol.specs.declared.Operation.TheVariants.{ExclusiveOr, Addition}
 use Rattle.calendar.specs.declared.Day.{Day}
-use Rattle.calendar.specs.Calendar.{realDay, before, undated}
-use Rattle.season_text.specs.SeasonLines.{inForm, seasonText}
-use Rattle.lengths.specs.Lengths.{numbersOf}
+use Rattle.calendar.specs.Calendar.{real_day, before, undated}
+use Rattle.season_text.specs.SeasonLines.{in_form, season_text}
+use Rattle.lengths.specs.Lengths.{numbers_of}
 use Rattle.length_text.proofs.Fitting.{numbers-in-form, kept-numbers, numbers-kept}
 use Rattle.catalogue.specs.declared.Code.{Code}
 use Rattle.catalogue.specs.declared.Code.TheVariants.{Short, Even, Turn, Round}
 use Rattle.catalogue.specs.declared.Catalogue.{Catalogue}
-use Rattle.catalogue.specs.Catalogue.{datesFit, sizesOf, Admitted}
+use Rattle.catalogue.specs.Catalogue.{dates_fit, sizes_of, Admitted}
 use Rattle.catalogue.proofs.Admitted.{admitted-numbers, admitted-dates, admitted-lengths, admitted-small}
-use Rattle.catalogue_text.specs.Text.{codeText, serversName, messagesName, symbolName, sumText, headText, ownNumbers, Writable}
+use Rattle.catalogue_text.specs.Text.{code_text, servers_name, messages_name, symbol_name, sum_text, head_text, own_numbers, Writable}
 
-pub code-most : (code : Code) → length (codeText code) ≤ 11
+pub code-most : (code : Code) → length (code_text code) ≤ 11
 code-most Short = omega arith
 code-most Even = omega arith
 code-most Turn = omega arith
 code-most Round = omega arith
 
-pub sum-most : (sum : Operation) → length (sumText sum) ≤ 8
+pub sum-most : (sum : Operation) → length (sum_text sum) ≤ 8
 sum-most ExclusiveOr = omega arith
 sum-most Addition = omega arith
 
 -- the first four lines
-abbrev pub firstText : Code → ℕ → ℕ → ℕ → List ℕ
-firstText code N K S = codeText code ++ (numberText serversName N ++ (numberText messagesName K ++ numberText symbolName S))
+abbrev pub first_text : Code → ℕ → ℕ → ℕ → List ℕ
+first_text code N K S = code_text code ++ (number_text servers_name N ++ (number_text messages_name K ++ number_text symbol_name S))
 
 pub first-length : (code : Code) (N K S : ℕ)
-    → length (codeText code) + length (numberText serversName N) + length (numberText messagesName K) + length (numberText symbolName S)
-    ≡ length (firstText code N K S)
+    → length (code_text code) + length (number_text servers_name N) + length (number_text messages_name K) + length (number_text symbol_name S)
+    ≡ length (first_text code N K S)
 first-length code N K S =
-    let b = numberText serversName N in
-    let d = numberText messagesName K in
-    let e = numberText symbolName S in
-    let l = length-append (codeText code) (b ++ (d ++ e)) in
+    let b = number_text servers_name N in
+    let d = number_text messages_name K in
+    let e = number_text symbol_name S in
+    let l = length-append (code_text code) (b ++ (d ++ e)) in
     let m = length-append b (d ++ e) in
     let n = length-append d e in
     omega arith
 
 -- the first lines, the dates and the sum
 pub head-parts : (c : Catalogue)
-    → headText c ≡ firstText c.code c.servers c.messages c.symbol ++ (seasonText c.opening c.closing ++ sumText c.sum)
-unfolding headText
+    → head_text c ≡ first_text c.code c.servers c.messages c.symbol ++ (season_text c.opening c.closing ++ sum_text c.sum)
+unfolding head_text
 head-parts c = simp append_assoc
 
 pub parts-length : (c : Catalogue)
-    → length (firstText c.code c.servers c.messages c.symbol) + length (seasonText c.opening c.closing) + length (sumText c.sum)
-    ≡ length (headText c)
+    → length (first_text c.code c.servers c.messages c.symbol) + length (season_text c.opening c.closing) + length (sum_text c.sum)
+    ≡ length (head_text c)
 parts-length c =
-    let first = firstText c.code c.servers c.messages c.symbol in
-    let season = seasonText c.opening c.closing in
+    let first = first_text c.code c.servers c.messages c.symbol in
+    let season = season_text c.opening c.closing in
     let l = ap length (head-parts c) in
-    let m = length-append first (season ++ sumText c.sum) in
-    let n = length-append season (sumText c.sum) in
+    let m = length-append first (season ++ sum_text c.sum) in
+    let n = length-append season (sum_text c.sum) in
     omega arith
 
 pub head-length : (c : Catalogue)
-    → length (headText c)
-    ≡ length (codeText c.code) + length (numberText serversName c.servers)
-    + length (numberText messagesName c.messages) + length (numberText symbolName c.symbol)
-    + length (seasonText c.opening c.closing) + length (sumText c.sum)
+    → length (head_text c)
+    ≡ length (code_text c.code) + length (number_text servers_name c.servers)
+    + length (number_text messages_name c.messages) + length (number_text symbol_name c.symbol)
+    + length (season_text c.opening c.closing) + length (sum_text c.sum)
 head-length c = let l = parts-length c in let m = first-length c.code c.servers c.messages c.symbol in omega arith
 
 -- ---- an admitted catalogue can be written
@@ -82,15 +82,15 @@ without-last : (t u v w : Bool) → t || u && (v && w) ≡ true → t || u && v 
 without-last true u v w e = refl
 without-last false u v w e = let p = both_true u (v && w) e in true-both p.0 (both_true v w p.1).0
 
-dates-fit : (opening closing : Day) → datesFit opening closing ≡ true → inForm opening closing ≡ true
-unfolding datesFit inForm
-dates-fit opening closing e = without-last (undated opening closing) (realDay opening) (realDay closing) (before opening closing) e
+dates-fit : (opening closing : Day) → dates_fit opening closing ≡ true → in_form opening closing ≡ true
+unfolding dates_fit in_form
+dates-fit opening closing e = without-last (undated opening closing) (real_day opening) (real_day closing) (before opening closing) e
 
-pub admitted-writable : (c : Catalogue) → Admitted c → Writable c (ownNumbers c)
+pub admitted-writable : (c : Catalogue) → Admitted c → Writable c (own_numbers c)
 admitted-writable c a =
     let b = admitted-numbers c a in
     let s = admitted-small c a in
-    let whole = (sizesOf c).message in
+    let whole = (sizes_of c).message in
     let fit = admitted-lengths c a in
     let some : 1 ≤ c.messages = omega arith in
     record {
@@ -103,10 +103,10 @@ admitted-writable c a =
     }
 
 -- the numbers beside an admitted value are its own
-pub own-numbers : (c : Catalogue) (ns : List ℕ) → Admitted c → Writable c ns → ns ≡ ownNumbers c
+pub own-numbers : (c : Catalogue) (ns : List ℕ) → Admitted c → Writable c ns → ns ≡ own_numbers c
 own-numbers c ns a fit =
     sym (numbers-kept c.messages ns fit.lengths (admitted-numbers c a).messages-high)
-    ∙ ap (numbersOf c.messages) (sym fit.kept-are)
+    ∙ ap (numbers_of c.messages) (sym fit.kept-are)
 
 -- ---- six parts written one after another
 

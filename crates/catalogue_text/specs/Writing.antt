@@ -7,25 +7,25 @@ use Rattle.refusal.specs.declared.Outcome.{Outcome}
 use Rattle.refusal.specs.declared.Outcome.TheVariants.{Value, Refused as NotWritten}
 use Rattle.refusal.specs.Foremost.{Fault, fault, foremost}
 use Rattle.catalogue.specs.declared.Catalogue.{Catalogue}
-use Rattle.catalogue.specs.Catalogue.{catalogueFaults}
+use Rattle.catalogue.specs.Catalogue.{catalogue_faults}
 use Rattle.catalogue_text.specs.Text.{text_of}
 
--- writeFaults c room
-abbrev pub writeFaults : Catalogue → ℕ → List Fault
-writeFaults c room = catalogueFaults c ++ (fault 9 (ltb room (length (text_of c))) ∷ [])
+-- write_faults c room
+abbrev pub write_faults : Catalogue → ℕ → List Fault
+write_faults c room = catalogue_faults c ++ (fault 9 (ltb room (length (text_of c))) ∷ [])
 
-unfoldable pub writeVerdict : Catalogue → ℕ → Verdict
-writeVerdict c room = foremost (writeFaults c room)
+unfoldable pub write_verdict : Catalogue → ℕ → Verdict
+write_verdict c room = foremost (write_faults c room)
 
-abbrev pub outcomeBy : Verdict → List ℕ → Outcome
-outcomeBy Accepted text = Value (length text)
-outcomeBy (Refused refusal) text = NotWritten refusal
+abbrev pub outcome_by : Verdict → List ℕ → Outcome
+outcome_by Accepted text = Value (length text)
+outcome_by (Refused refusal) text = NotWritten refusal
 
-abbrev pub bufferBy : Verdict → List ℕ → List ℕ → List ℕ
-bufferBy Accepted text buffer = put 0 text buffer
-bufferBy (Refused refusal) text buffer = buffer
+abbrev pub buffer_by : Verdict → List ℕ → List ℕ → List ℕ
+buffer_by Accepted text buffer = put 0 text buffer
+buffer_by (Refused refusal) text buffer = buffer
 
 -- the text at the start of the buffer, whose rest stays as it was
 pub record Wrote (c : Catalogue) (buffer : List ℕ) (outcome : Outcome) (after : List ℕ) : Type 0 where
-  pub outcome-is : outcome ≡ outcomeBy (writeVerdict c (length buffer)) (text_of c)
-  pub after_is : after ≡ bufferBy (writeVerdict c (length buffer)) (text_of c) buffer
+  pub outcome-is : outcome ≡ outcome_by (write_verdict c (length buffer)) (text_of c)
+  pub after_is : after ≡ buffer_by (write_verdict c (length buffer)) (text_of c) buffer

@@ -1,6 +1,6 @@
 // The catalogue's text: reading it line by line, and writing it.
 ghost use Rattle.std.specs.Prelude.{◌≡◌};
-ghost use Rattle.catalogue_text.specs.Parsing.{first_lines, catalogueOf, refusedLines, catalogueLines, lines_of, unread, read_of};
+ghost use Rattle.catalogue_text.specs.Parsing.{first_lines, catalogue_of, refused_lines, catalogue_lines, lines_of, unread, read_of};
 ghost use Rattle.catalogue_text.specs.Writing.{Wrote};
 
 use calendar::Day;
@@ -83,7 +83,7 @@ fn catalogue_of(
     sum: usize,
     lengths: Lengths,
 ) -> Catalogue
-    ensures { result ≡ catalogueOf code servers messages symbol opening closing sum lengths }
+    ensures { result ≡ catalogue_of code servers messages symbol opening closing sum lengths }
 {
     Catalogue {
         code: code,
@@ -99,7 +99,7 @@ fn catalogue_of(
 
 // Lines that are refused.
 fn refused(refusal: Refusal) -> Lines
-    ensures { result ≡ refusedLines refusal }
+    ensures { result ≡ refused_lines refusal }
 {
     Lines {
         verdict: Verdict::Refused(refusal),
@@ -110,7 +110,7 @@ fn refused(refusal: Refusal) -> Lines
 
 // The catalogue's lines at the start of the text, in any bounds. For an input that goes on after the catalogue.
 pub fn catalogue_lines(text: &[u8]) -> Lines
-    ensures { result ≡ catalogueLines text.now }
+    ensures { result ≡ catalogue_lines text.now }
 {
     let First::Of {
         code,

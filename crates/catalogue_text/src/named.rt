@@ -2,8 +2,8 @@
 // written.
 ghost use Rattle.std.specs.Prelude.{◌≡◌, ◌+◌, ◌≤◌, length};
 ghost use Rattle.lists.specs.Parts.{put};
-ghost use Rattle.catalogue_text.specs.Text.{codeText, sumText};
-ghost use Rattle.catalogue_text.specs.Parsing.{codeNamed, codeLine, sumNamed, sumLine};
+ghost use Rattle.catalogue_text.specs.Text.{code_text, sum_text};
+ghost use Rattle.catalogue_text.specs.Parsing.{code_named, code_line, sum_named, sum_line};
 
 use catalogue::Code;
 use symbol::Operation;
@@ -11,7 +11,7 @@ use text_lines::Line;
 
 // The first line of a catalogue: 0 for the short code, 1 for the even one, 2 for the turning one, 3 for the round one.
 pub fn code_line(text: &[u8]) -> Line
-    ensures { result ≡ codeLine text.now }
+    ensures { result ≡ code_line text.now }
 {
     if text_lines::starts(b"code=short\n", text) {
         return Line::Value { value: 0, next: 11 };
@@ -30,7 +30,7 @@ pub fn code_line(text: &[u8]) -> Line
 
 // The code of a first line's value.
 pub fn code_named(value: usize) -> Code
-    ensures { result ≡ codeNamed value }
+    ensures { result ≡ code_named value }
 {
     if value == 0 {
         return Code::Short;
@@ -43,7 +43,7 @@ pub fn code_named(value: usize) -> Code
 
 // The line of the sum at place `at`: 0 if no line of that name begins there, 1 for addition.
 pub fn sum_line(text: &[u8], at: usize) -> Line
-    ensures { result ≡ sumLine text.now at }
+    ensures { result ≡ sum_line text.now at }
 {
     if text.len() < at {
         return Line::Value { value: 0, next: at };
@@ -62,7 +62,7 @@ pub fn sum_line(text: &[u8], at: usize) -> Line
 
 // The sum of its line's value.
 pub fn sum_named(value: usize) -> Operation
-    ensures { result ≡ sumNamed value }
+    ensures { result ≡ sum_named value }
 {
     if value == 0 {
         Operation::ExclusiveOr
@@ -73,9 +73,9 @@ pub fn sum_named(value: usize) -> Operation
 
 // Writes the first line at the start, and gives the place after it.
 pub fn put_code(out: &mut [u8], code: Code) -> usize
-    requires { length (codeText code) ≤ length out.old }
-    ensures value { result ≡ length (codeText code) }
-    ensures out_after { out.new ≡ put 0 (codeText code) out.old }
+    requires { length (code_text code) ≤ length out.old }
+    ensures value { result ≡ length (code_text code) }
+    ensures out_after { out.new ≡ put 0 (code_text code) out.old }
 {
     match code {
         Code::Short => text_lines::put_bytes(out, 0, b"code=short\n"),
@@ -87,9 +87,9 @@ pub fn put_code(out: &mut [u8], code: Code) -> usize
 
 // Writes the line of the sum from place `at` on, and gives the place after it.
 pub fn put_sum(out: &mut [u8], at: usize, sum: Operation) -> usize
-    requires { at + length (sumText sum) ≤ length out.old }
-    ensures value { result ≡ at + length (sumText sum) }
-    ensures out_after { out.new ≡ put at (sumText sum) out.old }
+    requires { at + length (sum_text sum) ≤ length out.old }
+    ensures value { result ≡ at + length (sum_text sum) }
+    ensures out_after { out.new ≡ put at (sum_text sum) out.old }
 {
     match sum {
         Operation::ExclusiveOr => at,
@@ -99,7 +99,7 @@ pub fn put_sum(out: &mut [u8], at: usize, sum: Operation) -> usize
 
 // The bytes of the first line.
 pub fn code_length(code: Code) -> usize
-    ensures { result ≡ length (codeText code) }
+    ensures { result ≡ length (code_text code) }
 {
     match code {
         Code::Short => 11,
@@ -111,7 +111,7 @@ pub fn code_length(code: Code) -> usize
 
 // The bytes of the line of the sum.
 pub fn sum_length(sum: Operation) -> usize
-    ensures { result ≡ length (sumText sum) }
+    ensures { result ≡ length (sum_text sum) }
 {
     match sum {
         Operation::ExclusiveOr => 0,

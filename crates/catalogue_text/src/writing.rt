@@ -1,16 +1,16 @@
 // All lines of a catalogue's text, written one after another, and how long they are.
 ghost use Rattle.std.specs.Prelude.{◌≡◌, ◌≤◌, length};
 ghost use Rattle.lists.specs.Parts.{put};
-ghost use Rattle.catalogue_text.specs.Text.{headText, text_of};
+ghost use Rattle.catalogue_text.specs.Text.{head_text, text_of};
 
 use crate::named;
 use catalogue::Catalogue;
 
 // Writes the lines in front of those of the lengths at the start, and gives the place after them.
 fn put_head(out: &mut [u8], c: Catalogue) -> usize
-    requires { length (headText c) ≤ length out.old }
-    ensures value { result ≡ length (headText c) }
-    ensures out_after { out.new ≡ put 0 (headText c) out.old }
+    requires { length (head_text c) ≤ length out.old }
+    ensures value { result ≡ length (head_text c) }
+    ensures out_after { out.new ≡ put 0 (head_text c) out.old }
 {
     let code = c.code;
     let a = named::put_code(out, code);
@@ -34,7 +34,7 @@ pub fn put_text(out: &mut [u8], c: Catalogue) -> usize
 
 // The bytes of the lines in front of those of the lengths.
 fn head_length(c: Catalogue) -> usize
-    ensures value { result ≡ length (headText c) }
+    ensures value { result ≡ length (head_text c) }
     ensures upper_bound { result ≤ 200 }
 {
     let code = c.code;

@@ -11,12 +11,12 @@ use Rattle.symbol.proofs.Operations.{not-added}
 use Rattle.catalogue.specs.declared.Code.{Code}
 use Rattle.catalogue.specs.declared.Code.TheVariants.{Short, Even, Turn, Round}
 use Rattle.catalogue.specs.declared.Catalogue.{Catalogue}
-use Rattle.catalogue.specs.Catalogue.{Admitted, sizesOf}
+use Rattle.catalogue.specs.Catalogue.{Admitted, sizes_of}
 use Rattle.catalogue.proofs.Verdicts.{admitted-exactly}
-use Rattle.codes.specs.Codes.{schemeBy, schemeOf}
+use Rattle.codes.specs.Codes.{scheme_by, scheme_of}
 use Rattle.codes.specs.Alike.{SameQueries, SameNumbers}
 
-any_sum : (code : Code) (one other : Sum) (N K S : ℕ) → SameQueries (schemeBy code one N K S) (schemeBy code other N K S)
+any_sum : (code : Code) (one other : Sum) (N K S : ℕ) → SameQueries (scheme_by code one N K S) (scheme_by code other N K S)
 any_sum Short one other N K S = record {
   sizes = refl;
   keys = λ key. refl;
@@ -46,19 +46,19 @@ any_sum Round one other N K S = record {
   lengths = λ query. refl;
 }
 
-pub same-queries : (c d : Catalogue) → SameNumbers c d → SameQueries (schemeOf c) (schemeOf d)
-unfolding schemeOf
+pub same-queries : (c d : Catalogue) → SameNumbers c d → SameQueries (scheme_of c) (scheme_of d)
+unfolding scheme_of
 same-queries c d same =
     rw (same.code, same.servers, same.messages, same.symbol)
     (any_sum d.code (sum_of c.sum) (sum_of d.sum) d.servers d.messages d.symbol)
 
-pub same-scheme : (c d : Catalogue) → SameNumbers c d → c.sum ≡ d.sum → schemeOf c ≡ schemeOf d
-unfolding schemeOf
+pub same-scheme : (c d : Catalogue) → SameNumbers c d → c.sum ≡ d.sum → scheme_of c ≡ scheme_of d
+unfolding scheme_of
 same-scheme c d same sum = rw (same.code, same.servers, same.messages, same.symbol, sum)
 
 pub admitted-without : (c d : Catalogue) → SameNumbers c d → c.opening ≡ d.opening → c.closing ≡ d.closing → c.lengths ≡ d.lengths
     → d.sum ≡ ExclusiveOr → Admitted c → Admitted d
-unfolding sizesOf
+unfolding sizes_of
 admitted-without c d same opens closes ends without admitted =
     let in-numbers = (admitted-exactly c).0 admitted in
     (admitted-exactly d).1 (

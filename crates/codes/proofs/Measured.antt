@@ -10,16 +10,16 @@ use Rattle.parameters.specs.declared.Sizes.{Sizes}
 use Rattle.catalogue.specs.declared.Catalogue.{Catalogue}
 use Rattle.catalogue.specs.declared.Measured.{Measured}
 use Rattle.catalogue.specs.declared.Measured.TheVariants.{Of, Refused as NotMeasured}
-use Rattle.catalogue.specs.Catalogue.{catalogueVerdict, Admitted, sizesOf, measuredOf}
-use Rattle.codes.specs.Codes.{schemeOf}
+use Rattle.catalogue.specs.Catalogue.{catalogue_verdict, Admitted, sizes_of, measured_of}
+use Rattle.codes.specs.Codes.{scheme_of}
 use Rattle.codes.proofs.Promises.{scheme-sizes}
 
-measured-sizes : (c : Catalogue) → Admitted c → measuredOf c ≡ Of (sizesOf c)
-unfolding measuredOf
+measured-sizes : (c : Catalogue) → Admitted c → measured_of c ≡ Of (sizes_of c)
+unfolding measured_of
 measured-sizes c a = rw a
 
-measured-refusal : (c : Catalogue) (refusal : Refusal) → catalogueVerdict c ≡ Refused refusal → measuredOf c ≡ NotMeasured refusal
-unfolding measuredOf
+measured-refusal : (c : Catalogue) (refusal : Refusal) → catalogue_verdict c ≡ Refused refusal → measured_of c ≡ NotMeasured refusal
+unfolding measured_of
 measured-refusal c refusal e = rw e
 
 not-measured : {A : Type 0} (sizes : Sizes) (refusal : Refusal) → Of sizes ≡ NotMeasured refusal → A
@@ -32,17 +32,17 @@ same-refusal : (a b : Refusal) → NotMeasured a ≡ NotMeasured b → a ≡ b
 same-refusal a b e = cc
 
 -- measured: the catalogue is admitted, and the sizes are its scheme's
-pub measured : (c : Catalogue) (m : Measured) (sizes : Sizes) → m ≡ measuredOf c → m ≡ Of sizes → (Admitted c) × (sizes ≡ (schemeOf c).sizes)
-measured c m sizes e f = go (catalogueVerdict c) refl
+pub measured : (c : Catalogue) (m : Measured) (sizes : Sizes) → m ≡ measured_of c → m ≡ Of sizes → (Admitted c) × (sizes ≡ (scheme_of c).sizes)
+measured c m sizes e f = go (catalogue_verdict c) refl
   where
-    go : (v : Verdict) → catalogueVerdict c ≡ v → (Admitted c) × (sizes ≡ (schemeOf c).sizes)
-    go Accepted v = (v, same-sizes sizes (sizesOf c) (sym f ∙ e ∙ measured-sizes c v) ∙ sym (scheme-sizes c))
+    go : (v : Verdict) → catalogue_verdict c ≡ v → (Admitted c) × (sizes ≡ (scheme_of c).sizes)
+    go Accepted v = (v, same-sizes sizes (sizes_of c) (sym f ∙ e ∙ measured-sizes c v) ∙ sym (scheme-sizes c))
     go (Refused refusal) v = not-measured sizes refusal (sym f ∙ e ∙ measured-refusal c refusal v)
 
 -- not measured: the refusal is the catalogue's
-pub unmeasured : (c : Catalogue) (m : Measured) (refusal : Refusal) → m ≡ measuredOf c → m ≡ NotMeasured refusal → catalogueVerdict c ≡ Refused refusal
-unmeasured c m refusal e f = go (catalogueVerdict c) refl
+pub unmeasured : (c : Catalogue) (m : Measured) (refusal : Refusal) → m ≡ measured_of c → m ≡ NotMeasured refusal → catalogue_verdict c ≡ Refused refusal
+unmeasured c m refusal e f = go (catalogue_verdict c) refl
   where
-    go : (v : Verdict) → catalogueVerdict c ≡ v → catalogueVerdict c ≡ Refused refusal
-    go Accepted v = not-measured (sizesOf c) refusal (sym (measured-sizes c v) ∙ sym e ∙ f)
+    go : (v : Verdict) → catalogue_verdict c ≡ v → catalogue_verdict c ≡ Refused refusal
+    go Accepted v = not-measured (sizes_of c) refusal (sym (measured-sizes c v) ∙ sym e ∙ f)
     go (Refused other) v = rw (same-refusal refusal other (sym f ∙ e ∙ measured-refusal c other v)) v

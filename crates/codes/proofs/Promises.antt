@@ -3,7 +3,7 @@
 use mathlib.Core.Path.{◌≡◌, refl}
 use mathlib.Core.Bool.{true}
 use Prim.Native.Nat.{ℕ}
-use Rattle.parameters.specs.Bounds.{shortFits, evenFits, roundFits}
+use Rattle.parameters.specs.Bounds.{short_fits, even_fits, round_fits}
 use Rattle.symbol.specs.Sum.{Sum}
 use Rattle.symbol.specs.Group.{AbelianGroup}
 use Rattle.symbol.specs.Operations.{sum_of}
@@ -12,67 +12,67 @@ use Rattle.scheme.specs.Laws.{Laws}
 use Rattle.catalogue.specs.declared.Code.{Code}
 use Rattle.catalogue.specs.declared.Code.TheVariants.{Short, Even, Turn, Round}
 use Rattle.catalogue.specs.declared.Catalogue.{Catalogue}
-use Rattle.catalogue.specs.Catalogue.{fits, Admitted, sizesBy, sizesOf}
+use Rattle.catalogue.specs.Catalogue.{fits, Admitted, sizes_by, sizes_of}
 use Rattle.catalogue.proofs.Admitted.{admitted-fits}
-use Rattle.short_scheme.specs.Short.{shortScheme}
+use Rattle.short_scheme.specs.Short.{short_scheme}
 use Rattle.short_scheme.proofs.Promises.{short-laws}
-use Rattle.even_scheme.specs.Even.{evenScheme}
+use Rattle.even_scheme.specs.Even.{even_scheme}
 use Rattle.even_scheme.proofs.Promises.{even-laws}
-use Rattle.turn_code.specs.Turn.{turnScheme}
+use Rattle.turn_code.specs.Turn.{turn_scheme}
 use Rattle.turn_code.proofs.Promises.{turn-laws}
-use Rattle.round_scheme.specs.Round.{roundScheme}
+use Rattle.round_scheme.specs.Round.{round_scheme}
 use Rattle.round_scheme.proofs.Promises.{round-laws}
-use Rattle.codes.specs.Codes.{schemeBy, schemeOf}
+use Rattle.codes.specs.Codes.{scheme_by, scheme_of}
 
-laws-by : (code : Code) (sum : Sum) (N K S : ℕ) → AbelianGroup sum S → fits code N K S ≡ true → Laws N K (schemeBy code sum N K S)
+laws-by : (code : Code) (sum : Sum) (N K S : ℕ) → AbelianGroup sum S → fits code N K S ≡ true → Laws N K (scheme_by code sum N K S)
 laws-by Short = short-laws
 laws-by Even = even-laws
 laws-by Turn = turn-laws
 laws-by Round = round-laws
 
-pub promises : (c : Catalogue) → Admitted c → Laws c.servers c.messages (schemeOf c)
-unfolding schemeOf
+pub promises : (c : Catalogue) → Admitted c → Laws c.servers c.messages (scheme_of c)
+unfolding scheme_of
 promises c a =
     laws-by c.code (sum_of c.sum) c.servers c.messages c.symbol (group_of c.sum c.symbol) (admitted-fits c a)
 
-sizes-by : (code : Code) (sum : Sum) (N K S : ℕ) → (schemeBy code sum N K S).sizes ≡ sizesBy code N K S
+sizes-by : (code : Code) (sum : Sum) (N K S : ℕ) → (scheme_by code sum N K S).sizes ≡ sizes_by code N K S
 sizes-by Short sum N K S = refl
 sizes-by Even sum N K S = refl
 sizes-by Turn sum N K S = refl
 sizes-by Round sum N K S = refl
 
-pub scheme-sizes : (c : Catalogue) → (schemeOf c).sizes ≡ sizesOf c
-unfolding schemeOf sizesOf
+pub scheme-sizes : (c : Catalogue) → (scheme_of c).sizes ≡ sizes_of c
+unfolding scheme_of sizes_of
 scheme-sizes c = sizes-by c.code (sum_of c.sum) c.servers c.messages c.symbol
 
 -- ---- what the code of an admitted catalogue says of its numbers
 
-pub admitted-short : (c : Catalogue) → Admitted c → c.code ≡ Short → shortFits c.servers c.messages c.symbol ≡ true
+pub admitted-short : (c : Catalogue) → Admitted c → c.code ≡ Short → short_fits c.servers c.messages c.symbol ≡ true
 admitted-short c a e = rw e at (admitted-fits c a)
 
-pub admitted-turn : (c : Catalogue) → Admitted c → c.code ≡ Turn → shortFits c.servers c.messages c.symbol ≡ true
+pub admitted-turn : (c : Catalogue) → Admitted c → c.code ≡ Turn → short_fits c.servers c.messages c.symbol ≡ true
 admitted-turn c a e = rw e at (admitted-fits c a)
 
-pub admitted-even : (c : Catalogue) → Admitted c → c.code ≡ Even → evenFits c.servers c.messages c.symbol ≡ true
+pub admitted-even : (c : Catalogue) → Admitted c → c.code ≡ Even → even_fits c.servers c.messages c.symbol ≡ true
 admitted-even c a e = rw e at (admitted-fits c a)
 
-pub admitted-round : (c : Catalogue) → Admitted c → c.code ≡ Round → roundFits c.servers c.messages c.symbol ≡ true
+pub admitted-round : (c : Catalogue) → Admitted c → c.code ≡ Round → round_fits c.servers c.messages c.symbol ≡ true
 admitted-round c a e = rw e at (admitted-fits c a)
 
 -- ---- the scheme of a catalogue whose code is known
 
-pub scheme-short : (c : Catalogue) → c.code ≡ Short → schemeOf c ≡ shortScheme (sum_of c.sum) c.servers c.messages c.symbol
-unfolding schemeOf
+pub scheme-short : (c : Catalogue) → c.code ≡ Short → scheme_of c ≡ short_scheme (sum_of c.sum) c.servers c.messages c.symbol
+unfolding scheme_of
 scheme-short c e = rw e
 
-pub scheme-even : (c : Catalogue) → c.code ≡ Even → schemeOf c ≡ evenScheme (sum_of c.sum) c.servers c.messages c.symbol
-unfolding schemeOf
+pub scheme-even : (c : Catalogue) → c.code ≡ Even → scheme_of c ≡ even_scheme (sum_of c.sum) c.servers c.messages c.symbol
+unfolding scheme_of
 scheme-even c e = rw e
 
-pub scheme-turn : (c : Catalogue) → c.code ≡ Turn → schemeOf c ≡ turnScheme (sum_of c.sum) c.servers c.messages c.symbol
-unfolding schemeOf
+pub scheme-turn : (c : Catalogue) → c.code ≡ Turn → scheme_of c ≡ turn_scheme (sum_of c.sum) c.servers c.messages c.symbol
+unfolding scheme_of
 scheme-turn c e = rw e
 
-pub scheme-round : (c : Catalogue) → c.code ≡ Round → schemeOf c ≡ roundScheme (sum_of c.sum) c.servers c.messages c.symbol
-unfolding schemeOf
+pub scheme-round : (c : Catalogue) → c.code ≡ Round → scheme_of c ≡ round_scheme (sum_of c.sum) c.servers c.messages c.symbol
+unfolding scheme_of
 scheme-round c e = rw e

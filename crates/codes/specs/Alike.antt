@@ -8,10 +8,10 @@ use Rattle.catalogue.specs.declared.Catalogue.{Catalogue}
 -- two schemes that answer and recover in ways of their own, and are alike in all else
 pub record SameQueries (one other : Scheme) : Type 0 where
   pub sizes : one.sizes ≡ other.sizes
-  pub keys : (key : List ℕ) → one.keyGood key ≡ other.keyGood key
+  pub keys : (key : List ℕ) → one.key_good key ≡ other.key_good key
   pub queries : (wanted server : ℕ) (key : List ℕ) → one.query wanted server key ≡ other.query wanted server key
   pub admission : (server : ℕ) (query : List ℕ) → one.admits server query ≡ other.admits server query
-  pub lengths : (query : List ℕ) → one.answerLength query ≡ other.answerLength query
+  pub lengths : (query : List ℕ) → one.answer_length query ≡ other.answer_length query
 
 -- two catalogues of the same code, N, K and S: they differ at most in their sums, their dates and their lengths
 pub record SameNumbers (c d : Catalogue) : Type 0 where

@@ -6,16 +6,16 @@ use Rattle.scheme.specs.Scheme.{Scheme}
 use Rattle.catalogue.specs.declared.Code.{Code}
 use Rattle.catalogue.specs.declared.Code.TheVariants.{Short, Even, Turn, Round}
 use Rattle.catalogue.specs.declared.Catalogue.{Catalogue}
-use Rattle.short_scheme.specs.Short.{shortScheme}
-use Rattle.even_scheme.specs.Even.{evenScheme}
-use Rattle.turn_code.specs.Turn.{turnScheme}
-use Rattle.round_scheme.specs.Round.{roundScheme}
+use Rattle.short_scheme.specs.Short.{short_scheme}
+use Rattle.even_scheme.specs.Even.{even_scheme}
+use Rattle.turn_code.specs.Turn.{turn_scheme}
+use Rattle.round_scheme.specs.Round.{round_scheme}
 
-abbrev pub schemeBy : Code → Sum → ℕ → ℕ → ℕ → Scheme
-schemeBy Short = shortScheme
-schemeBy Even = evenScheme
-schemeBy Turn = turnScheme
-schemeBy Round = roundScheme
+abbrev pub scheme_by : Code → Sum → ℕ → ℕ → ℕ → Scheme
+scheme_by Short = short_scheme
+scheme_by Even = even_scheme
+scheme_by Turn = turn_scheme
+scheme_by Round = round_scheme
 
-unfoldable pub schemeOf : Catalogue → Scheme
-schemeOf c = schemeBy c.code (sum_of c.sum) c.servers c.messages c.symbol
+unfoldable pub scheme_of : Catalogue → Scheme
+scheme_of c = scheme_by c.code (sum_of c.sum) c.servers c.messages c.symbol

@@ -2,9 +2,9 @@
 ghost use Rattle.std.specs.Prelude.{◌≡◌, true, ◌*◌, ◌≤◌, ◌<◌, length};
 ghost use Rattle.lists.specs.Parts.{put, lay};
 ghost use Rattle.catalogue.specs.Catalogue.{Admitted};
-ghost use Rattle.scheme.specs.Scheme.{Valid, recoverIn};
-ghost use Rattle.scheme.specs.Asked.{placeNaming};
-ghost use Rattle.codes.specs.Codes.{schemeOf};
+ghost use Rattle.scheme.specs.Scheme.{Valid, recover_in};
+ghost use Rattle.scheme.specs.Asked.{place_naming};
+ghost use Rattle.codes.specs.Codes.{scheme_of};
 ghost use Rattle.codes.specs.Asked.{rows_of};
 
 use catalogue::{Catalogue, Code, Measured};
@@ -13,8 +13,8 @@ use scheme::Place;
 // Whether a key of the right length has only entries that it may have.
 pub fn key_good(c: Catalogue, key: &[u8]) -> bool
     requires admitted { Admitted c }
-    requires key_len { length key.now ≡ (schemeOf c).sizes.key }
-    ensures { result ≡ (schemeOf c).keyGood key.now }
+    requires key_len { length key.now ≡ (scheme_of c).sizes.key }
+    ensures { result ≡ (scheme_of c).key_good key.now }
 {
     let code = c.code;
     match code {
@@ -29,9 +29,9 @@ pub fn key_good(c: Catalogue, key: &[u8]) -> bool
 pub fn query(c: Catalogue, wanted: usize, server: usize, key: &[u8], out: &mut [u8])
     requires admitted { Admitted c }
     requires wanted_lt_messages { (wanted < c.messages) × (server < c.servers) }
-    requires valid { Valid (schemeOf c) key.now }
-    requires c_in_bounds { (schemeOf c).sizes.query ≤ length out.old }
-    ensures { out.new ≡ put 0 ((schemeOf c).query wanted server key.now) out.old }
+    requires valid { Valid (scheme_of c) key.now }
+    requires c_in_bounds { (scheme_of c).sizes.query ≤ length out.old }
+    ensures { out.new ≡ put 0 ((scheme_of c).query wanted server key.now) out.old }
 {
     let code = c.code;
     match code {
@@ -45,7 +45,7 @@ pub fn query(c: Catalogue, wanted: usize, server: usize, key: &[u8], out: &mut [
 // Whether a server admits the query, of any bytes and length.
 pub fn admits(c: Catalogue, server: usize, query: &[u8]) -> bool
     requires { Admitted c }
-    ensures { result ≡ (schemeOf c).admits server query.now }
+    ensures { result ≡ (scheme_of c).admits server query.now }
 {
     let code = c.code;
     match code {
@@ -59,7 +59,7 @@ pub fn admits(c: Catalogue, server: usize, query: &[u8]) -> bool
 // The bytes of an answer slot.
 fn slot(c: Catalogue) -> usize
     requires { Admitted c }
-    ensures { result ≡ (schemeOf c).sizes.slot }
+    ensures { result ≡ (scheme_of c).sizes.slot }
 {
     let Measured::Of(sizes) = catalogue::sizes(c) else {
         return 0;
@@ -70,7 +70,7 @@ fn slot(c: Catalogue) -> usize
 // The bytes that the query calls for.
 pub fn answer_length(c: Catalogue, query: &[u8]) -> usize
     requires { Admitted c }
-    ensures { result ≡ (schemeOf c).answerLength query.now }
+    ensures { result ≡ (scheme_of c).answer_length query.now }
 {
     let code = c.code;
     match code {
@@ -85,8 +85,8 @@ pub fn answer_length(c: Catalogue, query: &[u8]) -> usize
 pub fn expected_length(c: Catalogue, wanted: usize, server: usize, key: &[u8]) -> usize
     requires admitted { Admitted c }
     requires wanted_lt_messages { (wanted < c.messages) × (server < c.servers) }
-    requires valid { Valid (schemeOf c) key.now }
-    ensures { result ≡ (schemeOf c).answerLength ((schemeOf c).query wanted server key.now) }
+    requires valid { Valid (scheme_of c) key.now }
+    ensures { result ≡ (scheme_of c).answer_length ((scheme_of c).query wanted server key.now) }
 {
     let code = c.code;
     match code {
@@ -102,10 +102,10 @@ pub fn expected_length(c: Catalogue, wanted: usize, server: usize, key: &[u8]) -
 // Writes the answer to a query that `server` admits at the start of `out`.
 pub fn answer(c: Catalogue, server: usize, store: &[u8], query: &[u8], out: &mut [u8])
     requires admitted { Admitted c }
-    requires query_value { (schemeOf c).admits server query.now ≡ true }
-    requires store_len { length store.now ≡ (schemeOf c).sizes.store }
-    requires query_in_bounds { (schemeOf c).answerLength query.now ≤ length out.old }
-    ensures { out.new ≡ put 0 ((schemeOf c).answer store.now query.now) out.old }
+    requires query_value { (scheme_of c).admits server query.now ≡ true }
+    requires store_len { length store.now ≡ (scheme_of c).sizes.store }
+    requires query_in_bounds { (scheme_of c).answer_length query.now ≤ length out.old }
+    ensures { out.new ≡ put 0 ((scheme_of c).answer store.now query.now) out.old }
 {
     let op = c.sum;
     let code = c.code;
@@ -120,9 +120,9 @@ pub fn answer(c: Catalogue, server: usize, store: &[u8], query: &[u8], out: &mut
 // Where the answer to the row begins that names a symbol of a message, if a row of the query does, which `server` admits.
 pub fn locate(c: Catalogue, server: usize, query: &[u8], message: usize, symbol: usize) -> Place
     requires admitted { Admitted c }
-    requires query_value { (schemeOf c).admits server query.now ≡ true }
-    requires message_lt_messages { (message < c.messages) × (symbol < (schemeOf c).sizes.symbols) }
-    ensures { result ≡ placeNaming c.symbol message symbol (rows_of c query.now) }
+    requires query_value { (scheme_of c).admits server query.now ≡ true }
+    requires message_lt_messages { (message < c.messages) × (symbol < (scheme_of c).sizes.symbols) }
+    ensures { result ≡ place_naming c.symbol message symbol (rows_of c query.now) }
 {
     let code = c.code;
     match code {
@@ -137,10 +137,10 @@ pub fn locate(c: Catalogue, server: usize, query: &[u8], message: usize, symbol:
 pub fn recover(c: Catalogue, wanted: usize, key: &[u8], answers: &[u8], message: &mut [u8])
     requires admitted { Admitted c }
     requires wanted_lt_messages { wanted < c.messages }
-    requires valid { Valid (schemeOf c) key.now }
-    requires c_in_bounds { c.servers * (schemeOf c).sizes.slot ≤ length answers.now }
+    requires valid { Valid (scheme_of c) key.now }
+    requires c_in_bounds { c.servers * (scheme_of c).sizes.slot ≤ length answers.now }
     ensures { message.new
-        ≡ lay 0 (recoverIn (schemeOf c) c.servers wanted key.now answers.now) message.old }
+        ≡ lay 0 (recover_in (scheme_of c) c.servers wanted key.now answers.now) message.old }
 {
     let op = c.sum;
     let code = c.code;

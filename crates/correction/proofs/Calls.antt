@@ -17,40 +17,40 @@ use Rattle.refusal.specs.declared.Verdict.{Verdict}
 use Rattle.refusal.specs.declared.Verdict.TheVariants.{Accepted, Refused}
 use Rattle.catalogue.specs.declared.Catalogue.{Catalogue}
 use Rattle.catalogue.specs.Catalogue.{Admitted}
-use Rattle.codes.specs.Codes.{schemeOf}
+use Rattle.codes.specs.Codes.{scheme_of}
 use Rattle.correction.specs.declared.Edit.{Edit}
 use Rattle.scheme.specs.declared.Place.TheVariants.{At}
 use Rattle.correction.specs.Moved.{shift_of, moved}
-use Rattle.scheme.specs.Asked.{placeNaming}
+use Rattle.scheme.specs.Asked.{place_naming}
 use Rattle.codes.specs.Asked.{rows_of}
-use Rattle.correction.specs.Correction.{EditIn, place_of, correctedStore, correctedAnswer}
+use Rattle.correction.specs.Correction.{EditIn, place_of, corrected_store, corrected_answer}
 use Rattle.codes.proofs.Asks.{asks_of}
 use Rattle.correction.proofs.Bytes.{shift-long}
-use Rattle.correction.specs.Calls.{correctVerdict, DidCorrect, correctBy, correcting, correctingAnswer}
+use Rattle.correction.specs.Calls.{correct_verdict, DidCorrect, correct_by, correcting, correcting_answer}
 
 module _ (c : Catalogue) (server : ℕ) (store query : List ℕ) (e : Edit) (answer : List ℕ) where
-  module _ (v : Verdict) (asked : v ≡ correctVerdict c server (length store) query e (length answer)) where
-    by-verdict : correcting c server store query e answer ≡ correctBy c store query e answer v
+  module _ (v : Verdict) (asked : v ≡ correct_verdict c server (length store) query e (length answer)) where
+    by-verdict : correcting c server store query e answer ≡ correct_by c store query e answer v
     unfolding correcting
-    by-verdict = ap (correctBy c store query e answer) (sym asked)
+    by-verdict = ap (correct_by c store query e answer) (sym asked)
 
     pub correct-refused : (refusal : Refusal) → v ≡ Refused refusal → DidCorrect (correcting c server store query e answer) (Refused refusal) store answer
     correct-refused refusal told = rw (by-verdict, told) (record { verdict = refl; store = refl; answer = refl })
 
-    pub correct-done : (stored saved : List ℕ) → v ≡ Accepted → stored ≡ correctedStore c e store → saved ≡ correctedAnswer c e store query answer
+    pub correct-done : (stored saved : List ℕ) → v ≡ Accepted → stored ≡ corrected_store c e store → saved ≡ corrected_answer c e store query answer
         → DidCorrect (correcting c server store query e answer) Accepted stored saved
     correct-done stored saved told s a = rw (by-verdict, told) (record { verdict = refl; store = s; answer = a })
 
-    pub answer-refused : (refusal : Refusal) → v ≡ Refused refusal → DidCorrect (correctingAnswer c server store query e answer) (Refused refusal) store answer
-    unfolding correctingAnswer
+    pub answer-refused : (refusal : Refusal) → v ≡ Refused refusal → DidCorrect (correcting_answer c server store query e answer) (Refused refusal) store answer
+    unfolding correcting_answer
     answer-refused refusal told =
         let did = correct-refused refusal told in record { verdict = did.verdict; store = refl; answer = did.answer }
 
-    pub answer-done : (saved : List ℕ) → v ≡ Accepted → saved ≡ correctedAnswer c e store query answer
-        → DidCorrect (correctingAnswer c server store query e answer) Accepted store saved
-    unfolding correctingAnswer
+    pub answer-done : (saved : List ℕ) → v ≡ Accepted → saved ≡ corrected_answer c e store query answer
+        → DidCorrect (correcting_answer c server store query e answer) Accepted store saved
+    unfolding correcting_answer
     answer-done saved told a =
-        let did = correct-done (correctedStore c e store) saved told refl a in record { verdict = did.verdict; store = refl; answer = did.answer }
+        let did = correct-done (corrected_store c e store) saved told refl a in record { verdict = did.verdict; store = refl; answer = did.answer }
 
 -- the part of an answer that is lent and moved
 pub part_moved : (op : Operation) (S at byte new old : ℕ) (answer part : List ℕ) → at + S ≤ length answer
@@ -68,19 +68,19 @@ part_moved op S at byte new old answer part inside made =
     put-part at S part answer long ∙ ap (λ (l : List ℕ). put at l answer) same
 
 -- the edit's byte is in the store
-pub place_inside : (c : Catalogue) (e : Edit) → Admitted c → EditIn c e → place_of c e < (schemeOf c).sizes.store
+pub place_inside : (c : Catalogue) (e : Edit) → Admitted c → EditIn c e → place_of c e < (scheme_of c).sizes.store
 place_inside c e a i =
-    let symbols = (schemeOf c).sizes.symbols in
+    let symbols = (scheme_of c).sizes.symbols in
     let number = e.message * symbols + e.symbol in
     let low : number < c.messages * symbols = omega (arith, slot-end e.message c.messages symbols i.message-in, i.symbol-in) in
     omega (arith, slot-end number (c.messages * symbols) c.symbol low, i.byte-in, (asks_of c a).store-whole)
 
 -- the answer, moved from the byte that stood at a place, which is the edit's
 pub answer-made : (c : Catalogue) (e : Edit) (store query answer : List ℕ) (place : ℕ) → place ≡ place_of c e
-    → moved (sum_of c.sum) c.symbol (placeNaming c.symbol e.message e.symbol (rows_of c query))
+    → moved (sum_of c.sum) c.symbol (place_naming c.symbol e.message e.symbol (rows_of c query))
     (shift_of (sum_of c.sum) c.symbol e.byte e.value (get_or store place 0)) answer
-    ≡ correctedAnswer c e store query answer
-unfolding correctedAnswer
+    ≡ corrected_answer c e store query answer
+unfolding corrected_answer
 answer-made c e store query answer place same =
-    ap (λ (n : ℕ). moved (sum_of c.sum) c.symbol (placeNaming c.symbol e.message e.symbol (rows_of c query))
+    ap (λ (n : ℕ). moved (sum_of c.sum) c.symbol (place_naming c.symbol e.message e.symbol (rows_of c query))
     (shift_of (sum_of c.sum) c.symbol e.byte e.value (get_or store n 0)) answer) same

@@ -15,32 +15,32 @@ use Rattle.symbol.specs.declared.Operation.{Operation}
 use Rattle.symbol.specs.declared.Operation.TheVariants.{ExclusiveOr, Addition}
 use Rattle.symbol.specs.Operations.{sum_of}
 use Rattle.symbol.specs.Sum.{Sum}
-use Rattle.symbol.specs.Words.{addAt, subAt, word, wordThen, onWords, addWords, words}
-use Rattle.symbol.specs.Xor.{xorBytes, xor}
+use Rattle.symbol.specs.Words.{add_at, sub_at, word, word_then, on_words, add_words, words}
+use Rattle.symbol.specs.Xor.{xor_bytes, xor}
 use Rattle.symbol.proofs.Operations.{group_of}
 use Rattle.symbol.proofs.OnWords.{bytes_word}
 use Rattle.correction.specs.Moved.{shift_of}
 use Rattle.correction.proofs.Bytes.{behind-two, rest-stays, shift-long}
 
 -- the two bytes from `at` on moved by byte o of them
-abbrev pub movedPair : Sum → ℕ → ℕ → ℕ → ℕ → List ℕ → List ℕ
-movedPair by at o new old x = put at (by.plus (cut at 2 x) (take (length x - at) (shift_of by 2 o new old))) x
+abbrev pub moved_pair : Sum → ℕ → ℕ → ℕ → ℕ → List ℕ → List ℕ
+moved_pair by at o new old x = put at (by.plus (cut at 2 x) (take (length x - at) (shift_of by 2 o new old))) x
 
 -- two bytes further
-further : (by : Sum) (at o new old a b : ℕ) (l : List ℕ) → movedPair by (suc (suc at)) o new old (a ∷ b ∷ l) ≡ a ∷ b ∷ movedPair by at o new old l
+further : (by : Sum) (at o new old a b : ℕ) (l : List ℕ) → moved_pair by (suc (suc at)) o new old (a ∷ b ∷ l) ≡ a ∷ b ∷ moved_pair by at o new old l
 further by at o new old a b l =
     ap (λ (n : ℕ). a ∷ b ∷ put at (by.plus (cut at 2 l) (take n (shift_of by 2 o new old))) l)
     (suc-sub-suc (suc (length l)) (suc at) ∙ suc-sub-suc (length l) at)
 
 -- at the start
 start : (by : Sum) (o new old : ℕ) (x : List ℕ)
-    → movedPair by 0 o new old x ≡ put 0 (by.plus (cut 0 2 x) (take (length x) (shift_of by 2 o new old))) x
+    → moved_pair by 0 o new old x ≡ put 0 (by.plus (cut 0 2 x) (take (length x) (shift_of by 2 o new old))) x
 start by o new old x = ap (λ (n : ℕ). put 0 (by.plus (cut 0 2 x) (take n (shift_of by 2 o new old))) x) (sub-zero (length x))
 
 module _ (new old : ℕ) where
   xor-locally : (h o : ℕ) (x : List ℕ) → Below 256 x → o < 2 → h * 2 + o < length x
-      → movedPair xor (h * 2) o new old x ≡ xorBytes x (shift_of xor (length x) (h * 2 + o) new old)
-  unfolding xorBytes
+      → moved_pair xor (h * 2) o new old x ≡ xor_bytes x (shift_of xor (length x) (h * 2 + o) new old)
+  unfolding xor_bytes
   xor-locally h o [] p l k = absurd (let w : ⊥ = omega arith in w)
   xor-locally zero zero (a ∷ []) p l k = refl
   xor-locally zero (suc o) (a ∷ []) p l k = absurd (let w : ⊥ = omega arith in w)
@@ -53,45 +53,45 @@ module _ (new old : ℕ) where
   xor-locally (suc h) o (a ∷ b ∷ l) p q k =
       let two : suc h * 2 ≡ suc (suc (h * 2)) = omega arith in
       let far : suc h * 2 + o ≡ suc (suc (h * 2 + o)) = omega arith in
-      ap (λ (n : ℕ). movedPair xor n o new old (a ∷ b ∷ l)) two
+      ap (λ (n : ℕ). moved_pair xor n o new old (a ∷ b ∷ l)) two
       ∙ further xor (h * 2) o new old a b l
       ∙ ap₂ (λ (u : ℕ) (r : List ℕ). u ∷ b ∷ r) (sym (xor_zero_r a)) (xor-locally h o l (behind-two a b l p) q (omega arith))
-      ∙ ap (λ (v : ℕ). bit_xor a 0 ∷ v ∷ xorBytes l (shift_of xor (length l) (h * 2 + o) new old)) (sym (xor_zero_r b))
-      ∙ ap (λ (n : ℕ). xorBytes (a ∷ b ∷ l) (shift_of xor (suc (suc (length l))) n new old)) (sym far)
+      ∙ ap (λ (v : ℕ). bit_xor a 0 ∷ v ∷ xor_bytes l (shift_of xor (length l) (h * 2 + o) new old)) (sym (xor_zero_r b))
+      ∙ ap (λ (n : ℕ). xor_bytes (a ∷ b ∷ l) (shift_of xor (suc (suc (length l))) n new old)) (sym far)
 
   words-locally : (h o : ℕ) (x : List ℕ) → Below 256 x → o < 2 → h * 2 + o < length x
-      → movedPair words (h * 2) o new old x ≡ addWords x (shift_of words (length x) (h * 2 + o) new old)
-  unfolding onWords
+      → moved_pair words (h * 2) o new old x ≡ add_words x (shift_of words (length x) (h * 2 + o) new old)
+  unfolding on_words
   words-locally h o [] p l k = absurd (let w : ⊥ = omega arith in w)
   words-locally zero zero (a ∷ []) p l k =
       ap (λ (v : ℕ). v ∷ [])
-      (let e : addAt 256 a (subAt 65536 (word new 0) (word old 0) % 256) ≡ addAt 256 a (subAt 256 new old) = omega arith in e)
+      (let e : add_at 256 a (sub_at 65536 (word new 0) (word old 0) % 256) ≡ add_at 256 a (sub_at 256 new old) = omega arith in e)
   words-locally zero (suc o) (a ∷ []) p l k = absurd (let w : ⊥ = omega arith in w)
   words-locally (suc h) o (a ∷ []) p l k = absurd (let w : ⊥ = omega arith in w)
   words-locally zero zero (a ∷ b ∷ l) p q k =
-      let s = subAt 65536 (word new 0) (word old 0) in
+      let s = sub_at 65536 (word new 0) (word old 0) in
       start words 0 new old (a ∷ b ∷ l)
-      ∙ ap (wordThen (addAt 65536 (word a b) (word (s % 256) (s / 256)))) (sym (rest-stays Addition a b l p))
+      ∙ ap (word_then (add_at 65536 (word a b) (word (s % 256) (s / 256)))) (sym (rest-stays Addition a b l p))
   words-locally zero (suc zero) (a ∷ b ∷ l) p q k =
-      let s = subAt 65536 (word 0 new) (word 0 old) in
+      let s = sub_at 65536 (word 0 new) (word 0 old) in
       start words 1 new old (a ∷ b ∷ l)
-      ∙ ap (wordThen (addAt 65536 (word a b) (word (s % 256) (s / 256)))) (sym (rest-stays Addition a b l p))
+      ∙ ap (word_then (add_at 65536 (word a b) (word (s % 256) (s / 256)))) (sym (rest-stays Addition a b l p))
   words-locally zero (suc (suc o)) (a ∷ b ∷ l) p q k = absurd (let w : ⊥ = omega arith in w)
   words-locally (suc h) o (a ∷ b ∷ l) p q k =
       let ha : a < 256 = p 0 (omega arith) in
       let hb : b < 256 = p 1 (omega arith) in
       let two : suc h * 2 ≡ suc (suc (h * 2)) = omega arith in
       let far : suc h * 2 + o ≡ suc (suc (h * 2 + o)) = omega arith in
-      let rest = addWords l (shift_of words (length l) (h * 2 + o) new old) in
-      ap (λ (n : ℕ). movedPair words n o new old (a ∷ b ∷ l)) two
+      let rest = add_words l (shift_of words (length l) (h * 2 + o) new old) in
+      ap (λ (n : ℕ). moved_pair words n o new old (a ∷ b ∷ l)) two
       ∙ further words (h * 2) o new old a b l
       ∙ ap (λ (r : List ℕ). a ∷ b ∷ r) (words-locally h o l (behind-two a b l p) q (omega arith))
       ∙ sym (bytes_word a b rest ha)
-      ∙ ap (λ (w : ℕ). wordThen w rest) (let e : word a b ≡ addAt 65536 (word a b) (word 0 0) = omega arith in e)
-      ∙ ap (λ (n : ℕ). addWords (a ∷ b ∷ l) (shift_of words (suc (suc (length l))) n new old)) (sym far)
+      ∙ ap (λ (w : ℕ). word_then w rest) (let e : word a b ≡ add_at 65536 (word a b) (word 0 0) = omega arith in e)
+      ∙ ap (λ (n : ℕ). add_words (a ∷ b ∷ l) (shift_of words (suc (suc (length l))) n new old)) (sym far)
 
 pub moved-locally : (op : Operation) (h o new old : ℕ) (x : List ℕ) → Below 256 x → o < 2 → h * 2 + o < length x
-    → movedPair (sum_of op) (h * 2) o new old x ≡ (sum_of op).plus x (shift_of (sum_of op) (length x) (h * 2 + o) new old)
+    → moved_pair (sum_of op) (h * 2) o new old x ≡ (sum_of op).plus x (shift_of (sum_of op) (length x) (h * 2 + o) new old)
 moved-locally ExclusiveOr h o new old x = xor-locally new old h o x
 moved-locally Addition h o new old x = words-locally new old h o x
 

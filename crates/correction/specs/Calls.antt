@@ -4,35 +4,35 @@ use Rattle.refusal.specs.declared.Verdict.{Verdict}
 use Rattle.refusal.specs.declared.Verdict.TheVariants.{Accepted, Refused}
 use Rattle.refusal.specs.Foremost.{Fault, fault, foremost}
 use Rattle.catalogue.specs.declared.Catalogue.{Catalogue}
-use Rattle.catalogue.specs.Catalogue.{catalogueFaults, catalogueNumbers}
-use Rattle.codes.specs.Codes.{schemeOf}
+use Rattle.catalogue.specs.Catalogue.{catalogue_faults, catalogue_numbers}
+use Rattle.codes.specs.Codes.{scheme_of}
 use Rattle.correction.specs.declared.Edit.{Edit}
-use Rattle.correction.specs.Correction.{correctedStore, correctedAnswer}
+use Rattle.correction.specs.Correction.{corrected_store, corrected_answer}
 
 -- the edit is of no byte of the store: its message is K or more, its symbol no symbol of a message, or its byte S or more
-abbrev pub outsideOf : ℕ → ℕ → ℕ → Edit → Bool
-outsideOf messages symbols size e = leb messages e.message || (leb symbols e.symbol || leb size e.byte)
+abbrev pub outside_of : ℕ → ℕ → ℕ → Edit → Bool
+outside_of messages symbols size e = leb messages e.message || (leb symbols e.symbol || leb size e.byte)
 
 abbrev pub outside : Catalogue → Edit → Bool
-outside c e = outsideOf c.messages (schemeOf c).sizes.symbols c.symbol e
+outside c e = outside_of c.messages (scheme_of c).sizes.symbols c.symbol e
 
--- correctFaults c server stored query edit saved: from the lengths of the store and of the saved answer. No day is given, so no season is tested
-abbrev pub correctFaults : Catalogue → ℕ → ℕ → List ℕ → Edit → ℕ → List Fault
-correctFaults c server stored query e saved =
-    catalogueFaults c
+-- correct_faults c server stored query edit saved: from the lengths of the store and of the saved answer. No day is given, so no season is tested
+abbrev pub correct_faults : Catalogue → ℕ → ℕ → List ℕ → Edit → ℕ → List Fault
+correct_faults c server stored query e saved =
+    catalogue_faults c
     ++ (fault 3 (leb c.servers server)
-    ∷ fault 7 (not ((schemeOf c).admits server query))
-    ∷ fault 8 (not (eqb stored (schemeOf c).sizes.store))
+    ∷ fault 7 (not ((scheme_of c).admits server query))
+    ∷ fault 8 (not (eqb stored (scheme_of c).sizes.store))
     ∷ fault 19 (outside c e)
-    ∷ fault 10 (not (eqb saved ((schemeOf c).answerLength query)))
+    ∷ fault 10 (not (eqb saved ((scheme_of c).answer_length query)))
     ∷ [])
 
 -- the numbers of its faults
-abbrev pub correctNumbers : List ℕ
-correctNumbers = catalogueNumbers ++ (3 ∷ 7 ∷ 8 ∷ 19 ∷ 10 ∷ [])
+abbrev pub correct_numbers : List ℕ
+correct_numbers = catalogue_numbers ++ (3 ∷ 7 ∷ 8 ∷ 19 ∷ 10 ∷ [])
 
-unfoldable pub correctVerdict : Catalogue → ℕ → ℕ → List ℕ → Edit → ℕ → Verdict
-correctVerdict c server stored query e saved = foremost (correctFaults c server stored query e saved)
+unfoldable pub correct_verdict : Catalogue → ℕ → ℕ → List ℕ → Edit → ℕ → Verdict
+correct_verdict c server stored query e saved = foremost (correct_faults c server stored query e saved)
 
 -- what a correction returns, and the store and the saved answer as it leaves them
 pub record Corrected : Type 0 where
@@ -47,16 +47,16 @@ pub record DidCorrect (corrected : Corrected) (result : Verdict) (stored saved :
   pub answer : saved ≡ corrected.answer
 
 -- refused, both stay
-abbrev pub correctBy : Catalogue → List ℕ → List ℕ → Edit → List ℕ → Verdict → Corrected
-correctBy c store query e answer Accepted =
-    record { verdict = Accepted; store = correctedStore c e store; answer = correctedAnswer c e store query answer }
-correctBy c store query e answer (Refused refusal) = record { verdict = Refused refusal; store = store; answer = answer }
+abbrev pub correct_by : Catalogue → List ℕ → List ℕ → Edit → List ℕ → Verdict → Corrected
+correct_by c store query e answer Accepted =
+    record { verdict = Accepted; store = corrected_store c e store; answer = corrected_answer c e store query answer }
+correct_by c store query e answer (Refused refusal) = record { verdict = Refused refusal; store = store; answer = answer }
 
 -- correcting c server store query edit answer
 unfoldable pub correcting : Catalogue → ℕ → List ℕ → List ℕ → Edit → List ℕ → Corrected
-correcting c server store query e answer = correctBy c store query e answer (correctVerdict c server (length store) query e (length answer))
+correcting c server store query e answer = correct_by c store query e answer (correct_verdict c server (length store) query e (length answer))
 
 -- the saved answer alone, with the store lent unchanged: what the whole correction returns and leaves of the answer
-unfoldable pub correctingAnswer : Catalogue → ℕ → List ℕ → List ℕ → Edit → List ℕ → Corrected
-correctingAnswer c server store query e answer =
+unfoldable pub correcting_answer : Catalogue → ℕ → List ℕ → List ℕ → Edit → List ℕ → Corrected
+correcting_answer c server store query e answer =
     record { verdict = (correcting c server store query e answer).verdict; store = store; answer = (correcting c server store query e answer).answer }

@@ -3,12 +3,12 @@
 ghost use Rattle.std.specs.Prelude.{◌≡◌, true, ◌<◌, min, length};
 ghost use Rattle.symbol.specs.Operations.{sum_of};
 ghost use Rattle.catalogue.specs.Catalogue.{Admitted};
-ghost use Rattle.codes.specs.Codes.{schemeOf};
-ghost use Rattle.scheme.specs.Asked.{placeNaming};
+ghost use Rattle.codes.specs.Codes.{scheme_of};
+ghost use Rattle.scheme.specs.Asked.{place_naming};
 ghost use Rattle.correction.specs.Moved.{shift_of, moved};
 ghost use Rattle.codes.specs.Asked.{rows_of};
 ghost use Rattle.correction.specs.Correction.{EditIn, place_of};
-ghost use Rattle.correction.specs.Calls.{outsideOf, correctVerdict, DidCorrect, correcting, correctingAnswer};
+ghost use Rattle.correction.specs.Calls.{outside_of, correct_verdict, DidCorrect, correcting, correcting_answer};
 
 use catalogue::{Catalogue, Measured};
 use refusal::{Refusal, Verdict};
@@ -64,11 +64,11 @@ fn shift_of(op: Operation, offset: usize, new: u8, old: u8) -> [u8; 2]
 // Moves the part of the answer that answers the row which names the edit's symbol by the new value less the old, if a row names it.
 fn update(c: Catalogue, server: usize, query: &[u8], edit: Edit, old: u8, answer: &mut [u8])
     requires admitted { Admitted c }
-    requires query_value { (schemeOf c).admits server query.now ≡ true }
+    requires query_value { (scheme_of c).admits server query.now ≡ true }
     requires edit_in { EditIn c edit }
-    requires answer_len { length answer.old ≡ (schemeOf c).answerLength query.now }
+    requires answer_len { length answer.old ≡ (scheme_of c).answer_length query.now }
     ensures { answer.new
-        ≡ moved (sum_of c.sum) c.symbol (placeNaming c.symbol edit.message edit.symbol (rows_of c query.now))
+        ≡ moved (sum_of c.sum) c.symbol (place_naming c.symbol edit.message edit.symbol (rows_of c query.now))
         (shift_of (sum_of c.sum) c.symbol edit.byte edit.value old) answer.old }
 {
     let Place::At(at) = codes::locate(c, server, query, edit.message, edit.symbol) else {
@@ -93,7 +93,7 @@ fn place_of(c: Catalogue, edit: Edit) -> usize
 
 // Whether the edit is of no byte of a store of so many messages, symbols in a message and bytes in a symbol.
 fn is_outside(messages: usize, symbols: usize, size: usize, edit: Edit) -> bool
-    ensures { result ≡ outsideOf messages symbols size edit }
+    ensures { result ≡ outside_of messages symbols size edit }
 {
     if messages <= edit.message {
         return true;
@@ -113,7 +113,7 @@ fn verdict(
     edit: Edit,
     saved: usize,
 ) -> Verdict
-    ensures { result ≡ correctVerdict c server stored query.now edit saved }
+    ensures { result ≡ correct_verdict c server stored query.now edit saved }
 {
     let Measured::Of(sizes) = catalogue::sizes(c) else {
         return catalogue::verdict(c);
@@ -147,7 +147,7 @@ pub fn correct_answer(
     edit: Edit,
     answer: &mut [u8],
 ) -> Verdict
-    ensures { DidCorrect (correctingAnswer c server store.now query.now edit answer.old)
+    ensures { DidCorrect (correcting_answer c server store.now query.now edit answer.old)
         result store.now answer.new }
 {
     let told = verdict(c, server, store.len(), query, edit, answer.len());

@@ -6,34 +6,34 @@ use mathlib.Core.List.{[], ◌∷◌, flat_map, zip, zip_with}
 use Rattle.lists.specs.Below.{all_below}
 use Rattle.lists.specs.Ranges.{range}
 use Rattle.lists.specs.Sums.{bit, sum}
-use Rattle.symbol.specs.Words.{onWords, words}
-use Rattle.symbol.specs.Xor.{xorBytes, xor}
+use Rattle.symbol.specs.Words.{on_words, words}
+use Rattle.symbol.specs.Xor.{xor_bytes, xor}
 use Rattle.round_scheme.specs.Round.{row}
 use Rattle.even_places.specs.Rule.{ones_in, members, sets, layout}
 use Rattle.scheme.specs.declared.Place.TheVariants.{At, Nowhere}
-use Rattle.scheme.specs.Asked.{timesIn, placeNaming}
-use Rattle.short_scheme.specs.Asked.{digitCells, digitRows}
-use Rattle.round_scheme.specs.Asked.{blockRows}
-use Rattle.even_scheme.specs.Asked.{setRows, layoutRows}
+use Rattle.scheme.specs.Asked.{times_in, place_naming}
+use Rattle.short_scheme.specs.Asked.{digit_cells, digit_rows}
+use Rattle.round_scheme.specs.Asked.{block_rows}
+use Rattle.even_scheme.specs.Asked.{set_rows, layout_rows}
 use Rattle.correction.specs.Moved.{shift_of, moved}
 
 -- N = 3, K = 3, symbols of 4 bytes: query 2 1 0
-pub short-places : (placeNaming 4 0 1 (digitRows 0 (2 ∷ 1 ∷ 0 ∷ [])) ≡ At 0) × (placeNaming 4 0 0 (digitRows 0 (2 ∷ 1 ∷ 0 ∷ [])) ≡ Nowhere)
-    × (placeNaming 4 2 0 (digitRows 0 (2 ∷ 1 ∷ 0 ∷ [])) ≡ Nowhere) × (placeNaming 4 0 0 (digitRows 0 (0 ∷ 0 ∷ 0 ∷ [])) ≡ Nowhere)
-unfolding placeNaming timesIn sum bit digitCells digitRows all_below
+pub short-places : (place_naming 4 0 1 (digit_rows 0 (2 ∷ 1 ∷ 0 ∷ [])) ≡ At 0) × (place_naming 4 0 0 (digit_rows 0 (2 ∷ 1 ∷ 0 ∷ [])) ≡ Nowhere)
+    × (place_naming 4 2 0 (digit_rows 0 (2 ∷ 1 ∷ 0 ∷ [])) ≡ Nowhere) × (place_naming 4 0 0 (digit_rows 0 (0 ∷ 0 ∷ 0 ∷ [])) ≡ Nowhere)
+unfolding place_naming times_in sum bit digit_cells digit_rows all_below
 short-places = (refl, refl, refl, refl)
 
 -- N = 2, K = 2, symbols of 4 bytes, server 0: the row of zeros for block 0. N = 3, K = 2, server 1: rows 1 0, 0 1, 2 2
-pub round-places : (placeNaming 4 1 1 (blockRows 2 2 (0 ∷ 0 ∷ 1 ∷ 1 ∷ [])) ≡ At 0) × (placeNaming 4 1 0 (blockRows 2 2 (0 ∷ 0 ∷ 1 ∷ 1 ∷ [])) ≡ Nowhere)
-    × (placeNaming 4 1 5 (blockRows 3 2 (1 ∷ 0 ∷ 0 ∷ 1 ∷ 2 ∷ 2 ∷ [])) ≡ At 8)
-    × (placeNaming 4 1 1 (blockRows 3 2 (1 ∷ 0 ∷ 0 ∷ 1 ∷ 2 ∷ 2 ∷ [])) ≡ Nowhere)
-unfolding placeNaming timesIn sum bit digitCells digitRows all_below blockRows row flat_map range
+pub round-places : (place_naming 4 1 1 (block_rows 2 2 (0 ∷ 0 ∷ 1 ∷ 1 ∷ [])) ≡ At 0) × (place_naming 4 1 0 (block_rows 2 2 (0 ∷ 0 ∷ 1 ∷ 1 ∷ [])) ≡ Nowhere)
+    × (place_naming 4 1 5 (block_rows 3 2 (1 ∷ 0 ∷ 0 ∷ 1 ∷ 2 ∷ 2 ∷ [])) ≡ At 8)
+    × (place_naming 4 1 1 (block_rows 3 2 (1 ∷ 0 ∷ 0 ∷ 1 ∷ 2 ∷ 2 ∷ [])) ≡ Nowhere)
+unfolding place_naming times_in sum bit digit_cells digit_rows all_below block_rows row flat_map range
 round-places = (refl, refl, refl, refl)
 
 -- N = 2, K = 2, symbols of 1 byte: query 0 0 2 1, whose rows are over the sets of message 0, of message 1, of both
-pub even-places : (placeNaming 1 0 2 (layoutRows 2 2 (0 ∷ 0 ∷ 2 ∷ 1 ∷ [])) ≡ At 2) × (placeNaming 1 1 1 (layoutRows 2 2 (0 ∷ 0 ∷ 2 ∷ 1 ∷ [])) ≡ At 2)
-    × (placeNaming 1 1 0 (layoutRows 2 2 (0 ∷ 0 ∷ 2 ∷ 1 ∷ [])) ≡ At 1) × (placeNaming 1 0 3 (layoutRows 2 2 (0 ∷ 0 ∷ 2 ∷ 1 ∷ [])) ≡ Nowhere)
-unfolding placeNaming timesIn sum bit setRows layout sets members ones_in zip zip_with flat_map range
+pub even-places : (place_naming 1 0 2 (layout_rows 2 2 (0 ∷ 0 ∷ 2 ∷ 1 ∷ [])) ≡ At 2) × (place_naming 1 1 1 (layout_rows 2 2 (0 ∷ 0 ∷ 2 ∷ 1 ∷ [])) ≡ At 2)
+    × (place_naming 1 1 0 (layout_rows 2 2 (0 ∷ 0 ∷ 2 ∷ 1 ∷ [])) ≡ At 1) × (place_naming 1 0 3 (layout_rows 2 2 (0 ∷ 0 ∷ 2 ∷ 1 ∷ [])) ≡ Nowhere)
+unfolding place_naming times_in sum bit set_rows layout sets members ones_in zip zip_with flat_map range
 even-places = (refl, refl, refl, refl)
 
 -- B2's answer hex 99 after byte hex 5A became 0; a carry (0 to 1) and a borrow (1 to 0) at the low byte, and the high byte's wrap at 65,536
@@ -41,5 +41,5 @@ pub some-moved : (moved xor 1 (At 0) (shift_of xor 1 0 0 0x5A) (0x99 ∷ []) ≡
     × (moved words 4 (At 4) (shift_of words 4 0 1 0) (9 ∷ 9 ∷ 9 ∷ 9 ∷ 255 ∷ 0 ∷ 7 ∷ 7 ∷ []) ≡ 9 ∷ 9 ∷ 9 ∷ 9 ∷ 0 ∷ 1 ∷ 7 ∷ 7 ∷ [])
     × (moved words 4 (At 0) (shift_of words 4 2 0 1) (9 ∷ 9 ∷ 0 ∷ 0 ∷ 7 ∷ 7 ∷ 7 ∷ 7 ∷ []) ≡ 9 ∷ 9 ∷ 255 ∷ 255 ∷ 7 ∷ 7 ∷ 7 ∷ 7 ∷ [])
     × (moved words 4 (At 0) (shift_of words 4 1 1 0) (255 ∷ 255 ∷ 5 ∷ 5 ∷ []) ≡ 255 ∷ 0 ∷ 5 ∷ 5 ∷ [])
-unfolding moved xorBytes onWords
+unfolding moved xor_bytes on_words
 some-moved = (refl, refl, refl, refl)

@@ -5,7 +5,7 @@ use mathlib.Core.List.{List, [], ◌∷◌, ◌++◌}
 use Rattle.scheme.specs.declared.Place.{Place}
 use Rattle.scheme.specs.declared.Place.TheVariants.{At, Nowhere}
 use Rattle.correction.specs.Moved.{shift_of, moved}
-use Rattle.correction_laws.specs.Few.{differing, mostMoved}
+use Rattle.correction_laws.specs.Few.{differing, most_moved}
 use Rattle.correction.proofs.Bytes.{behind-one, behind-two, as-symbol, shift-long, rest-stays}
 use Prim.Native.Nat.{ℕ, zero, suc, ◌+◌, ◌/◌, ◌%◌, ◌≤◌, ◌<◌}
 use native.Mathlib.Omega.{arith}
@@ -22,8 +22,8 @@ use Rattle.lists.proofs.Cuts.{cut-length}
 use Rattle.symbol.specs.declared.Operation.{Operation}
 use Rattle.symbol.specs.declared.Operation.TheVariants.{ExclusiveOr, Addition}
 use Rattle.symbol.specs.Operations.{sum_of}
-use Rattle.symbol.specs.Words.{addAt, subAt, word, onWords, addWords, words}
-use Rattle.symbol.specs.Xor.{xorBytes, xor}
+use Rattle.symbol.specs.Words.{add_at, sub_at, word, on_words, add_words, words}
+use Rattle.symbol.specs.Xor.{xor_bytes, xor}
 use Rattle.symbol.proofs.Operations.{group_of}
 use Rattle.symbol.proofs.XorGroup.{xor-group}
 use Rattle.symbol.proofs.Totals.{plus-nothing}
@@ -54,36 +54,36 @@ two_bytes : (x y v w : ℕ) (a : List ℕ) → differing (x ∷ y ∷ a) (v ∷ 
 unfolding differing
 two_bytes x y v w a = omega (arith, bit-small (not (eqb x v)), bit-small (not (eqb y w)), differing-none a)
 
-xor-few : (x : List ℕ) (byte new old : ℕ) → Below 256 x → differing x (xorBytes x (shift_of xor (length x) byte new old)) ≤ 1
-unfolding xorBytes differing
+xor-few : (x : List ℕ) (byte new old : ℕ) → Below 256 x → differing x (xor_bytes x (shift_of xor (length x) byte new old)) ≤ 1
+unfolding xor_bytes differing
 xor-few [] byte new old p = omega arith
 xor-few (x ∷ l) zero new old p =
     rw (plus-nothing xor (length l) (xor-group (length l)) (as-symbol l (behind-one x l p))) (one_byte x (bit_xor x (bit_xor new old)) l)
 xor-few (x ∷ l) (suc byte) new old p =
     omega (
       arith,
-      same_byte x (bit_xor x 0) l (xorBytes l (shift_of xor (length l) byte new old)) (xor_zero_r x),
+      same_byte x (bit_xor x 0) l (xor_bytes l (shift_of xor (length l) byte new old)) (xor_zero_r x),
       xor-few l byte new old (behind-one x l p),
     )
 
-words-few : (x : List ℕ) (byte new old : ℕ) → Below 256 x → differing x (addWords x (shift_of words (length x) byte new old)) ≤ 2
-unfolding onWords differing
+words-few : (x : List ℕ) (byte new old : ℕ) → Below 256 x → differing x (add_words x (shift_of words (length x) byte new old)) ≤ 2
+unfolding on_words differing
 words-few [] byte new old p = omega arith
-words-few (x ∷ []) zero new old p = omega (arith, one_byte x (addAt 256 x (subAt 256 new old)) [])
-words-few (x ∷ []) (suc byte) new old p = omega (arith, one_byte x (addAt 256 x (subAt 256 0 0)) [])
+words-few (x ∷ []) zero new old p = omega (arith, one_byte x (add_at 256 x (sub_at 256 new old)) [])
+words-few (x ∷ []) (suc byte) new old p = omega (arith, one_byte x (add_at 256 x (sub_at 256 0 0)) [])
 words-few (x ∷ y ∷ l) zero new old p =
-    let s = subAt 65536 (word new 0) (word old 0) in
-    let t = addAt 65536 (word x y) (word (s % 256) (s / 256)) in
+    let s = sub_at 65536 (word new 0) (word old 0) in
+    let t = add_at 65536 (word x y) (word (s % 256) (s / 256)) in
     rw (rest-stays Addition x y l p) (two_bytes x y (t % 256) (t / 256) l)
 words-few (x ∷ y ∷ l) (suc zero) new old p =
-    let s = subAt 65536 (word 0 new) (word 0 old) in
-    let t = addAt 65536 (word x y) (word (s % 256) (s / 256)) in
+    let s = sub_at 65536 (word 0 new) (word 0 old) in
+    let t = add_at 65536 (word x y) (word (s % 256) (s / 256)) in
     rw (rest-stays Addition x y l p) (two_bytes x y (t % 256) (t / 256) l)
 words-few (x ∷ y ∷ l) (suc (suc byte)) new old p =
     let hx : x < 256 = p 0 (omega arith) in
     let hy : y < 256 = p 1 (omega arith) in
-    let t = addAt 65536 (word x y) 0 in
-    let rest = addWords l (shift_of words (length l) byte new old) in
+    let t = add_at 65536 (word x y) 0 in
+    let rest = add_words l (shift_of words (length l) byte new old) in
     omega (
       arith,
       same_byte x (t % 256) (y ∷ l) (t / 256 ∷ rest) (omega arith),
@@ -93,7 +93,7 @@ words-few (x ∷ y ∷ l) (suc (suc byte)) new old p =
 
 -- a symbol that is moved
 symbol-few : (op : Operation) (x : List ℕ) (byte new old : ℕ) → Below 256 x
-    → differing x ((sum_of op).plus x (shift_of (sum_of op) (length x) byte new old)) ≤ mostMoved op
+    → differing x ((sum_of op).plus x (shift_of (sum_of op) (length x) byte new old)) ≤ most_moved op
 symbol-few ExclusiveOr x byte new old p = xor-few x byte new old p
 symbol-few Addition x byte new old p = words-few x byte new old p
 
@@ -117,7 +117,7 @@ put-differing at S bytes buffer h long =
     )
 
 pub few-moved : (op : Operation) (S byte new old : ℕ) (answer : List ℕ) → Below 256 answer → (place : Place) → Within S place (length answer)
-    → differing answer (moved (sum_of op) S place (shift_of (sum_of op) S byte new old) answer) ≤ mostMoved op
+    → differing answer (moved (sum_of op) S place (shift_of (sum_of op) S byte new old) answer) ≤ most_moved op
 unfolding moved
 few-moved op S byte new old answer bytes Nowhere h = omega (arith, differing-none answer)
 few-moved op S byte new old answer bytes (At at) h =
@@ -127,6 +127,6 @@ few-moved op S byte new old answer bytes (At at) h =
     let low : Below 256 part = below-take 256 S (drop at answer) (below-drop 256 at answer bytes) in
     let shift = shift_of (sum_of op) S byte new old in
     let keeps : length ((sum_of op).plus part shift) ≡ S = (group_of op S).plus-length part shift long (shift-long op S byte new old) in
-    let few : differing part ((sum_of op).plus part (shift_of (sum_of op) S byte new old)) ≤ mostMoved op =
-    subst (λ (n : ℕ). differing part ((sum_of op).plus part (shift_of (sum_of op) n byte new old)) ≤ mostMoved op) long (symbol-few op part byte new old low) in
+    let few : differing part ((sum_of op).plus part (shift_of (sum_of op) S byte new old)) ≤ most_moved op =
+    subst (λ (n : ℕ). differing part ((sum_of op).plus part (shift_of (sum_of op) n byte new old)) ≤ most_moved op) long (symbol-few op part byte new old low) in
     omega (arith, put-differing at S ((sum_of op).plus part shift) answer inside keeps, few)

@@ -6,9 +6,9 @@ use mathlib.Core.Bool.{true}
 use mathlib.Core.List.{List}
 use Rattle.scheme.specs.declared.Place.{Place}
 use Rattle.scheme.specs.declared.Place.TheVariants.{At, Nowhere}
-use Rattle.scheme.specs.Asked.{Cell, cellSymbol, rowsAnswer, isCell, timesIn, placeNaming}
+use Rattle.scheme.specs.Asked.{Cell, cell_symbol, rows_answer, is_cell, times_in, place_naming}
 use Rattle.correction.specs.Moved.{lone, shift_of, moved}
-use Rattle.correction_laws.specs.Few.{differing, mostMoved}
+use Rattle.correction_laws.specs.Few.{differing, most_moved}
 use Rattle.scheme.specs.Asks.{CellIn}
 use Rattle.correction.proofs.Bytes.{shift-long}
 use Rattle.correction_laws.proofs.Store.{other-cell, own-cell}
@@ -57,7 +57,7 @@ module _ (op : Operation) (K symbols S : ℕ) (store : List ℕ) (whole : length
       let low : cell.0 * symbols + cell.1 < K * symbols = omega (arith, slot-end cell.0 K symbols h.message, h.symbol) in
       omega (arith, slot-end (cell.0 * symbols + cell.1) (K * symbols) S low)
 
-  cell-symbol : (cell : Cell) → CellIn K symbols cell → Symbol S (cellSymbol symbols S store cell)
+  cell-symbol : (cell : Cell) → CellIn K symbols cell → Symbol S (cell_symbol symbols S store cell)
   cell-symbol cell h =
       let at = (cell.0 * symbols + cell.1) * S in
       record { long = cut-length at S store (cell-end cell h); bytes = below-take 256 S (drop at store) (below-drop 256 at store bytes) }
@@ -68,10 +68,10 @@ module _ (op : Operation) (K symbols S : ℕ) (store : List ℕ) (whole : length
   old-low : get_or store place 0 < 256
   old-low = bytes place (omega (arith, cell-end (p, i) own))
 
-  one_cell : (cell : Cell) → CellIn K symbols cell → isCell p i cell ≡ true
-      → cellSymbol symbols S (set store place value) cell ≡ (sum_of op).plus (cellSymbol symbols S store cell) shift
+  one_cell : (cell : Cell) → CellIn K symbols cell → is_cell p i cell ≡ true
+      → cell_symbol symbols S (set store place value) cell ≡ (sum_of op).plus (cell_symbol symbols S store cell) shift
   one_cell cell h e =
-      let x = cellSymbol symbols S store cell in
+      let x = cell_symbol symbols S store cell in
       let s = cell-symbol cell h in
       let same = both_true (eqb cell.0 p) (eqb cell.1 i) e in
       let here : cell.0 * symbols + cell.1 ≡ p * symbols + i =
@@ -82,7 +82,7 @@ module _ (op : Operation) (K symbols S : ℕ) (store : List ℕ) (whole : length
       ∙ byte-moved op x byte value s.bytes (omega (arith, s.long)) hv
       ∙ ap₂ (λ (n w : ℕ). (sum_of op).plus x (shift_of (sum_of op) n byte value w)) s.long old
 
-  changed : Changed (sum_of op) S (cellSymbol symbols S store) (cellSymbol symbols S (set store place value)) (CellIn K symbols) p i shift
+  changed : Changed (sum_of op) S (cell_symbol symbols S store) (cell_symbol symbols S (set store place value)) (CellIn K symbols) p i shift
   changed = record {
     symbol = cell-symbol;
     shift-symbol = (group_of op S).minus-symbol (lone-symbol S byte value hv) (lone-symbol S byte (get_or store place 0) old-low);
@@ -91,21 +91,21 @@ module _ (op : Operation) (K symbols S : ℕ) (store : List ℕ) (whole : length
   }
 
   -- the new value less the old is the new symbol less the old
-  pub shift-difference : (sum_of op).minus (cellSymbol symbols S (set store place value) (p, i)) (cellSymbol symbols S store (p, i)) ≡ shift
+  pub shift-difference : (sum_of op).minus (cell_symbol symbols S (set store place value) (p, i)) (cell_symbol symbols S store (p, i)) ≡ shift
   shift-difference =
       let group = group_of op S in
-      let x = cellSymbol symbols S store (p, i) in
-      let here : isCell p i (p, i) ≡ true = true-both (eq-eqb p p refl) (eq-eqb i i refl) in
+      let x = cell_symbol symbols S store (p, i) in
+      let here : is_cell p i (p, i) ≡ true = true-both (eq-eqb p p refl) (eq-eqb i i refl) in
       let old = cell-symbol (p, i) own in
       ap (λ (l : List ℕ). (sum_of op).minus l x) (one_cell (p, i) own here ∙ group.plus_comm old changed.shift-symbol)
       ∙ group.plus-minus changed.shift-symbol old
 
   module _ (rows : List (List Cell)) (inside : All (All (CellIn K symbols)) rows) where
-    pub moved-fresh : sum (timesIn p i) rows ≤ 1
-        → moved (sum_of op) S (placeNaming S p i rows) shift (rowsAnswer (sum_of op) symbols S store rows)
-        ≡ rowsAnswer (sum_of op) symbols S (set store place value) rows
+    pub moved-fresh : sum (times_in p i) rows ≤ 1
+        → moved (sum_of op) S (place_naming S p i rows) shift (rows_answer (sum_of op) symbols S store rows)
+        ≡ rows_answer (sum_of op) symbols S (set store place value) rows
     moved-fresh once =
-        sym (rows-moved (sum_of op) S (group_of op S) (cellSymbol symbols S store) (cellSymbol symbols S (set store place value)) (CellIn K symbols) p i shift
+        sym (rows-moved (sum_of op) S (group_of op S) (cell_symbol symbols S store) (cell_symbol symbols S (set store place value)) (CellIn K symbols) p i shift
         changed inside once)
 
 -- ---- Any answer
@@ -139,6 +139,6 @@ module _ (op : Operation) (S byte new old : ℕ) (answer : List ℕ) where
       }
 
 pub rows_few : (op : Operation) (S p i byte new old : ℕ) (rows : List (List Cell)) (answer : List ℕ) → Below 256 answer → length answer ≡ length rows * S
-    → differing answer (moved (sum_of op) S (placeNaming S p i rows) (shift_of (sum_of op) S byte new old) answer) ≤ mostMoved op
+    → differing answer (moved (sum_of op) S (place_naming S p i rows) (shift_of (sum_of op) S byte new old) answer) ≤ most_moved op
 rows_few op S p i byte new old rows answer bytes long =
-    few-moved op S byte new old answer bytes (placeNaming S p i rows) (λ at e. omega (arith, place-within S p i rows at e, long))
+    few-moved op S byte new old answer bytes (place_naming S p i rows) (λ at e. omega (arith, place-within S p i rows at e, long))

@@ -13,7 +13,7 @@ use lib.Seq.{drop-set-add, drop-set-lt, take-set-le, take-set-lt, get_or-set_sam
 use Rattle.lists.proofs.Both.{both_true, true-both}
 use Rattle.lists.proofs.Cuts.{slot-end}
 use Rattle.symbol.specs.Sum.{symbol_at}
-use Rattle.scheme.specs.Asked.{Cell, cellSymbol, isCell}
+use Rattle.scheme.specs.Asked.{Cell, cell_symbol, is_cell}
 use Rattle.lists.proofs.Places.{same_number}
 use Rattle.correction_laws.specs.Named.{OnlyOne}
 
@@ -38,13 +38,13 @@ module _ (symbols S : ℕ) (store : List ℕ) (p i b v : ℕ) (known : i < symbo
   abbrev after : List ℕ
   after = set store ((p * symbols + i) * S + b) v
 
-  pub other-cell : (cell : Cell) → cell.1 < symbols → isCell p i cell ≡ false → cellSymbol symbols S after cell ≡ cellSymbol symbols S store cell
+  pub other-cell : (cell : Cell) → cell.1 < symbols → is_cell p i cell ≡ false → cell_symbol symbols S after cell ≡ cell_symbol symbols S store cell
   other-cell cell low e =
       other-symbol S store (p * symbols + i) b v inside (cell.0 * symbols + cell.1) (λ same.
       let parts = same_number symbols cell.0 cell.1 p i low known same in
       true≢false (sym (true-both (eq-eqb cell.0 p parts.0) (eq-eqb cell.1 i parts.1)) ∙ e))
 
-  pub own-cell : (cell : Cell) → isCell p i cell ≡ true → cellSymbol symbols S after cell ≡ set (cellSymbol symbols S store cell) b v
+  pub own-cell : (cell : Cell) → is_cell p i cell ≡ true → cell_symbol symbols S after cell ≡ set (cell_symbol symbols S store cell) b v
   own-cell cell e =
       let parts = both_true (eqb cell.0 p) (eqb cell.1 i) e in
       let same : p * symbols + i ≡ cell.0 * symbols + cell.1 =

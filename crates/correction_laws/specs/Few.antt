@@ -11,6 +11,6 @@ differing (x ∷ a) [] = 0
 differing (x ∷ a) (y ∷ b) = bit (not (eqb x y)) + differing a b
 
 -- how many bytes of an answer one corrected byte may move
-abbrev pub mostMoved : Operation → ℕ
-mostMoved ExclusiveOr = 1
-mostMoved Addition = 2
+abbrev pub most_moved : Operation → ℕ
+most_moved ExclusiveOr = 1
+most_moved Addition = 2

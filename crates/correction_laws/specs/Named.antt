@@ -4,14 +4,14 @@ use Rattle.lists.specs.Parts.{cut}
 use Rattle.lists.specs.Sums.{sum}
 use Rattle.symbol.specs.Sum.{Sum}
 use Rattle.symbol.specs.Operations.{sum_of}
-use Rattle.scheme.specs.Asked.{timesIn, named_in}
+use Rattle.scheme.specs.Asked.{times_in, named_in}
 use Rattle.catalogue.specs.declared.Catalogue.{Catalogue}
 use Rattle.codes.specs.Asked.{rows_of}
 use Rattle.correction.specs.declared.Edit.{Edit}
 
 -- a row of it does
 abbrev pub names : Catalogue → Edit → List ℕ → Bool
-names c e query = ltb 0 (sum (timesIn e.message e.symbol) (rows_of c query))
+names c e query = ltb 0 (sum (times_in e.message e.symbol) (rows_of c query))
 
 -- what became of an answer: the symbol at the place is moved, and all before and behind it stays
 pub record MovedAt (by : Sum) (S at : ℕ) (shift answer after : List ℕ) : Type 0 where

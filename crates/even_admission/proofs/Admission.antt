@@ -11,11 +11,11 @@ use Rattle.lists.specs.Below.{all_below}
 use Rattle.lists.specs.Distinct.{distinct}
 use Rattle.lists.specs.Padded.{padded}
 use Rattle.lists.specs.Ranges.{every}
-use Rattle.lists.proofs.Below.{allBelow-below}
+use Rattle.lists.proofs.Below.{all_below-below}
 use Rattle.lists.proofs.Cuts.{front-is, front_fits}
 use Rattle.even_places.specs.Rule.{positions}
 use Rattle.even_places.proofs.Positions.{positions-length, positions-below}
-use Rattle.even_scheme.specs.Even.{numbersOf, evenAdmits}
+use Rattle.even_scheme.specs.Even.{numbers_of, even_admits}
 use Rattle.even_sets.specs.Sets.{LayoutBounds}
 use Rattle.even_admission.specs.Cells.{cell_of}
 use Rattle.even_admission.proofs.Fresh.{distinct-cells}
@@ -44,11 +44,11 @@ positions-fit N K table query bounds e f =
 
 -- the pass over a query of the right length decides
 pub admits-pass : (N K server : ℕ) (query : List ℕ) → length query ≡ K * N ^ (K - 1)
-    → all_below (N ^ K) query && distinct (zip_with (cell_of (N ^ K)) (positions N K) query) ≡ evenAdmits N K server query
-unfolding evenAdmits numbersOf
+    → all_below (N ^ K) query && distinct (zip_with (cell_of (N ^ K)) (positions N K) query) ≡ even_admits N K server query
+unfolding even_admits numbers_of
 admits-pass N K server query e = rw (eq-eqb (length query) (K * N ^ (K - 1)) e) (go (all_below (N ^ K) query) refl)
   where
     go : (t : Bool) → all_below (N ^ K) query ≡ t
-        → t && distinct (zip_with (cell_of (N ^ K)) (positions N K) query) ≡ t && every K (λ p. distinct (numbersOf N K p query))
-    go true t = distinct-cells (N ^ K) K (positions N K) query (positions-below N K) (allBelow-below (N ^ K) query t)
+        → t && distinct (zip_with (cell_of (N ^ K)) (positions N K) query) ≡ t && every K (λ p. distinct (numbers_of N K p query))
+    go true t = distinct-cells (N ^ K) K (positions N K) query (positions-below N K) (all_below-below (N ^ K) query t)
     go false t = refl

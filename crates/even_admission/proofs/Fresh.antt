@@ -17,7 +17,7 @@ use Rattle.lists.specs.Below.{all_below, Below}
 use Rattle.lists.specs.Distinct.{stands, distinct}
 use Rattle.lists.specs.Pairs.{under}
 use Rattle.lists.specs.Ranges.{every}
-use Rattle.lists.specs.Sums.{keep, keepIf}
+use Rattle.lists.specs.Sums.{keep, keep_if}
 use Rattle.lists.proofs.Every.{every_true, every_one}
 use Rattle.lists.proofs.Marks.{unmarked, unmarked-blank, unmarked-set}
 use Rattle.even_admission.specs.Cells.{cell_of}
@@ -73,7 +73,7 @@ cell_apart size p q x y h k e = sym (digits_div p h) ∙ ap (λ (n : ℕ). n / s
 -- a number's cell stands among the cells if it stands among its message's numbers
 stands-cell : (size q x : ℕ) (messages numbers : List ℕ) → x < size → Below size numbers
     → stands (cell_of size q x) (zip_with (cell_of size) messages numbers) ≡ stands x (under q (zip messages numbers))
-unfolding stands under zip zip_with keep keepIf
+unfolding stands under zip zip_with keep keep_if
 stands-cell size q x [] numbers h b = refl
 stands-cell size q x (r ∷ messages) [] h b = refl
 stands-cell size q x (r ∷ messages) (y ∷ numbers) h b =
@@ -87,7 +87,7 @@ stands-cell size q x (r ∷ messages) (y ∷ numbers) h b =
     equal p false u e = ne_eqb (q * size + x) (p * size + y) (λ f. eqb-false x y u (let g = ap (λ (n : ℕ). n * size) e in omega arith))
 
     go : (u : Bool) → eqb r q ≡ u
-        → eqb (q * size + x) (r * size + y) || stands x rest ≡ stands x (map (λ e. e.1) (keepIf u (r, y) (keep (λ e. eqb e.0 q) (zip messages numbers))))
+        → eqb (q * size + x) (r * size + y) || stands x rest ≡ stands x (map (λ e. e.1) (keep_if u (r, y) (keep (λ e. eqb e.0 q) (zip messages numbers))))
     go true u = ap (λ (t : Bool). t || stands x rest) (equal r (eqb x y) refl (eqb-true r q u))
     go false u =
         rw (ne_eqb (q * size + x) (r * size + y) (λ f. eqb-false r q u (sym (cell_apart size q r x y h (b 0 (omega arith)) f))))
@@ -95,7 +95,7 @@ stands-cell size q x (r ∷ messages) (y ∷ numbers) h b =
 -- distinct cells are distinct numbers for each message
 pub distinct-cells : (size K : ℕ) (messages numbers : List ℕ) → Below K messages → Below size numbers
     → distinct (zip_with (cell_of size) messages numbers) ≡ every K (λ p. distinct (under p (zip messages numbers)))
-unfolding distinct under zip zip_with keep keepIf
+unfolding distinct under zip zip_with keep keep_if
 distinct-cells size K [] numbers m b = sym (every_true K (λ p. true) (λ p h. refl))
 distinct-cells size K (q ∷ messages) [] m b = sym (every_true K (λ p. true) (λ p h. refl))
 distinct-cells size K (q ∷ messages) (x ∷ numbers) m b =
@@ -111,7 +111,7 @@ distinct-cells size K (q ∷ messages) (x ∷ numbers) m b =
     before p = distinct (under p (zip messages numbers))
 
     now : ℕ → Bool
-    now p = distinct (map (λ e. e.1) (keepIf (eqb q p) (q, x) (keep (λ e. eqb e.0 p) (zip messages numbers))))
+    now p = distinct (map (λ e. e.1) (keep_if (eqb q p) (q, x) (keep (λ e. eqb e.0 p) (zip messages numbers))))
 
     here : now q ≡ not (stands x (under q (zip messages numbers))) && before q
     here = rw (eq-eqb q q refl)

@@ -3,7 +3,7 @@ ghost use Rattle.std.specs.Prelude.{◌≡◌, ◌&&◌, ◌≤◌, length};
 ghost use mathlib.Core.List.{zip_with};
 ghost use Rattle.lists.specs.Below.{all_below, Below};
 ghost use Rattle.lists.specs.Distinct.{distinct};
-ghost use Rattle.even_scheme.specs.Even.{evenAdmits};
+ghost use Rattle.even_scheme.specs.Even.{even_admits};
 ghost use Rattle.even_sets.specs.Sets.{LayoutBounds};
 ghost use Rattle.even_admission.specs.Cells.{cell_of};
 
@@ -32,7 +32,7 @@ fn all_fresh(size: usize, messages: &[u8], numbers: &[u8]) -> bool
 // Whether a server admits the query, which is the same at every server.
 pub fn admits(n: usize, k: usize, server: usize, query: &[u8]) -> bool
     requires { LayoutBounds n k }
-    ensures { result ≡ evenAdmits n k server query.now }
+    ensures { result ≡ even_admits n k server query.now }
 {
     if query.len() != k * parameters::power(n, k - 1) {
         return false;

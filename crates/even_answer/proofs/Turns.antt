@@ -17,13 +17,13 @@ use Rattle.lists.proofs.Cuts.{slot-end}
 use Rattle.lists.proofs.Writing.{Pending, pending-part, pending-as}
 use Rattle.symbol.specs.Sum.{Sum}
 use Rattle.symbol.specs.Group.{KeepsLength, AbelianGroup}
-use Rattle.even_places.specs.Rule.{byte_of, ones_in, allSets}
-use Rattle.even_scheme.specs.Even.{rowAnswer, rowAnswers, evenAnswer}
-use Rattle.even_sets.specs.Sets.{setIn, rows_of}
+use Rattle.even_places.specs.Rule.{byte_of, ones_in, all_sets}
+use Rattle.even_scheme.specs.Even.{row_answer, row_answers, even_answer}
+use Rattle.even_sets.specs.Sets.{set_in, rows_of}
 use Rattle.even_sets.proofs.Fits.{layout-fits}
-use Rattle.even_sets.proofs.SetBytes.{setIn-length, byte_at}
-use Rattle.even_layout.proofs.Bytes.{membersFrom, members_kept}
-use Rattle.even_layout.proofs.Tables.{positionsFrom}
+use Rattle.even_sets.proofs.SetBytes.{set_in-length, byte_at}
+use Rattle.even_layout.proofs.Bytes.{members_from, members_kept}
+use Rattle.even_layout.proofs.Tables.{positions_from}
 use Rattle.even_answer.specs.Answering.{Answerable, SetAnswerable}
 use Rattle.even_answer.proofs.RowLaws.{symbol-room, row_is, set_more}
 use Rattle.even_layout.proofs.RowRuns.{rows_from, numbers_more}
@@ -34,12 +34,12 @@ pub record SymbolTurn (N K S : ℕ) (store : List ℕ) (set : ℕ) (numbers : Li
   pub inside : taken < length numbers
   pub number : get_or numbers taken 0 < N ^ K
   pub room : (p * symbols + get_or numbers taken 0) * S + S ≤ length store
-  pub left : taken + 1 + length (membersFrom K (p + 1) (rest / 2)) ≡ count set
+  pub left : taken + 1 + length (members_from K (p + 1) (rest / 2)) ≡ count set
 
 pub symbol-turn : {N K S set symbols : ℕ} {store numbers : List ℕ} (p taken rest : ℕ) → SetAnswerable N K S store set 1 numbers → symbols ≡ N ^ K
-    → p < K → rest % 2 ≡ 1 → taken + length (membersFrom K p rest) ≡ count set → SymbolTurn N K S store set numbers symbols p taken rest
+    → p < K → rest % 2 ≡ 1 → taken + length (members_from K p rest) ≡ count set → SymbolTurn N K S store set numbers symbols p taken rest
 symbol-turn {N} {K} {S} {set} {symbols} {store} {numbers} p taken rest given e h odd left =
-    let kept : taken + suc (length (membersFrom K (p + 1) (rest / 2))) ≡ count set = rw (members_kept K p rest h odd) at left in
+    let kept : taken + suc (length (members_from K (p + 1) (rest / 2))) ≡ count set = rw (members_kept K p rest h odd) at left in
     let enough : taken < length numbers = omega (arith, given.enough) in
     let below = given.named taken enough in
     record {
@@ -72,20 +72,20 @@ row-given {N} {K} {S} {set} {rows} {size} {store} {numbers} {row} given turn = r
 
 module _ {sum : Sum} {N K S set rows : ℕ} {store numbers : List ℕ} (group : AbelianGroup sum S) (given : SetAnswerable N K S store set rows numbers)
     (bytes : Below 256 store) where
-  pub row-long : (row : ℕ) → length (rowAnswer sum N K S store (setIn K set) (drop (row * count set) numbers)) ≡ S
+  pub row-long : (row : ℕ) → length (row_answer sum N K S store (set_in K set) (drop (row * count set) numbers)) ≡ S
   row-long row =
-      (row_is sum N K S store given.whole group bytes (setIn K set) (drop (row * count set) numbers) (setIn-length K set)
+      (row_is sum N K S store given.whole group bytes (set_in K set) (drop (row * count set) numbers) (set_in-length K set)
       (below-drop (N ^ K) (row * count set) numbers given.named)).long
 
   -- the row's answer written, those of the rows after it are left
   pub row_done : {all buffer out : List ℕ} (row : ℕ) → row < rows
-      → Pending 0 all buffer (row * S) (rowAnswers sum N K S store (replicate (rows - row) (setIn K set)) (drop (row * count set) numbers)) out
-      → Pending 0 all buffer ((row + 1) * S) (rowAnswers sum N K S store (replicate (rows - (row + 1)) (setIn K set)) (drop ((row + 1) * count set) numbers))
-      (put (row * S) (rowAnswer sum N K S store (setIn K set) (drop (row * count set) numbers)) out)
+      → Pending 0 all buffer (row * S) (row_answers sum N K S store (replicate (rows - row) (set_in K set)) (drop (row * count set) numbers)) out
+      → Pending 0 all buffer ((row + 1) * S) (row_answers sum N K S store (replicate (rows - (row + 1)) (set_in K set)) (drop ((row + 1) * count set) numbers))
+      (put (row * S) (row_answer sum N K S store (set_in K set) (drop (row * count set) numbers)) out)
   row_done row h p =
-      let A = setIn K set in
-      let front = rowAnswer sum N K S store A (drop (row * count set) numbers) in
-      let left = rowAnswers sum N K S store (replicate (rows - (row + 1)) A) (drop ((row + 1) * count set) numbers) in
+      let A = set_in K set in
+      let front = row_answer sum N K S store A (drop (row * count set) numbers) in
+      let left = row_answers sum N K S store (replicate (rows - (row + 1)) A) (drop ((row + 1) * count set) numbers) in
       let end : (row + 1) * S ≡ row * S + length front = ap (λ (m : ℕ). m * S) (add-one row) ∙ suc-mul row S
       ∙ ap (λ (m : ℕ). row * S + m) (sym (row-long row)) in
       pending-as end refl refl (pending-part front left (rw (set_more sum N K S store A numbers rows row (count set) h given.inside) at p))
@@ -94,31 +94,31 @@ module _ {sum : Sum} {N K S set rows : ℕ} {store numbers : List ℕ} (group : 
 pub record SetTurn (sum : Sum) (N K S : ℕ) (store query buffer : List ℕ) (i at end set rows : ℕ) (out : List ℕ) : Type 0 where
   pub given : SetAnswerable N K S store set rows (drop at query)
   pub small : set < 256
-  pub read : at + rows * count set + length (positionsFrom N K (i + 1)) ≡ length query
+  pub read : at + rows * count set + length (positions_from N K (i + 1)) ≡ length query
   pub written : end + rows * S ≤ length out
-  pub left : Pending 0 (evenAnswer sum N K S store query) buffer (end + rows * S)
-      (rowAnswers sum N K S store (rows_from N K (i + 1)) (drop (at + rows * count set) query))
-      (put end (rowAnswers sum N K S store (replicate rows (setIn K set)) (drop at query)) out)
+  pub left : Pending 0 (even_answer sum N K S store query) buffer (end + rows * S)
+      (row_answers sum N K S store (rows_from N K (i + 1)) (drop (at + rows * count set) query))
+      (put end (row_answers sum N K S store (replicate rows (set_in K set)) (drop at query)) out)
 
 pub set-turn : {sum : Sum} {N K S end rows : ℕ} {store query buffer out table : List ℕ} (i at : ℕ) → KeepsLength sum.plus S
-    → Answerable N K S store query buffer → table ≡ padded 256 (map byte_of (allSets K)) → i < length (allSets K)
-    → rows ≡ (N - 1) ^ (count (get_or table i 0) - 1) → at + length (positionsFrom N K i) ≡ length query
-    → Pending 0 (evenAnswer sum N K S store query) buffer end (rowAnswers sum N K S store (rows_from N K i) (drop at query)) out
+    → Answerable N K S store query buffer → table ≡ padded 256 (map byte_of (all_sets K)) → i < length (all_sets K)
+    → rows ≡ (N - 1) ^ (count (get_or table i 0) - 1) → at + length (positions_from N K i) ≡ length query
+    → Pending 0 (even_answer sum N K S store query) buffer end (row_answers sum N K S store (rows_from N K i) (drop at query)) out
     → SetTurn sum N K S store query buffer i at end (get_or table i 0) rows out
 set-turn {sum} {N} {K} {S} {end} {rows} {store} {query} {buffer} {out} {table} i at keeps given e h called read p =
-    let A = get_or (allSets K) i [] in
+    let A = get_or (all_sets K) i [] in
     let set = get_or table i 0 in
     let b = byte_at N K i table _ (layout-fits N K S given.fits) e h in
     let many : rows ≡ rows_of N A = called ∙ b.rows in
     let taken : rows * count set ≡ rows_of N A * ones_in A = ap₂ (λ (x y : ℕ). x * y) many b.counted in
     let numbers = numbers_more N K i h in
     let below = below-drop (N ^ K) at query given.named in
-    let front = rowAnswers sum N K S store (replicate rows (setIn K set)) (drop at query) in
-    let left = rowAnswers sum N K S store (rows_from N K (i + 1)) (drop (at + rows * count set) query) in
+    let front = row_answers sum N K S store (replicate rows (set_in K set)) (drop at query) in
+    let left = row_answers sum N K S store (rows_from N K (i + 1)) (drop (at + rows * count set) query) in
     let long : length front ≡ rows * S =
-    set-length sum N K S store keeps (setIn K set) rows (drop at query) given.whole (setIn-length K set) below in
-    let same : rowAnswers sum N K S store (replicate (rows_of N A) A) (drop at query) ≡ front =
-    sym (ap₂ (λ (m : ℕ) (B : List Bool). rowAnswers sum N K S store (replicate m B) (drop at query)) many b.decoded) in
+    set-length sum N K S store keeps (set_in K set) rows (drop at query) given.whole (set_in-length K set) below in
+    let same : row_answers sum N K S store (replicate (rows_of N A) A) (drop at query) ≡ front =
+    sym (ap₂ (λ (m : ℕ) (B : List Bool). row_answers sum N K S store (replicate m B) (drop at query)) many b.decoded) in
     let q = pending-as refl (sym (answers-more sum N K S store i at (rows * count set) query h taken ∙ ap (λ (l : List ℕ). l ++ left) same)) refl p in
     record {
       given = record {

@@ -2,8 +2,8 @@
 ghost use Rattle.std.specs.Prelude.{◌≡◌, ◌+◌, ◌*◌, ◌^◌, ◌≤◌, length, replicate};
 ghost use Rattle.lists.specs.Parts.{cut, put};
 ghost use Rattle.symbol.specs.Operations.{sum_of};
-ghost use Rattle.even_scheme.specs.Even.{rowAnswer, rowAnswers, evenAnswer};
-ghost use Rattle.even_sets.specs.Sets.{setIn};
+ghost use Rattle.even_scheme.specs.Even.{row_answer, row_answers, even_answer};
+ghost use Rattle.even_sets.specs.Sets.{set_in};
 ghost use Rattle.even_answer.specs.Answering.{Answerable, SetAnswerable, added};
 
 use symbol::Operation;
@@ -34,7 +34,7 @@ fn answer_row(
     out: &mut [u8],
 )
     requires { SetAnswerable n k s store.now set 1 numbers.now × (length out.old ≡ s) × (symbols ≡ n ^ k) }
-    ensures { out.new ≡ rowAnswer (sum_of op) n k s store.now (setIn k set) numbers.now }
+    ensures { out.new ≡ row_answer (sum_of op) n k s store.now (set_in k set) numbers.now }
 {
     let mut rest = set;
     let mut taken = 0;
@@ -65,7 +65,7 @@ fn answer_set(
 )
     requires { SetAnswerable n k s store.now set rows numbers.now × (rows * s ≤ length out.old) × (symbols ≡ n ^ k) }
     ensures { out.new
-        ≡ put 0 (rowAnswers (sum_of op) n k s store.now (replicate rows (setIn k set)) numbers.now) out.old }
+        ≡ put 0 (row_answers (sum_of op) n k s store.now (replicate rows (set_in k set)) numbers.now) out.old }
 {
     let size = u8::count_ones(set) as usize;
     let mut row = 0;
@@ -99,7 +99,7 @@ pub fn answer(
     out: &mut [u8],
 )
     requires { Answerable n k s store.now query.now out.old }
-    ensures { out.new ≡ put 0 (evenAnswer (sum_of op) n k s store.now query.now) out.old }
+    ensures { out.new ≡ put 0 (even_answer (sum_of op) n k s store.now query.now) out.old }
 {
     let symbols = parameters::power(n, k);
     let sets = even_sets::ordered_sets(k);

@@ -1,14 +1,14 @@
 // The key check of the even code: whether a key of the right length is K permutations of the numbers below N^K.
 ghost use Rattle.std.specs.Prelude.{◌≡◌, ◌*◌, ◌^◌, length};
-ghost use Rattle.lists.specs.Distinct.{isPermutation};
+ghost use Rattle.lists.specs.Distinct.{is_permutation};
 ghost use Rattle.lists.specs.Parts.{cut};
 ghost use Rattle.lists.specs.Ranges.{every};
-ghost use Rattle.even_scheme.specs.Even.{evenKeyGood};
+ghost use Rattle.even_scheme.specs.Even.{even_key_good};
 
 // Whether each of the key's k parts is a permutation.
 fn permutations_good(size: usize, k: usize, key: &[u8]) -> bool
     requires { length key.now ≡ k * size }
-    ensures { result ≡ every k (λ p. isPermutation size (cut (p * size) size key.now)) }
+    ensures { result ≡ every k (λ p. is_permutation size (cut (p * size) size key.now)) }
 {
     let mut p = 0;
     while p < k {
@@ -23,7 +23,7 @@ fn permutations_good(size: usize, k: usize, key: &[u8]) -> bool
 // Whether a key of the right length is good (no refusal 6).
 pub fn key_good(n: usize, k: usize, key: &[u8]) -> bool
     requires { length key.now ≡ k * n ^ k }
-    ensures { result ≡ evenKeyGood n k key.now }
+    ensures { result ≡ even_key_good n k key.now }
 {
     permutations_good(parameters::power(n, k), k, key)
 }

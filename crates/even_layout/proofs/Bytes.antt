@@ -9,20 +9,20 @@ use native.Mathlib.Omega.{arith}
 use borrow.Author.Tests.{eq-eqb, ne_eqb}
 use lib.ListN.{replicate}
 use Rattle.even_places.specs.Rule.{members}
-use Rattle.even_sets.specs.Sets.{setIn}
+use Rattle.even_sets.specs.Sets.{set_in}
 
 -- the members from message p on, where `rest` is what is left of the set's byte
-abbrev pub membersFrom : ℕ → ℕ → ℕ → List ℕ
-membersFrom K p rest = members p (setIn (K - p) rest)
+abbrev pub members_from : ℕ → ℕ → ℕ → List ℕ
+members_from K p rest = members p (set_in (K - p) rest)
 
-pub members_kept : (K p rest : ℕ) → p < K → rest % 2 ≡ 1 → membersFrom K p rest ≡ p ∷ membersFrom K (p + 1) (rest / 2)
-unfolding members setIn
+pub members_kept : (K p rest : ℕ) → p < K → rest % 2 ≡ 1 → members_from K p rest ≡ p ∷ members_from K (p + 1) (rest / 2)
+unfolding members set_in
 members_kept K p rest h e =
     let left : K - p ≡ suc (K - (p + 1)) = omega arith in
     rw (left, eq-eqb (rest % 2) 1 e, add-one p)
 
-pub members-skipped : (K p rest : ℕ) → p < K → (rest % 2 ≡ 1 → ⊥) → membersFrom K p rest ≡ membersFrom K (p + 1) (rest / 2)
-unfolding members setIn
+pub members-skipped : (K p rest : ℕ) → p < K → (rest % 2 ≡ 1 → ⊥) → members_from K p rest ≡ members_from K (p + 1) (rest / 2)
+unfolding members set_in
 members-skipped K p rest h e =
     let left : K - p ≡ suc (K - (p + 1)) = omega arith in
     rw (left, ne_eqb (rest % 2) 1 e, add-one p)

@@ -5,13 +5,13 @@ ghost use mathlib.Core.List.{flat_map};
 ghost use Rattle.lists.specs.Parts.{put};
 ghost use Rattle.lists.specs.Padded.{padded};
 ghost use Rattle.even_places.specs.Rule.{members, others, «positions»};
-ghost use Rattle.even_sets.specs.Sets.{LayoutBounds, setIn};
-ghost use Rattle.even_layout.specs.Layout.{firstRows};
+ghost use Rattle.even_sets.specs.Sets.{LayoutBounds, set_in};
+ghost use Rattle.even_layout.specs.Layout.{first_rows};
 
 // Writes the messages of a set, ascending, from `at` on, and gives where they end.
 fn write_members(k: usize, set: u8, out: &mut [u8], at: usize) -> usize
-    requires { (k ≤ 8) × (at + length (members 0 (setIn k set)) ≤ length out.old) }
-    ensures { (result ≡ at + length (members 0 (setIn k set))) × (out.new ≡ put at (members 0 (setIn k set)) out.old) }
+    requires { (k ≤ 8) × (at + length (members 0 (set_in k set)) ≤ length out.old) }
+    ensures { (result ≡ at + length (members 0 (set_in k set))) × (out.new ≡ put at (members 0 (set_in k set)) out.old) }
 {
     let mut rest = set;
     let mut end = at;
@@ -29,9 +29,9 @@ fn write_members(k: usize, set: u8, out: &mut [u8], at: usize) -> usize
 
 // Writes the messages of `count` rows of a set from `at` on, and gives where they end.
 fn write_rows(k: usize, set: u8, count: usize, out: &mut [u8], at: usize) -> usize
-    requires { (k ≤ 8) × (at + length (flat_map (members 0) (replicate count (setIn k set))) ≤ length out.old) }
-    ensures { (result ≡ at + length (flat_map (members 0) (replicate count (setIn k set))))
-        × (out.new ≡ put at (flat_map (members 0) (replicate count (setIn k set))) out.old) }
+    requires { (k ≤ 8) × (at + length (flat_map (members 0) (replicate count (set_in k set))) ≤ length out.old) }
+    ensures { (result ≡ at + length (flat_map (members 0) (replicate count (set_in k set))))
+        × (out.new ≡ put at (flat_map (members 0) (replicate count (set_in k set))) out.old) }
 {
     let mut end = at;
     let mut i = 0;
@@ -63,7 +63,7 @@ pub fn positions(n: usize, k: usize) -> [u8; 1024]
 // The number of each set's first row in a query, at the set's byte.
 pub fn first_rows(n: usize, k: usize) -> [usize; 256]
     requires { LayoutBounds n k }
-    ensures { result ≡ firstRows n k }
+    ensures { result ≡ first_rows n k }
 {
     let sets = even_sets::ordered_sets(k);
     let count = parameters::power(2, k) - 1;

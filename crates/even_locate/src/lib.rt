@@ -2,18 +2,18 @@
 ghost use Rattle.std.specs.Prelude.{◌≡◌, true, ◌*◌, ◌^◌, ◌≤◌, ◌<◌, length, replicate};
 ghost use mathlib.Core.List.{zip};
 ghost use Rattle.std.specs.Int.Count.{ones};
-ghost use Rattle.parameters.specs.Bounds.{evenFits};
-ghost use Rattle.parameters.specs.Measures.{evenSizes};
-ghost use Rattle.scheme.specs.Asked.{isCell, named_in, placeNaming};
+ghost use Rattle.parameters.specs.Bounds.{even_fits};
+ghost use Rattle.parameters.specs.Measures.{even_sizes};
+ghost use Rattle.scheme.specs.Asked.{is_cell, named_in, place_naming};
 ghost use Rattle.even_places.specs.Rule.{ones_in, members};
-ghost use Rattle.even_sets.specs.Sets.{setIn};
-ghost use Rattle.even_scheme.specs.Asked.{setRows, layoutRows};
+ghost use Rattle.even_sets.specs.Sets.{set_in};
+ghost use Rattle.even_scheme.specs.Asked.{set_rows, layout_rows};
 
 use scheme::Place;
 
 // Whether a message and the number of its symbol are those that are looked for.
 fn is_cell(p: usize, number: usize, message: usize, symbol: usize) -> bool
-    ensures { result ≡ isCell message symbol (p, number) }
+    ensures { result ≡ is_cell message symbol (p, number) }
 {
     if p != message {
         return false;
@@ -23,8 +23,8 @@ fn is_cell(p: usize, number: usize, message: usize, symbol: usize) -> bool
 
 // Whether a row of the set, whose numbers are the first of `numbers`, names the symbol.
 fn row_names(k: usize, set: u8, message: usize, symbol: usize, numbers: &[u8]) -> bool
-    requires { length (members 0 (setIn k set)) ≤ length numbers.now }
-    ensures { result ≡ named_in message symbol (zip (members 0 (setIn k set)) numbers.now) }
+    requires { length (members 0 (set_in k set)) ≤ length numbers.now }
+    ensures { result ≡ named_in message symbol (zip (members 0 (set_in k set)) numbers.now) }
 {
     let mut rest = set;
     let mut taken = 0;
@@ -52,9 +52,9 @@ fn set_place(
     symbol: usize,
     numbers: &[u8],
 ) -> Place
-    requires set_value { (ones_in (setIn k set) ≡ ones set) × (rows * ones set ≤ length numbers.now) }
+    requires set_value { (ones_in (set_in k set) ≡ ones set) × (rows * ones set ≤ length numbers.now) }
     requires s_bound { rows * s < 2 ^ 64 }
-    ensures { result ≡ placeNaming s message symbol (setRows (replicate rows (setIn k set)) numbers.now) }
+    ensures { result ≡ place_naming s message symbol (set_rows (replicate rows (set_in k set)) numbers.now) }
 {
     let size = u8::count_ones(set) as usize;
     let mut row = 0;
@@ -70,9 +70,9 @@ fn set_place(
 
 // Where the query names a symbol of a message: the answer to the row that does begins there. One pass over the query, which ends where the symbol is found.
 pub fn locate(n: usize, k: usize, s: usize, query: &[u8], message: usize, symbol: usize) -> Place
-    requires s_value { evenFits n k s ≡ true }
-    requires query_len { length query.now ≡ (evenSizes n k s).query }
-    ensures { result ≡ placeNaming s message symbol (layoutRows n k query.now) }
+    requires s_value { even_fits n k s ≡ true }
+    requires query_len { length query.now ≡ (even_sizes n k s).query }
+    ensures { result ≡ place_naming s message symbol (layout_rows n k query.now) }
 {
     let sets = even_sets::ordered_sets(k);
     let count = parameters::power(2, k) - 1;

@@ -14,9 +14,9 @@ use Rattle.lists.specs.Sums.{bit, sum, All}
 use Rattle.lists.proofs.Any.{Any-imp, Any-sum}
 use Rattle.lists.proofs.Distinct.{times, range-times}
 use Rattle.lists.proofs.Each.{All-imp, All-every, All-flatMap, All-replicate}
-use Rattle.lists.proofs.Joined.{flatMap-flatMap, flatMap-all}
-use Rattle.lists.proofs.Sums.{sum-flatMap, sum-ext, sum-all, sum-zero}
-use Rattle.even_places.specs.Rule.{ones_in, sets, allSets, layout, alike}
+use Rattle.lists.proofs.Joined.{flat_map-flat_map, flat_map-all}
+use Rattle.lists.proofs.Sums.{sum-flat_map, sum-ext, sum-all, sum-zero}
+use Rattle.even_places.specs.Rule.{ones_in, sets, all_sets, layout, alike}
 use Rattle.even_places.proofs.SetLaws.{alike-eq, alike-one}
 use Rattle.even_places.proofs.BlockRows.{sets-fit}
 
@@ -25,8 +25,8 @@ pub record IsSet (K : ℕ) (A : List Bool) : Type 0 where
   pub long : length A ≡ K
   pub some : 1 ≤ ones_in A
 
-pub all-sets : (K : ℕ) → All (IsSet K) (allSets K)
-unfolding allSets
+pub all-sets : (K : ℕ) → All (IsSet K) (all_sets K)
+unfolding all_sets
 all-sets K =
     All-flatMap (λ b. sets K (suc b))
     (All-every (λ b. All-imp (λ A h. record { long = h.0; some = omega (arith, h.1) }) (sets-fit K (suc b))) (range 0 K))
@@ -37,10 +37,10 @@ ones-most [] = omega arith
 ones-most (true ∷ A) = omega (arith, ones-most A)
 ones-most (false ∷ A) = omega (arith, ones-most A)
 
-pub alike_all : (K : ℕ) (X : List Bool) → length X ≡ K → 1 ≤ ones_in X → sum (λ A. bit (alike X A)) (allSets K) ≡ 1
-unfolding allSets bit times
+pub alike_all : (K : ℕ) (X : List Bool) → length X ≡ K → 1 ≤ ones_in X → sum (λ A. bit (alike X A)) (all_sets K) ≡ 1
+unfolding all_sets bit times
 alike_all K X e h =
-    sum-flatMap (λ A. bit (alike X A)) (λ b. sets K (suc b)) (range 0 K)
+    sum-flat_map (λ A. bit (alike X A)) (λ b. sets K (suc b)) (range 0 K)
     ∙ sum-ext (λ b. sum (λ A. bit (alike X A)) (sets K (suc b))) (λ b. bit (eqb b (ones_in X - 1))) (λ b. block b (eqb b (ones_in X - 1)) refl) (range 0 K)
     ∙ range-times (ones_in X - 1) K ∙ ap bit (lt-ltb (ones_in X - 1) K (omega (arith, ones-most X)))
   where
@@ -55,19 +55,19 @@ alike_all K X e h =
         other A true u d = absurd (d (ap ones_in (alike-eq X A u)))
         other A false u d = refl
 
-pub set-stands : (K : ℕ) (A : List Bool) → IsSet K A → Any (λ B. A ≡ B) (allSets K)
+pub set-stands : (K : ℕ) (A : List Bool) → IsSet K A → Any (λ B. A ≡ B) (all_sets K)
 unfolding bit
-set-stands K A s = Any-imp (λ B. same B (alike A B) refl) (Any-sum (λ B. bit (alike A B)) (allSets K) (omega (arith, alike_all K A s.long s.some)))
+set-stands K A s = Any-imp (λ B. same B (alike A B) refl) (Any-sum (λ B. bit (alike A B)) (all_sets K) (omega (arith, alike_all K A s.long s.some)))
   where
     same : (B : List Bool) (t : Bool) → alike A B ≡ t → 0 < bit t → A ≡ B
     same B true e l = alike-eq A B e
     same B false e l = absurd (let w : ⊥ = omega arith in w)
 
-pub layout-by-set : (N K : ℕ) → layout N K ≡ flat_map (λ A. replicate ((N - 1) ^ (ones_in A - 1)) A) (allSets K)
-unfolding layout allSets
+pub layout-by-set : (N K : ℕ) → layout N K ≡ flat_map (λ A. replicate ((N - 1) ^ (ones_in A - 1)) A) (all_sets K)
+unfolding layout all_sets
 layout-by-set N K =
-    ap (λ g. flat_map g (range 0 K)) (fun_ext (λ b. flatMap-all (replicate ((N - 1) ^ b)) run (All-imp (here b) (sets-fit K (suc b)))))
-    ∙ sym (flatMap-flatMap run (λ b. sets K (suc b)) (range 0 K))
+    ap (λ g. flat_map g (range 0 K)) (fun_ext (λ b. flat_map-all (replicate ((N - 1) ^ b)) run (All-imp (here b) (sets-fit K (suc b)))))
+    ∙ sym (flat_map-flat_map run (λ b. sets K (suc b)) (range 0 K))
   where
     run : List Bool → List (List Bool)
     run A = replicate ((N - 1) ^ (ones_in A - 1)) A

@@ -1,5 +1,5 @@
 -- Rows sorted by set: each row's set is one of the sets of its size, once, so that no row is lost and a sum over the rows by set goes
--- over the rows (`bySet-sum`). Rests on the laws of sets of one size (Choose).
+-- over the rows (`by_set-sum`). Rests on the laws of sets of one size (Choose).
 use Prim.Native.Nat.{ℕ, zero, suc, ◌*◌}
 use native.Mathlib.Nat.{zero-add, mul-one, mul_comm, add_comm}
 use native.Mathlib.Numerals.{add-one}
@@ -9,9 +9,9 @@ use mathlib.Core.List.{List, [], ◌∷◌}
 use mathlib.Core.Option.{none, some}
 use lib.ListN.{length}
 use Rattle.lists.specs.Sums.{bit, keep, sum, All}
-use Rattle.lists.proofs.Sums.{sum-mul, sum-ext, sum-all, sum-zero, sum-flatMap, sum-keep, sum-swap}
+use Rattle.lists.proofs.Sums.{sum-mul, sum-ext, sum-all, sum-zero, sum-flat_map, sum-keep, sum-swap}
 use Rattle.lists.proofs.Each.{All-imp}
-use Rattle.even_places.specs.Rule.{sets, Row, is_some, same, ofSet, bySet}
+use Rattle.even_places.specs.Rule.{sets, Row, is_some, same, of_set, by_set}
 use Rattle.even_places.proofs.Choose.{sets-none, sets-some}
 use Rattle.even_places.proofs.Rows.{somes, Fits}
 
@@ -29,10 +29,10 @@ same_once (some x ∷ r) =
     ∙ sets-some (λ A. bit (same A (some x ∷ r))) (length r) (somes r)
     ∙ omega (arith, same_once r, sum-zero (sets (length r) (suc (somes r))))
 
-pub bySet-sum : (h : Row → ℕ) (K b : ℕ) {rs : List Row} → All (Fits K b) rs → sum h (bySet (sets K b) rs) ≡ sum h rs
-unfolding bySet ofSet
-bySet-sum h K b {rs} a =
-    sum-flatMap h (λ A. keep (same A) rs) (sets K b)
+pub by_set-sum : (h : Row → ℕ) (K b : ℕ) {rs : List Row} → All (Fits K b) rs → sum h (by_set (sets K b) rs) ≡ sum h rs
+unfolding by_set of_set
+by_set-sum h K b {rs} a =
+    sum-flat_map h (λ A. keep (same A) rs) (sets K b)
     ∙ sum-ext (λ A. sum h (keep (same A) rs)) (λ A. sum (λ r. bit (same A r) * h r) rs) (λ A. sum-keep h (same A) rs) (sets K b)
     ∙ sum-swap (λ A r. bit (same A r) * h r) (sets K b) rs
     ∙ sum-all (λ r. sum (λ A. bit (same A r) * h r) (sets K b)) h (All-imp once a)

@@ -6,8 +6,8 @@ use mathlib.Core.Path.{◌≡◌, refl}
 use mathlib.Core.Bool.{Bool, true, false}
 use mathlib.Core.List.{List, [], ◌∷◌}
 use borrow.Author.Tests.{eq-eqb, lt-ltb, le-ltb}
-use Rattle.lists.specs.Lexicographic.{precedes, Ordered, orderedNil, orderedCons}
-use Rattle.lists.specs.Sums.{allNil, bit, sum}
+use Rattle.lists.specs.Lexicographic.{precedes, Ordered, ordered_nil, ordered_cons}
+use Rattle.lists.specs.Sums.{all_nil, bit, sum}
 use Rattle.lists.proofs.Ordered.{Ordered-imp, Ordered-append, Ordered-map}
 use Rattle.lists.proofs.Each.{All-imp, All-map, All-every}
 use Rattle.even_places.specs.Rule.{ones_in, members, sets}
@@ -39,8 +39,8 @@ one_has q A B some = lower-first q (suc q) (members (suc q) A) B (omega arith) s
 
 ordered-from : (q K b : ℕ) → Ordered (Before q) (sets K b)
 unfolding sets
-ordered-from q zero zero = orderedCons allNil orderedNil
-ordered-from q zero (suc b) = orderedNil
+ordered-from q zero zero = ordered_cons all_nil ordered_nil
+ordered-from q zero (suc b) = ordered_nil
 ordered-from q (suc K) zero = Ordered-map (λ A. false ∷ A) (Ordered-imp (both-lack q) (ordered-from (suc q) K zero))
 ordered-from q (suc K) (suc b) =
     Ordered-append

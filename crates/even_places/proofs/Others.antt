@@ -10,7 +10,7 @@ use borrow.Author.Tests.{eq-eqb, ne_eqb}
 use lib.ListN.{length, get_or, length-append, get_or-append}
 use lib.Seq.{get_or-append-add}
 use lib.Dec.{eqb}
-use Rattle.lists.specs.Sums.{keep, keepIf, All}
+use Rattle.lists.specs.Sums.{keep, keep_if, All}
 use Rattle.lists.specs.Ranges.{range}
 use Rattle.lists.proofs.Keep.{keep_all, keep_append}
 use Rattle.lists.proofs.Ranges.{range_length, range_at, range-around, All-from, All-range}
@@ -19,7 +19,7 @@ use Rattle.even_places.specs.Rule.{others}
 
 -- the other servers than n: those below it, then those above
 others-is : (N n : ℕ) → n < N → others N n ≡ range 0 n ++ range (suc n) (N - suc n)
-unfolding others keep keepIf range
+unfolding others keep keep_if range
 others-is N n l =
     ap (keep t) (range-around N n l)
     ∙ keep_append t (range 0 n) (n ∷ range (suc n) (N - suc n))

@@ -9,36 +9,36 @@ use mathlib.Core.Bool.{Bool, true, false}
 use mathlib.Core.Option.{none, some}
 use lib.ListN.{length, get_or, set, length-replicate, length-set, length-map, get_or-map}
 use Rattle.lists.specs.Below.{Below}
-use Rattle.lists.specs.Sums.{bit, sum, All, allNil, allCons}
-use Rattle.lists.proofs.Joined.{map-flatMap, flatMap-map, flatMap-at}
+use Rattle.lists.specs.Sums.{bit, sum, All, all_nil, all_cons}
+use Rattle.lists.proofs.Joined.{map-flat_map, flat_map-map, flat_map-at}
 use Rattle.lists.proofs.Each.{All-get, All-imp, All-flatMap}
-use Rattle.even_places.specs.Rule.{has, ones_in, members, Row, others, is_some, same, ofSet, cells, rows, queryCells, layout, positions}
+use Rattle.even_places.specs.Rule.{has, ones_in, members, Row, others, is_some, same, of_set, cells, rows, query_cells, layout, positions}
 use Rattle.even_places.specs.Counting.{block}
 use Rattle.even_places.proofs.Others.{others-length, others_below}
-use Rattle.even_places.proofs.SetLaws.{setOf, keep-sets, ones-drop}
+use Rattle.even_places.proofs.SetLaws.{set_of, keep-sets, ones-drop}
 use Rattle.even_places.proofs.Joined.{same_layout, group-size, joined}
 use Rattle.even_places.proofs.Flat.{query-length}
 use Rattle.even_places.proofs.AllSets.{layout-long}
 
-cells-members : (q : ℕ) (r : Row) → map (λ e. e.0) (cells q r) ≡ members q (setOf r)
-unfolding cells members setOf is_some
+cells-members : (q : ℕ) (r : Row) → map (λ e. e.0) (cells q r) ≡ members q (set_of r)
+unfolding cells members set_of is_some
 cells-members q [] = refl
 cells-members q (none ∷ r) = cells-members (suc q) r
 cells-members q (some x ∷ r) = ap (λ l. q ∷ l) (cells-members (suc q) r)
 
 -- the message at each position of a query depends on N and K alone
-pub same-members : (N K k n : ℕ) → 1 < N → k < K → n < N → map (λ e. e.0) (queryCells N K k n) ≡ flat_map (members 0) (layout N K)
-unfolding queryCells
+pub same-members : (N K k n : ℕ) → 1 < N → k < K → n < N → map (λ e. e.0) (query_cells N K k n) ≡ flat_map (members 0) (layout N K)
+unfolding query_cells
 same-members N K k n wide known l =
-    map-flatMap (λ e. e.0) (cells 0) (rows N K k n)
+    map-flat_map (λ e. e.0) (cells 0) (rows N K k n)
     ∙ ap (λ g. flat_map g (rows N K k n)) (fun_ext (cells-members 0))
-    ∙ sym (flatMap-map (members 0) setOf (rows N K k n))
+    ∙ sym (flat_map-map (members 0) set_of (rows N K k n))
     ∙ ap (flat_map (members 0)) (same_layout N K k wide known n l)
 
 pub members-below : (K q : ℕ) (A : List Bool) → q + length A ≤ K → All (λ p. p < K) (members q A)
 unfolding members
-members-below K q [] h = allNil
-members-below K q (true ∷ A) h = allCons {x = q} (omega arith) (members-below K (suc q) A (omega arith))
+members-below K q [] h = all_nil
+members-below K q (true ∷ A) h = all_cons {x = q} (omega arith) (members-below K (suc q) A (omega arith))
 members-below K q (false ∷ A) h = members-below K (suc q) A (omega arith)
 
 pub members-length : (q : ℕ) (A : List Bool) → length (members q A) ≡ ones_in A
@@ -56,23 +56,23 @@ pub positions-length : (N K : ℕ) → 1 < N → 0 < K → length (positions N K
 unfolding positions
 positions-length N K wide some-message =
     ap length (sym (same-members N K 0 0 wide some-message (omega arith)))
-    ∙ length-map (queryCells N K 0 0) (λ e. e.0)
+    ∙ length-map (query_cells N K 0 0) (λ e. e.0)
     ∙ query-length N K 0 wide some-message 0 (omega arith)
 
 module _ (N K k : ℕ) (wide : 1 < N) (known : k < K) where
-  pub group-length : (b n : ℕ) (A : List Bool) → n < N → length A ≡ K → ones_in A ≡ suc b → length (ofSet A (block N K k b n)) ≡ (N - 1) ^ b
+  pub group-length : (b n : ℕ) (A : List Bool) → n < N → length A ≡ K → ones_in A ≡ suc b → length (of_set A (block N K k b n)) ≡ (N - 1) ^ b
   group-length b n A l long many =
-      sym (length-map (ofSet A (block N K k b n)) setOf)
+      sym (length-map (of_set A (block N K k b n)) set_of)
       ∙ ap length (keep-sets A (block N K k b n))
       ∙ length-replicate (sum (λ r. bit (same A r)) (block N K k b n)) A
       ∙ group-size N K k wide known b n A l long many
 
   -- by number: of server n's rows of a set with k, number j (N-1)^b + r is joined from row r of the set without k at the j-th other server
   pub joined_at : (b n j r : ℕ) (A : List Bool) → n < N → has k A ≡ true → length A ≡ K → ones_in A ≡ suc (suc b) → j < N - 1 → r < (N - 1) ^ b
-      → set (get_or (ofSet A (block N K k (suc b) n)) (j * (N - 1) ^ b + r) []) k none ≡ get_or (ofSet (set A k false) (block N K k b (get_or (others N n) j 0))) r []
+      → set (get_or (of_set A (block N K k (suc b) n)) (j * (N - 1) ^ b + r) []) k none ≡ get_or (of_set (set A k false) (block N K k b (get_or (others N n) j 0))) r []
   joined_at b n j r A l e long many hj hr =
-      sym (get_or-map (λ s. set s k none) (ofSet A (block N K k (suc b) n)) (j * (N - 1) ^ b + r) [])
+      sym (get_or-map (λ s. set s k none) (of_set A (block N K k (suc b) n)) (j * (N - 1) ^ b + r) [])
       ∙ ap (λ s. get_or s (j * (N - 1) ^ b + r) []) (joined N K k wide known b n A e)
-      ∙ flatMap-at (λ m. ofSet (set A k false) (block N K k b m)) ((N - 1) ^ b) [] 0
+      ∙ flat_map-at (λ m. of_set (set A k false) (block N K k b m)) ((N - 1) ^ b) [] 0
       (All-imp (λ m h. group-length b m (set A k false) h (length-set A k false ∙ long) (omega (arith, ones-drop A k e, many))) (others_below N n))
       j r (omega (arith, others-length N n l)) hr

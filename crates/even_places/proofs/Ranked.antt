@@ -11,18 +11,18 @@ use mathlib.Core.Bool.{Bool, true, false, not}
 use borrow.Author.Tests.{eq-eqb, ne_eqb}
 use lib.ListN.{set}
 use lib.Dec.{eqb}
-use Rattle.lists.specs.Sums.{bit, keep, keepIf, sum}
+use Rattle.lists.specs.Sums.{bit, keep, keep_if, sum}
 use Rattle.lists.specs.Ranges.{range}
 use Rattle.lists.proofs.Sums.{sum-append}
 use Rattle.lists.proofs.Each.{All-imp, All-every}
-use Rattle.lists.proofs.Keep.{keep_all, keep-map, keep_append, keep-nothing, keep-flatMap}
-use Rattle.lists.proofs.Joined.{flatMap-nothing, flatMap-append}
+use Rattle.lists.proofs.Keep.{keep_all, keep-map, keep_append, keep-nothing, keep-flat_map}
+use Rattle.lists.proofs.Joined.{flat_map-nothing, flat_map-append}
 use Rattle.lists.proofs.Mapped.{map-append}
 use Rattle.lists.proofs.Ranges.{range-around, All-from}
-use Rattle.even_places.specs.Rule.{has, ones_in, sets, allSets, alike}
+use Rattle.even_places.specs.Rule.{has, ones_in, sets, all_sets, alike}
 use Rattle.even_places.proofs.SetLaws.{alike_self}
 use Rattle.even_places.proofs.BlockRows.{sets-fit, sets-zero, has-none}
-use Rattle.even_places.proofs.RepeatedSets.{before, beforeIf}
+use Rattle.even_places.proofs.RepeatedSets.{before, before_if}
 
 -- ---- The sets with k, without it
 
@@ -54,7 +54,7 @@ keep-no : (X : List (List Bool)) → keep (λ A. false) X ≡ []
 keep-no X = keep-nothing (λ A. false) (All-every (λ A. refl) X)
 
 none-with : (K k : ℕ) → keep (has k) (sets K 0) ≡ []
-unfolding keep keepIf
+unfolding keep keep_if
 none-with K k = rw (sets-zero K, has-none K k)
 
 pub taken_out : (K k b : ℕ) → k < K → map (λ A. set A k false) (keep (has k) (sets K (suc b))) ≡ keep (λ A. not (has k A)) (sets K b)
@@ -101,15 +101,15 @@ taken_out (suc K) (suc k) b h = out (sets K b) (sets K (suc b)) ∙ go b (λ c. 
 
 -- ---- The sets of one block among all sets
 
-pub of-block : (K b : ℕ) → b < K → keep (λ A. eqb (suc b) (ones_in A)) (allSets K) ≡ sets K (suc b)
-unfolding allSets flat_map range
+pub of-block : (K b : ℕ) → b < K → keep (λ A. eqb (suc b) (ones_in A)) (all_sets K) ≡ sets K (suc b)
+unfolding all_sets flat_map range
 of-block K b h =
-    keep-flatMap t (λ j. sets K (suc j)) (range 0 K)
+    keep-flat_map t (λ j. sets K (suc j)) (range 0 K)
     ∙ ap (flat_map g) (range-around K b h)
-    ∙ flatMap-append g (range 0 b) (b ∷ range (suc b) (K - suc b))
+    ∙ flat_map-append g (range 0 b) (b ∷ range (suc b) (K - suc b))
     ∙ rw (
-      flatMap-nothing g (All-from 0 b (λ j l u. other j (λ e. omega arith))),
-      flatMap-nothing g (All-from (suc b) (K - suc b) (λ j l u. other j (λ e. omega arith))),
+      flat_map-nothing g (All-from 0 b (λ j l u. other j (λ e. omega arith))),
+      flat_map-nothing g (All-from (suc b) (K - suc b) (λ j l u. other j (λ e. omega arith))),
       append-nil (g b),
     )
     (keep_all t (All-imp (λ A f. ap (eqb (suc b)) f.1 ∙ eq-eqb (suc b) (suc b) refl) (sets-fit K (suc b))))
@@ -126,7 +126,7 @@ of-block K b h =
 -- ---- What stands before a set
 
 pub before-seam : (A : List Bool) (X Y : List (List Bool)) → sum (λ B. bit (alike A B)) (X ++ A ∷ Y) ≤ 1 → before A (X ++ A ∷ Y) ≡ X
-unfolding before beforeIf sum bit
+unfolding before before_if sum bit
 before-seam A [] Y e = rw (alike_self A)
 before-seam A (B ∷ X) Y e = go (alike A B) e (before-seam A X Y)
   where
@@ -135,6 +135,6 @@ before-seam A (B ∷ X) Y e = go (alike A B) e (before-seam A X Y)
 
     go : (t : Bool) → bit t + sum (λ C. bit (alike A C)) (X ++ A ∷ Y) ≤ 1
         → (sum (λ C. bit (alike A C)) (X ++ A ∷ Y) ≤ 1 → before A (X ++ A ∷ Y) ≡ X)
-        → beforeIf t B (before A (X ++ A ∷ Y)) ≡ B ∷ X
+        → before_if t B (before A (X ++ A ∷ Y)) ≡ B ∷ X
     go true f ih = absurd (omega (arith, again))
     go false f ih = ap (λ l. B ∷ l) (ih (omega arith))

@@ -8,23 +8,23 @@ use mathlib.Core.List.{List, [], ◌∷◌, ◌++◌, flat_map}
 use mathlib.Core.Bool.{Bool, true, false}
 use mathlib.Core.Option.{none, some}
 use lib.ListN.{length, get_or, set, replicate, length-replicate, get_or-append}
-use Rattle.lists.specs.Sums.{bit, keep, keepIf, sum, All, allNil, allCons}
+use Rattle.lists.specs.Sums.{bit, keep, keep_if, sum, All, all_nil, all_cons}
 use Rattle.lists.proofs.Keep.{keep_append, keep-nothing}
 use Rattle.lists.proofs.Each.{All-imp, All-replicate}
-use Rattle.even_places.specs.Rule.{has, Row, give, next, after, number, afters, join, same, ofSet, alike}
+use Rattle.even_places.specs.Rule.{has, Row, give, next, after, number, afters, join, same, of_set, alike}
 use Rattle.even_places.specs.Counting.{with}
 use Rattle.even_places.proofs.Rows.{Lacks, SetLacks, number-lacks, next-at, after-at, after-length, number-length, afters-length, afters-at}
-use Rattle.even_places.proofs.SetLaws.{same_alike, alike-eq, setOf-next, join-append, join-length, join-at, join-same}
+use Rattle.even_places.proofs.SetLaws.{same_alike, alike-eq, set_of-next, join-append, join-length, join-at, join-same}
 
 -- the part of a list of sets before A
-unfoldable pub beforeIf : Bool → List Bool → List (List Bool) → List (List Bool)
-beforeIf true B r = []
-beforeIf false B r = B ∷ r
+unfoldable pub before_if : Bool → List Bool → List (List Bool) → List (List Bool)
+before_if true B r = []
+before_if false B r = B ∷ r
 
 unfoldable pub before : List Bool → List (List Bool) → List (List Bool)
-unfolding beforeIf alike
+unfolding before_if alike
 before A [] = []
-before A (B ∷ L) = beforeIf (alike A B) B (before A L)
+before A (B ∷ L) = before_if (alike A B) B (before A L)
 
 number_append : (L M : List (List Bool)) (c : List ℕ) → number c (L ++ M) ≡ number c L ++ number (afters L c) M
 unfolding number afters
@@ -35,9 +35,9 @@ module _ (K : ℕ) where
   -- the rows of q times one set: all of that set, the next place of p one more each time
   same-run : (A B : List Bool) (q : ℕ) (c : List ℕ) → length B ≡ K → length c ≡ K → All (λ r. same A r ≡ alike A B) (number c (replicate q B))
   unfolding number
-  same-run A B zero c h e = allNil
+  same-run A B zero c h e = all_nil
   same-run A B (suc q) c h e =
-      allCons (same_alike A (next B c) ∙ ap (alike A) (setOf-next B c (h ∙ sym e))) (same-run A B q (after B c) h (after-length B c (h ∙ sym e) ∙ e))
+      all_cons (same_alike A (next B c) ∙ ap (alike A) (set_of-next B c (h ∙ sym e))) (same-run A B q (after B c) h (after-length B c (h ∙ sym e) ∙ e))
 
   run_at : (A : List Bool) (p q r : ℕ) (c : List ℕ) → length A ≡ K → length c ≡ K → has p A ≡ true → r < q
       → get_or (get_or (number c (replicate q A)) r []) p none ≡ some (get_or c p 0 + r)
@@ -47,10 +47,10 @@ module _ (K : ℕ) where
   run_at A p (suc q) (suc r) c h e g l =
       run_at A p q r (after A c) h (after-length A c (h ∙ sym e) ∙ e) g (omega arith) ∙ ap some (omega (arith, after-at A c p (h ∙ sym e), ap bit g))
 
-  keep-everything : (A : List Bool) {rs : List Row} → All (λ r. same A r ≡ true) rs → ofSet A rs ≡ rs
-  unfolding ofSet keep keepIf
-  keep-everything A allNil = refl
-  keep-everything A (allCons {x = r} {xs = rs} e a) = rw (e, keep-everything A a)
+  keep-everything : (A : List Bool) {rs : List Row} → All (λ r. same A r ≡ true) rs → of_set A rs ≡ rs
+  unfolding of_set keep keep_if
+  keep-everything A all_nil = refl
+  keep-everything A (all_cons {x = r} {xs = rs} e a) = rw (e, keep-everything A a)
 
   with-replicate : (p q : ℕ) (A : List Bool) → with p (replicate q A) ≡ q * bit (has p A)
   unfolding with sum
@@ -60,10 +60,10 @@ module _ (K : ℕ) where
   -- among the rows of q times each set, the one numbered r of set A
   pub run-of-set : (A : List Bool) (p q r : ℕ) {L : List (List Bool)} (c : List ℕ) → length c ≡ K → All (λ B. length B ≡ K) L
       → 0 < sum (λ B. bit (alike A B)) L → has p A ≡ true → r < q
-      → get_or (get_or (ofSet A (number c (flat_map (replicate q) L))) r []) p none ≡ some (get_or c p 0 + q * with p (before A L) + r)
-  unfolding flat_map sum bit before with number ofSet
-  run-of-set A p q r c e allNil m g l = absurd (omega arith)
-  run-of-set A p q r c e (allCons {x = B} {xs = L} h a) m g l =
+      → get_or (get_or (of_set A (number c (flat_map (replicate q) L))) r []) p none ≡ some (get_or c p 0 + q * with p (before A L) + r)
+  unfolding flat_map sum bit before with number of_set
+  run-of-set A p q r c e all_nil m g l = absurd (omega arith)
+  run-of-set A p q r c e (all_cons {x = B} {xs = L} h a) m g l =
       ap (λ s. get_or (get_or s r []) p none)
       (ap (keep (same A)) (number_append (replicate q B) (flat_map (replicate q) L) c)
       ∙ keep_append (same A) (number c (replicate q B)) (number c' (flat_map (replicate q) L)))
@@ -83,7 +83,7 @@ module _ (K : ℕ) where
 
       go : (t : Bool) → alike A B ≡ t → 0 < bit t + sum (λ D. bit (alike A D)) L
           → (0 < sum (λ D. bit (alike A D)) L → get_or (get_or rest r []) p none ≡ some (get_or c' p 0 + q * with p (before A L) + r))
-          → get_or (get_or (keep (same A) (number c (replicate q B)) ++ rest) r []) p none ≡ some (get_or c p 0 + q * with p (beforeIf t B (before A L)) + r)
+          → get_or (get_or (keep (same A) (number c (replicate q B)) ++ rest) r []) p none ≡ some (get_or c p 0 + q * with p (before_if t B (before A L)) + r)
       go true f m' ih =
           ap (λ s. get_or (get_or (s ++ rest) r []) p none) (keep-everything A (run f))
           ∙ ap (λ s. get_or s p none)
@@ -99,10 +99,10 @@ module _ (K k b : ℕ) (known : k < K) where
   -- the place of k in the row numbered r of set A, joined from the rows of q times each set
   pub join-of-set : (A : List Bool) (x q r : ℕ) {L : List (List Bool)} (c : List ℕ) → length c ≡ K → All (SetLacks K k b) L
       → 0 < sum (λ B. bit (alike (set A k false) B)) L → has k A ≡ true → r < q
-      → get_or (get_or (ofSet A (join k x (number c (flat_map (replicate q) L)))) r []) k none ≡ some (x + q * length (before (set A k false) L) + r)
-  unfolding flat_map sum bit before number ofSet
-  join-of-set A x q r c e allNil m g l = absurd (omega arith)
-  join-of-set A x q r c e (allCons {x = B} {xs = L} h a) m g l =
+      → get_or (get_or (of_set A (join k x (number c (flat_map (replicate q) L)))) r []) k none ≡ some (x + q * length (before (set A k false) L) + r)
+  unfolding flat_map sum bit before number of_set
+  join-of-set A x q r c e all_nil m g l = absurd (omega arith)
+  join-of-set A x q r c e (all_cons {x = B} {xs = L} h a) m g l =
       ap (λ s. get_or (get_or s r []) k none)
       (ap (λ s. keep (same A) (join k x s)) (number_append (replicate q B) (flat_map (replicate q) L) c)
       ∙ ap (keep (same A)) (join-append k x R (number c' (flat_map (replicate q) L)))
@@ -135,7 +135,7 @@ module _ (K k b : ℕ) (known : k < K) where
 
       go : (t : Bool) → alike A' B ≡ t → 0 < bit t + sum (λ D. bit (alike A' D)) L
           → (0 < sum (λ D. bit (alike A' D)) L → get_or (get_or rest r []) k none ≡ some (x + length R + q * length (before A' L) + r))
-          → get_or (get_or (keep (same A) (join k x R) ++ rest) r []) k none ≡ some (x + q * length (beforeIf t B (before A' L)) + r)
+          → get_or (get_or (keep (same A) (join k x R) ++ rest) r []) k none ≡ some (x + q * length (before_if t B (before A' L)) + r)
       go true f m' ih =
           ap (λ s. get_or (get_or (s ++ rest) r []) k none) (keep-everything K A (run true f))
           ∙ ap (λ s. get_or s k none) (get_or-append (join k x R) rest [] r (omega (arith, join-length k x R, size)))

@@ -11,7 +11,7 @@ use borrow.Author.Tests.{lt-ltb, le-ltb, eqb-true}
 use lib.ListN.{length, get_or, set, length-set}
 use lib.Seq.{get_or-set_same}
 use lib.Dec.{eqb, ltb}
-use Rattle.lists.specs.Sums.{bit, sum, All, allNil, allCons}
+use Rattle.lists.specs.Sums.{bit, sum, All, all_nil, all_cons}
 use Rattle.lists.specs.Ranges.{range}
 use Rattle.lists.proofs.Sums.{sum-keep, sum-next}
 use Rattle.lists.proofs.Bits.{bit-step}
@@ -103,10 +103,10 @@ pub record SetLacks (K k b : ℕ) (A : List Bool) : Type 0 where
 
 pub number-lacks : (K k b : ℕ) (c : List ℕ) {L : List (List Bool)} → length c ≡ K → All (SetLacks K k b) L → All (Lacks K k b) (number c L)
 unfolding number
-number-lacks K k b c e allNil = allNil
-number-lacks K k b c e (allCons {x = A} h a) =
+number-lacks K k b c e all_nil = all_nil
+number-lacks K k b c e (all_cons {x = A} h a) =
     let l : length A ≡ length c = h.long ∙ sym e in
-    allCons
+    all_cons
     (record {
       long = next-length A c l ∙ h.long;
       many = next-somes A c l ∙ h.many;
@@ -133,8 +133,8 @@ step false v x o w ih =
 pub number-hit : (K p v : ℕ) (c : List ℕ) {L : List (List Bool)} → length c ≡ K → All (λ A. length A ≡ K) L
     → sum (hit p v) (number c L) + below v (get_or c p 0) ≡ below v (get_or c p 0 + with p L)
 unfolding number with sum hit
-number-hit K p v c e allNil = rw (add-zero (get_or c p 0)) (omega arith)
-number-hit K p v c e (allCons {x = A} {xs = L} h a) =
+number-hit K p v c e all_nil = rw (add-zero (get_or c p 0)) (omega arith)
+number-hit K p v c e (all_cons {x = A} {xs = L} h a) =
     let l : length A ≡ length c = h ∙ sym e in
     let ih = number-hit K p v (after A c) (after-length A c l ∙ e) a in
     let here : hit p v (next A c) ≡ is v (give (has p A) (get_or c p 0)) = ap (is v) (next-at A c p l) in
@@ -142,8 +142,8 @@ number-hit K p v c e (allCons {x = A} {xs = L} h a) =
 
 pub number-gives : (K p : ℕ) (c : List ℕ) {L : List (List Bool)} → length c ≡ K → All (λ A. length A ≡ K) L → sum (gives p) (number c L) ≡ with p L
 unfolding number with sum gives
-number-gives K p c e allNil = refl
-number-gives K p c e (allCons {x = A} {xs = L} h a) =
+number-gives K p c e all_nil = refl
+number-gives K p c e (all_cons {x = A} {xs = L} h a) =
     let l : length A ≡ length c = h ∙ sym e in
     let here : is_some (get_or (next A c) p none) ≡ has p A = ap is_some (next-at A c p l) ∙ give-some (has p A) (get_or c p 0) in
     omega (arith, ap bit here, number-gives K p (after A c) (after-length A c l ∙ e) a)
@@ -157,13 +157,13 @@ number-length c (A ∷ L) = ap suc (number-length (after A c) L)
 module _ (K : ℕ) where
   pub afters-length : {L : List (List Bool)} (c : List ℕ) → length c ≡ K → All (λ A. length A ≡ K) L → length (afters L c) ≡ K
   unfolding afters
-  afters-length c e allNil = e
-  afters-length c e (allCons {x = A} h a) = afters-length (after A c) (after-length A c (h ∙ sym e) ∙ e) a
+  afters-length c e all_nil = e
+  afters-length c e (all_cons {x = A} h a) = afters-length (after A c) (after-length A c (h ∙ sym e) ∙ e) a
 
   pub afters-at : (p : ℕ) {L : List (List Bool)} (c : List ℕ) → length c ≡ K → All (λ A. length A ≡ K) L → get_or (afters L c) p 0 ≡ get_or c p 0 + with p L
   unfolding afters with sum
-  afters-at p c e allNil = sym (add-zero (get_or c p 0))
-  afters-at p c e (allCons {x = A} h a) =
+  afters-at p c e all_nil = sym (add-zero (get_or c p 0))
+  afters-at p c e (all_cons {x = A} h a) =
       afters-at p (after A c) (after-length A c (h ∙ sym e) ∙ e) a ∙ omega (arith, after-at A c p (h ∙ sym e))
 
 -- joining leaves alone what does not look at k, and gives k's places one after another
@@ -174,16 +174,16 @@ join-sum h g k e x (r ∷ rs) = omega (arith, e r x, join-sum h g k e (suc x) rs
 
 pub join-hit : (k v x : ℕ) {rs : List Row} → All (λ r. k < length r) rs → sum (hit k v) (join k x rs) + below v x ≡ below v (x + length rs)
 unfolding sum join hit is
-join-hit k v x allNil = ap (λ s. 0 + below v s) (sym (add-zero x)) ∙ zero-add (below v (x + 0))
-join-hit k v x (allCons {x = r} {xs = rs} l a) =
+join-hit k v x all_nil = ap (λ s. 0 + below v s) (sym (add-zero x)) ∙ zero-add (below v (x + 0))
+join-hit k v x (all_cons {x = r} {xs = rs} l a) =
     let here : hit k v (set r k (some x)) ≡ bit (eqb x v) = ap (is v) (get_or-set_same r k (some x) none l) in
     let e : below v (suc x + length rs) ≡ below v (x + suc (length rs)) = ap (below v) (omega arith) in
     omega (arith, here, below_step v x, join-hit k v (suc x) a)
 
 pub join-gives : (k x : ℕ) {rs : List Row} → All (λ r. k < length r) rs → sum (gives k) (join k x rs) ≡ length rs
 unfolding sum join gives is_some bit
-join-gives k x allNil = refl
-join-gives k x (allCons {x = r} {xs = rs} l a) =
+join-gives k x all_nil = refl
+join-gives k x (all_cons {x = r} {xs = rs} l a) =
     let here : gives k (set r k (some x)) ≡ 1 = ap (λ o. bit (is_some o)) (get_or-set_same r k (some x) none l) in
     omega (arith, here, join-gives k (suc x) a)
 
@@ -200,9 +200,9 @@ pub record Fits (K b : ℕ) (r : Row) : Type 0 where
 
 pub join-fits : (K k b x : ℕ) {rs : List Row} → k < K → All (Lacks K k b) rs → All (Fits K (suc b)) (join k x rs)
 unfolding join
-join-fits K k b x h allNil = allNil
-join-fits K k b x h (allCons {x = r} f a) =
-    allCons
+join-fits K k b x h all_nil = all_nil
+join-fits K k b x h (all_cons {x = r} f a) =
+    all_cons
     (record { long = length-set r k (some x) ∙ f.long; many = somes-set r k x (omega arith) f.lack ∙ ap suc f.many })
     (join-fits K k b (suc x) h a)
 

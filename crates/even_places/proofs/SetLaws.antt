@@ -11,18 +11,18 @@ use mathlib.Core.Bool.{Bool, true, false, not, beq, ◌&&◌, false≢true}
 use mathlib.Core.Option.{none, some}
 use lib.ListN.{length, get_or, set, replicate}
 use lib.Seq.{get_or-set_same, get_or-set_other, set-set, set-get_or}
-use Rattle.lists.specs.Sums.{bit, keep, keepIf, sum, All, allNil, allCons}
+use Rattle.lists.specs.Sums.{bit, keep, keep_if, sum, All, all_nil, all_cons}
 use Rattle.lists.proofs.Sums.{sum-zero}
-use Rattle.even_places.specs.Rule.{has, ones_in, sets, Row, give, next, after, number, join, is_some, same, ofSet, cells, alike}
+use Rattle.even_places.specs.Rule.{has, ones_in, sets, Row, give, next, after, number, join, is_some, same, of_set, cells, alike}
 use Rattle.even_places.proofs.Choose.{sets-none, sets-some}
 use Rattle.even_places.proofs.Rows.{after-length, Lacks}
 
 -- a row's set
-unfoldable pub setOf : Row → List Bool
-setOf r = map is_some r
+unfoldable pub set_of : Row → List Bool
+set_of r = map is_some r
 
-pub same_alike : (A : List Bool) (r : Row) → same A r ≡ alike A (setOf r)
-unfolding same alike setOf
+pub same_alike : (A : List Bool) (r : Row) → same A r ≡ alike A (set_of r)
+unfolding same alike set_of
 same_alike [] [] = refl
 same_alike [] (x ∷ r) = refl
 same_alike (a ∷ A) [] = refl
@@ -106,57 +106,57 @@ pub has-lone : (A : List Bool) (k p : ℕ) → ones_in A ≡ 1 → has k A ≡ t
 unfolding has
 has-lone A k p many e d = sym (get_or-set_other A k p false false d) ∙ has-empty (set A k false) p (omega (arith, ones-drop A k e))
 
-pub setOf-next : (A : List Bool) (c : List ℕ) → length A ≡ length c → setOf (next A c) ≡ A
-unfolding setOf next is_some give
-setOf-next [] c e = refl
-setOf-next (a ∷ A) [] e = absurd (omega arith)
-setOf-next (true ∷ A) (x ∷ c) e = ap (λ B. true ∷ B) (setOf-next A c (omega arith))
-setOf-next (false ∷ A) (x ∷ c) e = ap (λ B. false ∷ B) (setOf-next A c (omega arith))
+pub set_of-next : (A : List Bool) (c : List ℕ) → length A ≡ length c → set_of (next A c) ≡ A
+unfolding set_of next is_some give
+set_of-next [] c e = refl
+set_of-next (a ∷ A) [] e = absurd (omega arith)
+set_of-next (true ∷ A) (x ∷ c) e = ap (λ B. true ∷ B) (set_of-next A c (omega arith))
+set_of-next (false ∷ A) (x ∷ c) e = ap (λ B. false ∷ B) (set_of-next A c (omega arith))
 
-pub setOf-set : (r : Row) (k x : ℕ) → setOf (set r k (some x)) ≡ set (setOf r) k true
-unfolding setOf is_some
-setOf-set [] zero x = refl
-setOf-set [] (suc k) x = refl
-setOf-set (y ∷ r) zero x = refl
-setOf-set (y ∷ r) (suc k) x = ap (λ B. is_some y ∷ B) (setOf-set r k x)
+pub set_of-set : (r : Row) (k x : ℕ) → set_of (set r k (some x)) ≡ set (set_of r) k true
+unfolding set_of is_some
+set_of-set [] zero x = refl
+set_of-set [] (suc k) x = refl
+set_of-set (y ∷ r) zero x = refl
+set_of-set (y ∷ r) (suc k) x = ap (λ B. is_some y ∷ B) (set_of-set r k x)
 
-pub setOf-has : (r : Row) (k : ℕ) → has k (setOf r) ≡ is_some (get_or r k none)
-unfolding setOf is_some has
-setOf-has [] k = refl
-setOf-has (y ∷ r) zero = refl
-setOf-has (y ∷ r) (suc k) = setOf-has r k
+pub set_of-has : (r : Row) (k : ℕ) → has k (set_of r) ≡ is_some (get_or r k none)
+unfolding set_of is_some has
+set_of-has [] k = refl
+set_of-has (y ∷ r) zero = refl
+set_of-has (y ∷ r) (suc k) = set_of-has r k
 
 -- a row has a cell for each message of its set
-pub cells-length : (q : ℕ) (r : Row) → length (cells q r) ≡ ones_in (setOf r)
-unfolding cells setOf is_some ones_in sum bit
+pub cells-length : (q : ℕ) (r : Row) → length (cells q r) ≡ ones_in (set_of r)
+unfolding cells set_of is_some ones_in sum bit
 cells-length q [] = refl
 cells-length q (none ∷ r) = omega (arith, cells-length (suc q) r)
 cells-length q (some x ∷ r) = omega (arith, cells-length (suc q) r)
 
 pub number-sets : (f : List Bool → ℕ) (K : ℕ) (c : List ℕ) {L : List (List Bool)} → length c ≡ K → All (λ A. length A ≡ K) L
-    → sum (λ r. f (setOf r)) (number c L) ≡ sum f L
+    → sum (λ r. f (set_of r)) (number c L) ≡ sum f L
 unfolding number sum
-number-sets f K c e allNil = refl
-number-sets f K c e (allCons {x = A} {xs = L} h a) =
+number-sets f K c e all_nil = refl
+number-sets f K c e (all_cons {x = A} {xs = L} h a) =
     let l : length A ≡ length c = h ∙ sym e in
-    omega (arith, ap f (setOf-next A c l), number-sets f K (after A c) (after-length A c l ∙ e) a)
+    omega (arith, ap f (set_of-next A c l), number-sets f K (after A c) (after-length A c l ∙ e) a)
 
 -- the rows of a set have that set
-pub keep-sets : (A : List Bool) (rs : List Row) → map setOf (ofSet A rs) ≡ replicate (sum (λ r. bit (same A r)) rs) A
-unfolding ofSet keep keepIf sum bit
+pub keep-sets : (A : List Bool) (rs : List Row) → map set_of (of_set A rs) ≡ replicate (sum (λ r. bit (same A r)) rs) A
+unfolding of_set keep keep_if sum bit
 keep-sets A [] = refl
 keep-sets A (r ∷ rs) = go (same A r) refl (keep-sets A rs)
   where
     n : ℕ
     n = sum (λ s. bit (same A s)) rs
 
-    go : (t : Bool) → same A r ≡ t → map setOf (keep (same A) rs) ≡ replicate n A → map setOf (keepIf t r (keep (same A) rs)) ≡ replicate (bit t + n) A
-    go true e ih = rw (add_comm 1 n ∙ add-one n, ih, ← alike-eq A (setOf r) (sym (same_alike A r) ∙ e))
+    go : (t : Bool) → same A r ≡ t → map set_of (keep (same A) rs) ≡ replicate n A → map set_of (keep_if t r (keep (same A) rs)) ≡ replicate (bit t + n) A
+    go true e ih = rw (add_comm 1 n ∙ add-one n, ih, ← alike-eq A (set_of r) (sym (same_alike A r) ∙ e))
     go false e ih = rw (zero-add n) ih
 
 -- a row of a set has k if the set does
 same-has : (A : List Bool) (r : Row) (k : ℕ) → same A r ≡ true → has k A ≡ is_some (get_or r k none)
-same-has A r k e = ap (has k) (alike-eq A (setOf r) (sym (same_alike A r) ∙ e)) ∙ setOf-has r k
+same-has A r k e = ap (has k) (alike-eq A (set_of r) (sym (same_alike A r) ∙ e)) ∙ set_of-has r k
 
 pub same_not : (A : List Bool) (r : Row) (k : ℕ) → has k A ≢ is_some (get_or r k none) → same A r ≡ false
 same_not A r k d = go (same A r) refl
@@ -175,24 +175,24 @@ same-join (a ∷ A) (y ∷ r) (suc k) x e l h = ap (λ t. beq a (is_some y) && t
 
 -- the joined rows of a set, without k again, are the rows of the set without k
 pub join-keep : (A : List Bool) (K k b x : ℕ) {rs : List Row} → has k A ≡ true → k < K → All (Lacks K k b) rs
-    → map (λ r. set r k none) (ofSet A (join k x rs)) ≡ ofSet (set A k false) rs
-unfolding ofSet keep keepIf join
-join-keep A K k b x e h allNil = refl
-join-keep A K k b x e h (allCons {x = r} {xs = rs} l a) =
+    → map (λ r. set r k none) (of_set A (join k x rs)) ≡ of_set (set A k false) rs
+unfolding of_set keep keep_if join
+join-keep A K k b x e h all_nil = refl
+join-keep A K k b x e h (all_cons {x = r} {xs = rs} l a) =
     rw (same-join A r k x e l.lack (omega (arith, l.long))) (go (same (set A k false) r) (join-keep A K k b (suc x) e h a))
   where
     back : set (set r k (some x)) k none ≡ r
     back = set-set r k (some x) none ∙ ap (set r k) (sym l.lack) ∙ set-get_or r k none
 
     go : (t : Bool) → map (λ s. set s k none) (keep (same A) (join k (suc x) rs)) ≡ keep (same (set A k false)) rs
-        → map (λ s. set s k none) (keepIf t (set r k (some x)) (keep (same A) (join k (suc x) rs))) ≡ keepIf t r (keep (same (set A k false)) rs)
+        → map (λ s. set s k none) (keep_if t (set r k (some x)) (keep (same A) (join k (suc x) rs))) ≡ keep_if t r (keep (same (set A k false)) rs)
     go true ih = rw (back, ih)
     go false ih = ih
 
 pub join-have : (K k b x : ℕ) {rs : List Row} → k < K → All (Lacks K k b) rs → All (λ r. is_some (get_or r k none) ≡ true) (join k x rs)
 unfolding join is_some
-join-have K k b x h allNil = allNil
-join-have K k b x h (allCons {x = r} l a) = allCons (ap is_some (get_or-set_same r k (some x) none (omega (arith, l.long)))) (join-have K k b (suc x) h a)
+join-have K k b x h all_nil = all_nil
+join-have K k b x h (all_cons {x = r} l a) = all_cons (ap is_some (get_or-set_same r k (some x) none (omega (arith, l.long)))) (join-have K k b (suc x) h a)
 
 pub has-drop : (A : List Bool) (k : ℕ) → has k (set A k false) ≡ false
 unfolding has
@@ -216,12 +216,12 @@ join-length k x (r ∷ R) = ap suc (join-length k (suc x) R)
 module _ (K k b : ℕ) (known : k < K) where
   pub join-at : (x i : ℕ) {R : List Row} → All (Lacks K k b) R → i < length R → get_or (get_or (join k x R) i []) k none ≡ some (x + i)
   unfolding join
-  join-at x i allNil h = absurd (not-suc-le-zero h)
-  join-at x zero (allCons {x = r} l a) h = get_or-set_same r k (some x) none (omega (arith, l.long)) ∙ ap some (sym (add-zero x))
-  join-at x (suc i) (allCons l a) h = join-at (suc x) i a (omega arith) ∙ ap some (omega arith)
+  join-at x i all_nil h = absurd (not-suc-le-zero h)
+  join-at x zero (all_cons {x = r} l a) h = get_or-set_same r k (some x) none (omega (arith, l.long)) ∙ ap some (sym (add-zero x))
+  join-at x (suc i) (all_cons l a) h = join-at (suc x) i a (omega arith) ∙ ap some (omega arith)
 
   pub join-same : (A : List Bool) (t : Bool) (x : ℕ) {R : List Row} → has k A ≡ true → All (Lacks K k b) R → All (λ r. same (set A k false) r ≡ t) R
       → All (λ r. same A r ≡ t) (join k x R)
   unfolding join
-  join-same A t x e allNil c = allNil
-  join-same A t x e (allCons {x = r} l a) (allCons d c) = allCons (same-join A r k x e l.lack (omega (arith, l.long)) ∙ d) (join-same A t (suc x) e a c)
+  join-same A t x e all_nil c = all_nil
+  join-same A t x e (all_cons {x = r} l a) (all_cons d c) = all_cons (same-join A r k x e l.lack (omega (arith, l.long)) ∙ d) (join-same A t (suc x) e a c)

@@ -8,7 +8,7 @@ use Rattle.std.proofs.Math.Option.{none}
 use Rattle.std.proofs.Math.ListN.{length, replicate}
 use Rattle.lists.specs.Sums.{bit, sum}
 use Rattle.lists.specs.Ranges.{range}
-use Rattle.even_places.specs.Rule.{Row, has, sets, number, join, others, sideSets, bySet}
+use Rattle.even_places.specs.Rule.{Row, has, sets, number, join, others, side_sets, by_set}
 
 -- how many of the sets have message p
 unfoldable pub with : ℕ → List (List Bool) → ℕ
@@ -23,33 +23,33 @@ used N f b n = N * sum f (range 0 b) + n * f b
 
 module _ (N K k : ℕ) where
   -- server n's side rows of block b, in the order made
-  unfoldable pub sideRows : ℕ → ℕ → List Row
-  unfolding sideSets used with number range
-  sideRows b n = number (map (λ p. used N (λ j. with p (sideSets N K k j)) b n) (range 0 K)) (sideSets N K k b)
+  unfoldable pub side_rows : ℕ → ℕ → List Row
+  unfolding side_sets used with number range
+  side_rows b n = number (map (λ p. used N (λ j. with p (side_sets N K k j)) b n) (range 0 K)) (side_sets N K k b)
 
   -- the rows that server n's wanted rows of block b are joined from: in block 0 a single row with no message, then the side rows of
   -- the block before at the other servers
   unfoldable pub sources : ℕ → ℕ → List Row
-  unfolding flat_map others sideRows
+  unfolding flat_map others side_rows
   sources zero n = replicate K none ∷ []
-  sources (suc b) n = flat_map (sideRows b) (others N n)
+  sources (suc b) n = flat_map (side_rows b) (others N n)
 
   -- how many wanted rows each server has in block b
   unfoldable pub joins : ℕ → ℕ
-  unfolding sideSets
+  unfolding side_sets
   joins zero = 1
-  joins (suc b) = (N - 1) * length (sideSets N K k b)
+  joins (suc b) = (N - 1) * length (side_sets N K k b)
 
-  unfoldable pub wantedRows : ℕ → ℕ → List Row
+  unfoldable pub wanted_rows : ℕ → ℕ → List Row
   unfolding join used joins sources
-  wantedRows b n = join k (used N joins b n) (sources b n)
+  wanted_rows b n = join k (used N joins b n) (sources b n)
 
   -- server n's rows of block b, in the order made: within one set, which is all that the order of a query goes by
   unfoldable pub block : ℕ → ℕ → List Row
-  unfolding sideRows wantedRows
-  block b n = sideRows b n ++ wantedRows b n
+  unfolding side_rows wanted_rows
+  block b n = side_rows b n ++ wanted_rows b n
 
   -- server n's query as rows
-  unfoldable pub countedRows : ℕ → List Row
-  unfolding flat_map bySet sets block range
-  countedRows n = flat_map (λ b. bySet (sets K (suc b)) (block b n)) (range 0 K)
+  unfoldable pub counted_rows : ℕ → List Row
+  unfolding flat_map by_set sets block range
+  counted_rows n = flat_map (λ b. by_set (sets K (suc b)) (block b n)) (range 0 K)

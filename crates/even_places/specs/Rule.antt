@@ -100,32 +100,32 @@ others N n = keep (λ m. not (eqb m n)) (range 0 N)
 module _ (N K k : ℕ) where
   -- The sets of the side rows of block b, in the order made: each set without k, in lexicographic order, (N - 1)^b times. In the first
   -- block (01: block 1): each message but k alone, once
-  unfoldable pub sideSets : ℕ → List (List Bool)
+  unfoldable pub side_sets : ℕ → List (List Bool)
   unfolding has sets keep flat_map
-  sideSets b = flat_map (replicate ((N - 1) ^ b)) (keep (λ A. not (has k A)) (sets K (suc b)))
+  side_sets b = flat_map (replicate ((N - 1) ^ b)) (keep (λ A. not (has k A)) (sets K (suc b)))
 
   -- Server n's wanted rows of a block, where x is the next place of k and `before` has what each server made in the block before.
   -- In the first block (01: block 1): k alone, once. Later (01: block b above 1): for each other server, ascending, for each of its rows
   -- of the block before without k, in the order made, that row joined with the next place of k
-  unfoldable pub wantedOf : ℕ → List TurnRows → ℕ → ℕ → List Row
+  unfoldable pub wanted_of : ℕ → List TurnRows → ℕ → ℕ → List Row
   unfolding others join flat_map
-  wantedOf zero before n x = set (replicate K none) k (some x) ∷ []
-  wantedOf (suc b) before n x = join k x (flat_map (λ m. (get_or before m idle).side) (others N n))
+  wanted_of zero before n x = set (replicate K none) k (some x) ∷ []
+  wanted_of (suc b) before n x = join k x (flat_map (λ m. (get_or before m idle).side) (others N n))
 
   -- Server n's turn in block b, where c has the next place of each message: side rows, each taking the next place of every message in
   -- its set, then wanted rows. So in the first block each message gives its next place, one row each
   unfoldable pub turn : ℕ → List TurnRows → ℕ → List ℕ → TurnRows
-  unfolding sideSets wantedOf number afters
+  unfolding side_sets wanted_of number afters
   turn b before n c = record {
-    side = number c (sideSets b);
-    wanted = wantedOf b before n (get_or (afters (sideSets b) c) k 0);
+    side = number c (side_sets b);
+    wanted = wanted_of b before n (get_or (afters (side_sets b) c) k 0);
   }
 
   -- the next places after that turn: each wanted row took one of k
   unfoldable pub turned : ℕ → List TurnRows → ℕ → List ℕ → List ℕ
-  unfolding turn sideSets afters
+  unfolding turn side_sets afters
   turned b before n c =
-      set (afters (sideSets b) c) k (get_or (afters (sideSets b) c) k 0 + length (turn b before n c).wanted)
+      set (afters (side_sets b) c) k (get_or (afters (side_sets b) c) k 0 + length (turn b before n c).wanted)
 
   -- the turns of `count` servers in block b, from server n on; and the next places after them
   unfoldable pub turns : ℕ → List TurnRows → ℕ → ℕ → List ℕ → List TurnRows
@@ -133,17 +133,17 @@ module _ (N K k : ℕ) where
   turns b before n zero c = []
   turns b before n (suc count) c = turn b before n c ∷ turns b before (suc n) count (turned b before n c)
 
-  unfoldable pub turnsDone : ℕ → List TurnRows → ℕ → ℕ → List ℕ → List ℕ
+  unfoldable pub turns_done : ℕ → List TurnRows → ℕ → ℕ → List ℕ → List ℕ
   unfolding turned
-  turnsDone b before n zero c = c
-  turnsDone b before n (suc count) c = turnsDone b before (suc n) count (turned b before n c)
+  turns_done b before n zero c = c
+  turns_done b before n (suc count) c = turns_done b before (suc n) count (turned b before n c)
 
   -- `count` blocks, from block b on
   unfoldable pub blocks : ℕ → ℕ → List TurnRows → List ℕ → List (List TurnRows)
-  unfolding turns turnsDone
+  unfolding turns turns_done
   blocks b zero before c = []
   blocks b (suc count) before c =
-      turns b before 0 N c ∷ blocks (suc b) count (turns b before 0 N c) (turnsDone b before 0 N c)
+      turns b before 0 N c ∷ blocks (suc b) count (turns b before 0 N c) (turns_done b before 0 N c)
 
   -- all blocks, from place 0 of every message
   unfoldable pub process : List (List TurnRows)
@@ -165,13 +165,13 @@ same (a ∷ A) [] = false
 same (a ∷ A) (x ∷ r) = beq a (is_some x) && same A r
 
 -- the rows whose set is A, in order; and the rows by set, in the order of the sets
-unfoldable pub ofSet : List Bool → List Row → List Row
+unfoldable pub of_set : List Bool → List Row → List Row
 unfolding keep same
-ofSet A rs = keep (same A) rs
+of_set A rs = keep (same A) rs
 
-unfoldable pub bySet : List (List Bool) → List Row → List Row
-unfolding flat_map ofSet
-bySet L rs = flat_map (λ A. ofSet A rs) L
+unfoldable pub by_set : List (List Bool) → List Row → List Row
+unfolding flat_map of_set
+by_set L rs = flat_map (λ A. of_set A rs) L
 
 -- a row's places with their messages, ascending, where its first entry is message p's
 unfoldable pub cells : ℕ → Row → List (ℕ × ℕ)
@@ -181,26 +181,26 @@ cells p (some x ∷ r) = (p, x) ∷ cells (suc p) r
 
 module _ (N K k : ℕ) where
   -- what server n makes in block b
-  unfoldable pub madeBy : ℕ → ℕ → TurnRows
+  unfoldable pub made_by : ℕ → ℕ → TurnRows
   unfolding process
-  madeBy b n = get_or (get_or (process N K k) b []) n idle
+  made_by b n = get_or (get_or (process N K k) b []) n idle
 
   -- server n's query as rows
   unfoldable pub rows : ℕ → List Row
-  unfolding flat_map bySet sets madeBy range
-  rows n = flat_map (λ b. bySet (sets K (suc b)) ((madeBy b n).side ++ (madeBy b n).wanted)) (range 0 K)
+  unfolding flat_map by_set sets made_by range
+  rows n = flat_map (λ b. by_set (sets K (suc b)) ((made_by b n).side ++ (made_by b n).wanted)) (range 0 K)
 
   -- server n's query as cells: at each position a message and its place
-  unfoldable pub queryCells : ℕ → List (ℕ × ℕ)
+  unfoldable pub query_cells : ℕ → List (ℕ × ℕ)
   unfolding flat_map cells rows
-  queryCells n = flat_map (cells 0) (rows n)
+  query_cells n = flat_map (cells 0) (rows n)
 
 -- ---- What the server knows from N and K
 
 -- all sets but the empty one, in the order of a query
-unfoldable pub allSets : ℕ → List (List Bool)
+unfoldable pub all_sets : ℕ → List (List Bool)
 unfolding flat_map sets range
-allSets K = flat_map (λ b. sets K (suc b)) (range 0 K)
+all_sets K = flat_map (λ b. sets K (suc b)) (range 0 K)
 
 -- the sets of a query's rows
 unfoldable pub layout : ℕ → ℕ → List (List Bool)
@@ -219,11 +219,11 @@ alike (a ∷ A) [] = false
 alike (a ∷ A) (b ∷ B) = beq a b && alike A B
 
 -- the number of the first row of set A among rows with these sets
-unfoldable pub firstRow : List Bool → List (List Bool) → ℕ
-firstRow A [] = 0
-firstRow A (B ∷ sets) = cond (alike A B) 0 (suc (firstRow A sets))
+unfoldable pub first_row : List Bool → List (List Bool) → ℕ
+first_row A [] = 0
+first_row A (B ∷ sets) = cond (alike A B) 0 (suc (first_row A sets))
 
 -- how many rows a query has; `row-count-is` shows document 01's formula
-unfoldable pub rowCount : ℕ → ℕ → ℕ
+unfoldable pub row_count : ℕ → ℕ → ℕ
 unfolding sum sets range
-rowCount N K = sum (λ b. length (sets K (suc b)) * (N - 1) ^ b) (range 0 K)
+row_count N K = sum (λ b. length (sets K (suc b)) * (N - 1) ^ b) (range 0 K)

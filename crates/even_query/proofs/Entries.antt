@@ -10,17 +10,17 @@ use lib.Seq.{drop-cons}
 use Rattle.even_query.specs.Query.{entries}
 
 -- those from i on
-unfoldable pub entriesFrom : ℕ → List ℕ → List ℕ → List ℕ → ℕ → List ℕ
-entriesFrom symbols key messages places i = entries symbols key (drop i messages) (drop i places)
+unfoldable pub entries_from : ℕ → List ℕ → List ℕ → List ℕ → ℕ → List ℕ
+entries_from symbols key messages places i = entries symbols key (drop i messages) (drop i places)
 
 module _ (symbols : ℕ) where
-  pub entries-start : (key messages places : List ℕ) → entriesFrom symbols key messages places 0 ≡ entries symbols key messages places
-  unfolding entriesFrom
+  pub entries-start : (key messages places : List ℕ) → entries_from symbols key messages places 0 ≡ entries symbols key messages places
+  unfolding entries_from
   entries-start key messages places = refl
 
   pub entries-more : (i : ℕ) (key messages places : List ℕ) → length messages ≡ length places → i < length places
-      → entriesFrom symbols key messages places i ≡ get_or key (get_or messages i 0 * symbols + get_or places i 0) 0 ∷ entriesFrom symbols key messages places (i + 1)
-  unfolding entriesFrom entries zip_with
+      → entries_from symbols key messages places i ≡ get_or key (get_or messages i 0 * symbols + get_or places i 0) 0 ∷ entries_from symbols key messages places (i + 1)
+  unfolding entries_from entries zip_with
   entries-more i key messages places e h =
       let inside : i < length messages = omega arith in
       rw (add-one i, drop-cons messages i 0 inside, drop-cons places i 0 h)
@@ -32,8 +32,8 @@ module _ (symbols : ℕ) where
   entries-length key (p ∷ messages) [] e = absurd (omega arith)
   entries-length key (p ∷ messages) (x ∷ places) e = ap suc (entries-length key messages places (omega arith))
 
-  pub entries-done : (i : ℕ) (key messages places : List ℕ) → length places ≤ i → entriesFrom symbols key messages places i ≡ []
-  unfolding entriesFrom entries zip_with
+  pub entries-done : (i : ℕ) (key messages places : List ℕ) → length places ≤ i → entries_from symbols key messages places i ≡ []
+  unfolding entries_from entries zip_with
   entries-done i key messages places h = rw (drop_of_length-le places h) (none (drop i messages))
     where
       none : (l : List ℕ) → entries symbols key l [] ≡ []

@@ -18,27 +18,27 @@ use Rattle.lists.proofs.Mapped.{mapped-length, mapped_at}
 use Rattle.even_places.specs.Rule.{has, ones_in}
 use Rattle.even_places.proofs.Bytes.{byte-has}
 use Rattle.even_places.proofs.AllSets.{ones-most}
-use Rattle.even_sets.specs.Sets.{setIn}
-use Rattle.even_sets.proofs.SetBytes.{setIn-length}
-use Rattle.even_ranks.specs.Counts.{Stands, takers, taken, takenTable}
-use Rattle.even_ranks.specs.Walk.{placeAmong, plain, joined, isJoined, origin_of}
+use Rattle.even_sets.specs.Sets.{set_in}
+use Rattle.even_sets.proofs.SetBytes.{set_in-length}
+use Rattle.even_ranks.specs.Counts.{Stands, takers, taken, taken_table}
+use Rattle.even_ranks.specs.Walk.{place_among, plain, joined, is_joined, origin_of}
 use Rattle.even_ranks.proofs.Steps.{stands-count}
 use Rattle.even_query.specs.Query.{Tables, OriginWithin}
 
-table_at : (N k b p : ℕ) (totals : List ℕ) → b < 8 → p < 8 → get_or (takenTable N k totals) (b * 8 + p) 0 ≡ taken N k totals b p
-unfolding takenTable
+table_at : (N k b p : ℕ) (totals : List ℕ) → b < 8 → p < 8 → get_or (taken_table N k totals) (b * 8 + p) 0 ≡ taken N k totals b p
+unfolding taken_table
 table_at N k b p totals hb hp =
     mapped_at (λ j. taken N k totals (j / 8) (j % 8)) 0 64 (b * 8 + p) (omega arith)
     ∙ rw (digits_div b {m = 8} hp, digits_mod b {m = 8} hp)
 
-pub table-length : (N k : ℕ) (totals : List ℕ) → length (takenTable N k totals) ≡ 64
-unfolding takenTable
+pub table-length : (N k : ℕ) (totals : List ℕ) → length (taken_table N k totals) ≡ 64
+unfolding taken_table
 table-length N k totals = mapped-length (λ j. taken N k totals (j / 8) (j % 8)) 0 64
 
 -- the place that the code computes from the tables
 pub place_read : (N k b p rows turn rank number : ℕ) (totals table : List ℕ) → Tables N k totals table → b < 8 → p < 8
-    → N * get_or table (b * 8 + p) 0 + rows * (turn * takers k totals b p + rank) + number ≡ placeAmong N k totals b p rows turn rank number
-unfolding placeAmong
+    → N * get_or table (b * 8 + p) 0 + rows * (turn * takers k totals b p + rank) + number ≡ place_among N k totals b p rows turn rank number
+unfolding place_among
 place_read N k b p rows turn rank number totals table t hb hp =
     ap (λ s. N * s + rows * (turn * takers k totals b p + rank) + number) (ap (λ l. get_or l (b * 8 + p) 0) t.filled ∙ table_at N k b p totals hb hp)
 
@@ -83,28 +83,28 @@ pub joined-two : (t : Bool) (m : ℕ) → t && ltb 1 m ≡ true → 2 ≤ m
 joined-two t m e = ltb-true 1 m (both_true t (ltb 1 m) e).1
 
 module _ (K k byte : ℕ) (stands : Stands K byte) where
-  joined-byte : eqb (byte / 2 ^ k % 2) 1 && ltb 1 (count byte) ≡ isJoined k (setIn K byte)
-  unfolding isJoined bit
+  joined-byte : eqb (byte / 2 ^ k % 2) 1 && ltb 1 (count byte) ≡ is_joined k (set_in K byte)
+  unfolding is_joined bit
   joined-byte =
       ap₂ (λ (t : Bool) (m : ℕ). t && ltb 1 m)
-      (ap (λ (x : ℕ). eqb (x / 2 ^ k % 2) 1) (sym stands.encoded) ∙ ap (λ (x : ℕ). eqb x 1) (byte-has (setIn K byte) k) ∙ bit_test (has k (setIn K byte)))
+      (ap (λ (x : ℕ). eqb (x / 2 ^ k % 2) 1) (sym stands.encoded) ∙ ap (λ (x : ℕ). eqb x 1) (byte-has (set_in K byte) k) ∙ bit_test (has k (set_in K byte)))
       (stands-count K byte stands)
 
   pub origin-byte : (N server i : ℕ)
       → cond (eqb (byte / 2 ^ k % 2) 1 && ltb 1 (count byte)) (joined N server (count byte) i) (plain N server (count byte) i)
-      ≡ origin_of N k server (setIn K byte) i
+      ≡ origin_of N k server (set_in K byte) i
   unfolding origin_of
   origin-byte N server i = rw (joined-byte, stands-count K byte stands)
 
-  pub origin-within : (N server i : ℕ) → 2 ≤ N → K ≤ 8 → OriginWithin (origin_of N k server (setIn K byte) i)
+  pub origin-within : (N server i : ℕ) → 2 ≤ N → K ≤ 8 → OriginWithin (origin_of N k server (set_in K byte) i)
   unfolding origin_of plain joined
-  origin-within N server i wide few = go (isJoined k (setIn K byte))
+  origin-within N server i wide few = go (is_joined k (set_in K byte))
     where
       A : List Bool
-      A = setIn K byte
+      A = set_in K byte
 
       most : ones_in A ≤ 8
-      most = omega (arith, ones-most A, setIn-length K byte)
+      most = omega (arith, ones-most A, set_in-length K byte)
 
       go : (t : Bool) → OriginWithin (cond t (joined N server (ones_in A) i) (plain N server (ones_in A) i))
       go true =

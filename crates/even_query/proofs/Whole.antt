@@ -8,13 +8,13 @@ use lib.Arith.{digits_lt}
 use lib.ListN.{length, get_or, length-map, get_or-map}
 use Rattle.lists.specs.Below.{Below}
 use Rattle.lists.proofs.Cuts.{cut_at}
-use Rattle.even_places.specs.Rule.{queryCells, allSets, positions}
+use Rattle.even_places.specs.Rule.{query_cells, all_sets, positions}
 use Rattle.even_places.proofs.Flat.{inside, query-length}
 use Rattle.even_places.proofs.Positions.{same-members, positions-length}
-use Rattle.even_scheme.specs.Even.{permutation, entry_at, evenQuery}
+use Rattle.even_scheme.specs.Even.{permutation, entry_at, even_query}
 use Rattle.even_layout.proofs.Tables.{positions-room}
-use Rattle.even_ranks.specs.Counts.{noCounts, totalsOf}
-use Rattle.even_ranks.specs.Walk.{setsPlaces, walked}
+use Rattle.even_ranks.specs.Counts.{no_counts, totals_of}
+use Rattle.even_ranks.specs.Walk.{sets_places, walked}
 use Rattle.even_ranks.proofs.Walk.{walked-is, walked-below}
 use Rattle.even_query.specs.Query.{Asks, Keyed, entries}
 
@@ -31,43 +31,43 @@ module _ (N K k server : ℕ) (asks : Asks N K k server) where
   wide : 1 < N
   wide = asks.bounds.servers-low
 
-  pub places-are : (totals : List ℕ) → totals ≡ totalsOf K k
-      → setsPlaces N k server totals noCounts (allSets K) ≡ map (λ cell. cell.1) (queryCells N K k server)
+  pub places-are : (totals : List ℕ) → totals ≡ totals_of K k
+      → sets_places N k server totals no_counts (all_sets K) ≡ map (λ cell. cell.1) (query_cells N K k server)
   unfolding walked
   places-are totals e = rw e (walked-is N K k server wide asks.message asks.bounds.messages-high asks.server-low)
 
-  pub places-below : Below 256 (map (λ cell. cell.1) (queryCells N K k server))
+  pub places-below : Below 256 (map (λ cell. cell.1) (query_cells N K k server))
   places-below =
       rw (← walked-is N K k server wide asks.message asks.bounds.messages-high asks.server-low)
       (λ i h. omega (arith, walked-below N K k server wide asks.message asks.bounds.messages-high asks.server-low i h, asks.bounds.symbols-high))
 
-  pub places-length : length (map (λ cell. cell.1) (queryCells N K k server)) ≡ K * N ^ (K - 1)
-  places-length = length-map (queryCells N K k server) (λ cell. cell.1) ∙ query-length N K k wide asks.message server asks.server-low
+  pub places-length : length (map (λ cell. cell.1) (query_cells N K k server)) ≡ K * N ^ (K - 1)
+  places-length = length-map (query_cells N K k server) (λ cell. cell.1) ∙ query-length N K k wide asks.message server asks.server-low
 
   -- a query has at most 1,024 bytes
   pub query-room : K * N ^ (K - 1) ≤ 1024
   query-room = omega (arith, positions-length N K wide asks.bounds.messages-low, positions-room N K asks.bounds)
 
-  messages-are : positions N K ≡ map (λ cell. cell.0) (queryCells N K k server)
+  messages-are : positions N K ≡ map (λ cell. cell.0) (query_cells N K k server)
   unfolding positions
   messages-are = sym (same-members N K k server wide asks.message asks.server-low)
 
   pub messages-length : length (positions N K) ≡ K * N ^ (K - 1)
   messages-length = positions-length N K wide asks.bounds.messages-low
 
-  pub keyed : (key : List ℕ) → length key ≡ K * N ^ K → Keyed (N ^ K) key (positions N K) (map (λ cell. cell.1) (queryCells N K k server))
+  pub keyed : (key : List ℕ) → length key ≡ K * N ^ K → Keyed (N ^ K) key (positions N K) (map (λ cell. cell.1) (query_cells N K k server))
   keyed key e = record {
     few = asks.bounds.symbols-high;
     even = messages-length ∙ sym places-length;
     inside = λ i h.
-        let cells = queryCells N K k server in
+        let cells = query_cells N K k server in
         let at : i < length cells = omega (arith, length-map cells (λ cell. cell.1)) in
         let in_bounds = inside N K k wide asks.message server i asks.server-low at in
         rw (messages-are, get_or-map (λ cell. cell.0) cells i (0, 0), get_or-map (λ cell. cell.1) cells i (0, 0), e)
         (digits_lt in_bounds.0 in_bounds.1);
   }
 
-  pub entries-are : (key : List ℕ) → entries (N ^ K) key (positions N K) (map (λ cell. cell.1) (queryCells N K k server)) ≡ evenQuery N K k server key
-  unfolding evenQuery
+  pub entries-are : (key : List ℕ) → entries (N ^ K) key (positions N K) (map (λ cell. cell.1) (query_cells N K k server)) ≡ even_query N K k server key
+  unfolding even_query
   entries-are key =
-      rw messages-are (entries-cells N K key (queryCells N K k server) (λ i h. (inside N K k wide asks.message server i asks.server-low h).1))
+      rw messages-are (entries-cells N K key (query_cells N K k server) (λ i h. (inside N K k wide asks.message server i asks.server-low h).1))

@@ -3,7 +3,7 @@
 use Rattle.std.specs.Prelude.{◌≡◌, ℕ, ◌+◌, ◌-◌, ◌*◌, ◌≤◌, ◌<◌, length, get_or}
 use mathlib.Core.List.{List, zip_with}
 use Rattle.even_sets.specs.Sets.{LayoutBounds}
-use Rattle.even_ranks.specs.Counts.{takenTable}
+use Rattle.even_ranks.specs.Counts.{taken_table}
 use Rattle.even_ranks.specs.declared.Origin.{Origin}
 
 -- a query for a message that is there, to a server that is there
@@ -16,7 +16,7 @@ pub record Asks (N K k server : ℕ) : Type 0 where
 -- the tables that places follow from
 pub record Tables (N k : ℕ) (totals taken : List ℕ) : Type 0 where
   pub long : length totals ≡ 128
-  pub filled : taken ≡ takenTable N k totals
+  pub filled : taken ≡ taken_table N k totals
 
 -- an origin whose blocks the tables have
 pub record OriginWithin (o : Origin) : Type 0 where

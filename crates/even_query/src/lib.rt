@@ -8,11 +8,11 @@ ghost use Rattle.std.specs.Prelude.{◌≡◌, map, ◌+◌, ◌-◌, ◌*◌, �
 ghost use Rattle.lists.specs.Below.{Below};
 ghost use Rattle.lists.specs.Padded.{padded};
 ghost use Rattle.lists.specs.Parts.{put};
-ghost use Rattle.even_places.specs.Rule.{byte_of, members, queryCells, allSets};
-ghost use Rattle.even_scheme.specs.Even.{evenQuery};
-ghost use Rattle.even_sets.specs.Sets.{setIn};
-ghost use Rattle.even_ranks.specs.Counts.{Stands, noCounts};
-ghost use Rattle.even_ranks.specs.Walk.{placeAmong, originPlace, setPlaces, setsPlaces};
+ghost use Rattle.even_places.specs.Rule.{byte_of, members, query_cells, all_sets};
+ghost use Rattle.even_scheme.specs.Even.{even_query};
+ghost use Rattle.even_sets.specs.Sets.{set_in};
+ghost use Rattle.even_ranks.specs.Counts.{Stands, no_counts};
+ghost use Rattle.even_ranks.specs.Walk.{place_among, origin_place, set_places, sets_places};
 ghost use Rattle.even_query.specs.Query.{Asks, Tables, OriginWithin, Keyed, entries};
 
 // The place of message p in a row of one block, by whose turn it is, its set's rank and its number in the set.
@@ -29,8 +29,8 @@ fn place_in(
     number: usize,
 ) -> usize
     requires { Tables n wanted totals.now taken.now × (block < 8) × (p < 8) × (1 ≤ rows)
-        × (placeAmong n wanted totals.now block p rows turn rank number < 256) }
-    ensures { result ≡ placeAmong n wanted totals.now block p rows turn rank number }
+        × (place_among n wanted totals.now block p rows turn rank number < 256) }
+    ensures { result ≡ place_among n wanted totals.now block p rows turn rank number }
 {
     n * taken[block * 8 + p]
         + rows * (turn * even_ranks::takers(wanted, totals, block, p) + rank)
@@ -48,8 +48,8 @@ fn place(
     p: usize,
 ) -> usize
     requires { Tables n wanted totals.now taken.now × OriginWithin o × (p < 8) × (p < length ranks.now)
-        × (originPlace n wanted totals.now ranks.now o p < 256) }
-    ensures { result ≡ originPlace n wanted totals.now ranks.now o p }
+        × (origin_place n wanted totals.now ranks.now o p < 256) }
+    ensures { result ≡ origin_place n wanted totals.now ranks.now o p }
 {
     if p == wanted {
         return place_in(
@@ -75,10 +75,10 @@ fn write_row(
     at: usize,
 ) -> usize
     requires { Tables n wanted totals.now taken.now × OriginWithin o × (k ≤ 8) × (length ranks.now ≡ k)
-        × Below 256 (map (originPlace n wanted totals.now ranks.now o) (members 0 (setIn k set)))
-        × (at + length (members 0 (setIn k set)) ≤ length out.old) }
-    ensures { (result ≡ at + length (members 0 (setIn k set)))
-        × (out.new ≡ put at (map (originPlace n wanted totals.now ranks.now o) (members 0 (setIn k set))) out.old) }
+        × Below 256 (map (origin_place n wanted totals.now ranks.now o) (members 0 (set_in k set)))
+        × (at + length (members 0 (set_in k set)) ≤ length out.old) }
+    ensures { (result ≡ at + length (members 0 (set_in k set)))
+        × (out.new ≡ put at (map (origin_place n wanted totals.now ranks.now o) (members 0 (set_in k set))) out.old) }
 {
     let mut rest = set;
     let mut end = at;
@@ -108,10 +108,10 @@ fn write_set(
     at: usize,
 ) -> usize
     requires { Asks n k wanted server × Tables n wanted totals.now taken.now × Stands k set × (length ranks.now ≡ k)
-        × Below 256 (setPlaces n wanted server totals.now ranks.now (setIn k set))
-        × (at + length (setPlaces n wanted server totals.now ranks.now (setIn k set)) ≤ length out.old) }
-    ensures { (result ≡ at + length (setPlaces n wanted server totals.now ranks.now (setIn k set)))
-        × (out.new ≡ put at (setPlaces n wanted server totals.now ranks.now (setIn k set)) out.old) }
+        × Below 256 (set_places n wanted server totals.now ranks.now (set_in k set))
+        × (at + length (set_places n wanted server totals.now ranks.now (set_in k set)) ≤ length out.old) }
+    ensures { (result ≡ at + length (set_places n wanted server totals.now ranks.now (set_in k set)))
+        × (out.new ≡ put at (set_places n wanted server totals.now ranks.now (set_in k set)) out.old) }
 {
     let ones = u8::count_ones(set) as usize;
     let joins = origins::is_joined(wanted, set);
@@ -137,10 +137,10 @@ fn write_sets(
     sets: &[u8],
     out: &mut [u8],
 )
-    requires { Asks n k wanted server × Tables n wanted totals.now taken.now × (sets.now ≡ map byte_of (allSets k))
-        × Below 256 (setsPlaces n wanted server totals.now noCounts (allSets k))
-        × (length (setsPlaces n wanted server totals.now noCounts (allSets k)) ≤ length out.old) }
-    ensures { out.new ≡ put 0 (setsPlaces n wanted server totals.now noCounts (allSets k)) out.old }
+    requires { Asks n k wanted server × Tables n wanted totals.now taken.now × (sets.now ≡ map byte_of (all_sets k))
+        × Below 256 (sets_places n wanted server totals.now no_counts (all_sets k))
+        × (length (sets_places n wanted server totals.now no_counts (all_sets k)) ≤ length out.old) }
+    ensures { out.new ≡ put 0 (sets_places n wanted server totals.now no_counts (all_sets k)) out.old }
 {
     let mut counts = [0usize; 128];
     let mut end = 0;
@@ -168,7 +168,7 @@ fn write_sets(
 // The places of a server's query, in order.
 pub fn places(n: usize, k: usize, wanted: usize, server: usize) -> [u8; 1024]
     requires { Asks n k wanted server }
-    ensures { result ≡ padded 1024 (map (λ cell. cell.1) (queryCells n k wanted server)) }
+    ensures { result ≡ padded 1024 (map (λ cell. cell.1) (query_cells n k wanted server)) }
 {
     let table = even_sets::ordered_sets(k);
     let count = parameters::power(2, k) - 1;
@@ -197,7 +197,7 @@ fn look_up(symbols: usize, key: &[u8], messages: &[u8], places: &[u8], out: &mut
 // Writes a server's query for the wanted message with a key.
 pub fn query(n: usize, k: usize, wanted: usize, server: usize, key: &[u8], out: &mut [u8])
     requires { Asks n k wanted server × (length key.now ≡ k * n ^ k) × (k * n ^ (k - 1) ≤ length out.old) }
-    ensures { out.new ≡ put 0 (evenQuery n k wanted server key.now) out.old }
+    ensures { out.new ≡ put 0 (even_query n k wanted server key.now) out.old }
 {
     let messages = even_layout::positions(n, k);
     let places = places(n, k, wanted, server);

@@ -11,18 +11,18 @@ use lib.Dec.{eqb}
 use lib.ListN.{length, set, length-set, length-map}
 use lib.Seq.{get_or-set_other}
 use borrow.Author.Tests.{eq-eqb}
-use Rattle.lists.specs.Sums.{bit, keep, keepIf, sum}
+use Rattle.lists.specs.Sums.{bit, keep, keep_if, sum}
 use Rattle.lists.proofs.Sums.{sum-append, sum-map, sum-ext, sum-all, sum_one, sum-keep, sum-keep-most}
 use Rattle.lists.proofs.Each.{All-imp, All-keep, All-every}
 use Rattle.lists.proofs.Keep.{keep-and, keep_append}
 use Rattle.lists.proofs.Mapped.{map-append}
-use Rattle.even_places.specs.Rule.{has, ones_in, sets, sideSets, allSets, alike}
+use Rattle.even_places.specs.Rule.{has, ones_in, sets, side_sets, all_sets, alike}
 use Rattle.even_places.specs.Counting.{with, joins}
 use Rattle.even_places.proofs.SetLaws.{alike-one, ones-drop}
-use Rattle.even_places.proofs.BlockRows.{sets-zero, has-none, sideSets-sum}
+use Rattle.even_places.proofs.BlockRows.{sets-zero, has-none, side_sets-sum}
 use Rattle.even_places.proofs.RepeatedSets.{before}
 use Rattle.even_places.proofs.Ranked.{taken_out, of-block, before-seam}
-use Rattle.even_ranks.proofs.Counters.{ofKind}
+use Rattle.even_ranks.proofs.Counters.{of_kind}
 
 beq-false : (t : Bool) → beq false t ≡ not t
 beq-false true = refl
@@ -37,29 +37,29 @@ beq-self true = refl
 beq-self false = refl
 
 module _ (K k : ℕ) (wanted : k < K) where
-  of-kind : (t : Bool) (b : ℕ) → b < K → keep (ofKind k t b) (allSets K) ≡ keep (λ A. beq t (has k A)) (sets K (suc b))
-  unfolding ofKind
+  of-kind : (t : Bool) (b : ℕ) → b < K → keep (of_kind k t b) (all_sets K) ≡ keep (λ A. beq t (has k A)) (sets K (suc b))
+  unfolding of_kind
   of-kind t b h =
-      keep-and (λ A. beq t (has k A)) (λ A. eqb (suc b) (ones_in A)) (allSets K) ∙ ap (keep (λ A. beq t (has k A))) (of-block K b h)
+      keep-and (λ A. beq t (has k A)) (λ A. eqb (suc b) (ones_in A)) (all_sets K) ∙ ap (keep (λ A. beq t (has k A))) (of-block K b h)
 
   -- the sets of block b without k, and with it
-  without : (b : ℕ) → b < K → keep (ofKind k false b) (allSets K) ≡ keep (λ A. not (has k A)) (sets K (suc b))
+  without : (b : ℕ) → b < K → keep (of_kind k false b) (all_sets K) ≡ keep (λ A. not (has k A)) (sets K (suc b))
   without b h = of-kind false b h ∙ ap (λ t. keep t (sets K (suc b))) (fun_ext (λ A. beq-false (has k A)))
 
-  having : (b : ℕ) → b < K → keep (ofKind k true b) (allSets K) ≡ keep (has k) (sets K (suc b))
+  having : (b : ℕ) → b < K → keep (of_kind k true b) (all_sets K) ≡ keep (has k) (sets K (suc b))
   having b h = of-kind true b h ∙ ap (λ t. keep t (sets K (suc b))) (fun_ext (λ A. beq-true (has k A)))
 
   -- the sets of block b with k, without it
-  reduced : (b : ℕ) → b < K → map (λ A. set A k false) (keep (ofKind k true b) (allSets K)) ≡ keep (λ A. not (has k A)) (sets K b)
+  reduced : (b : ℕ) → b < K → map (λ A. set A k false) (keep (of_kind k true b) (all_sets K)) ≡ keep (λ A. not (has k A)) (sets K b)
   reduced b h = ap (map (λ A. set A k false)) (having b h) ∙ taken_out K k b wanted
 
   -- each of them has k
-  pub with-wanted : (b : ℕ) (D : List (List Bool)) → with k (keep (ofKind k true b) D) ≡ length (keep (ofKind k true b) D)
-  unfolding with ofKind bit
+  pub with-wanted : (b : ℕ) (D : List (List Bool)) → with k (keep (of_kind k true b) D) ≡ length (keep (of_kind k true b) D)
+  unfolding with of_kind bit
   with-wanted b D =
       sum-all (λ A. bit (has k A)) (λ A. 1)
-      (All-imp (λ A h. ap bit (first (has k A) (eqb (suc b) (ones_in A)) h.1)) (All-keep (ofKind k true b) (All-every {P = λ A. Unit} (λ A. tt) D)))
-      ∙ sum_one (keep (ofKind k true b) D)
+      (All-imp (λ A h. ap bit (first (has k A) (eqb (suc b) (ones_in A)) h.1)) (All-keep (of_kind k true b) (All-every {P = λ A. Unit} (λ A. tt) D)))
+      ∙ sum_one (keep (of_kind k true b) D)
     where
       first : (t u : Bool) → beq true t && u ≡ true → t ≡ true
       first true u e = refl
@@ -72,33 +72,33 @@ module _ (K k : ℕ) (wanted : k < K) where
       ∙ sum-ext (λ A. bit (has p (set A k false))) (λ A. bit (has p A)) (λ A. ap bit (get_or-set_other A k p false false d)) X
 
   -- so many sets lack k as have it in the block after
-  counted-out : (b : ℕ) → b < K → length (keep (λ A. not (has k A)) (sets K b)) ≡ with k (keep (ofKind k true b) (allSets K))
+  counted-out : (b : ℕ) → b < K → length (keep (λ A. not (has k A)) (sets K b)) ≡ with k (keep (of_kind k true b) (all_sets K))
   counted-out b h =
-      ap length (sym (reduced b h)) ∙ length-map (keep (ofKind k true b) (allSets K)) (λ A. set A k false) ∙ sym (with-wanted b (allSets K))
+      ap length (sym (reduced b h)) ∙ length-map (keep (of_kind k true b) (all_sets K)) (λ A. set A k false) ∙ sym (with-wanted b (all_sets K))
 
   -- A stands among all sets, after those of D
-  module _ (D L : List (List Bool)) (A : List Bool) (split : D ++ A ∷ L ≡ allSets K) (b : ℕ) (low : b < K) (long : length A ≡ K) (many : ones_in A ≡ suc b) where
-    parted : (t : Bool) → has k A ≡ t → keep (ofKind k t b) (allSets K) ≡ keep (ofKind k t b) D ++ A ∷ keep (ofKind k t b) L
-    unfolding keep keepIf ofKind
+  module _ (D L : List (List Bool)) (A : List Bool) (split : D ++ A ∷ L ≡ all_sets K) (b : ℕ) (low : b < K) (long : length A ≡ K) (many : ones_in A ≡ suc b) where
+    parted : (t : Bool) → has k A ≡ t → keep (of_kind k t b) (all_sets K) ≡ keep (of_kind k t b) D ++ A ∷ keep (of_kind k t b) L
+    unfolding keep keep_if of_kind
     parted t e =
-        ap (keep (ofKind k t b)) (sym split)
-        ∙ keep_append (ofKind k t b) D (A ∷ L)
-        ∙ ap (λ u. keep (ofKind k t b) D ++ keepIf u A (keep (ofKind k t b) L)) is-kind
+        ap (keep (of_kind k t b)) (sym split)
+        ∙ keep_append (of_kind k t b) D (A ∷ L)
+        ∙ ap (λ u. keep (of_kind k t b) D ++ keep_if u A (keep (of_kind k t b) L)) is-kind
       where
-        is-kind : ofKind k t b A ≡ true
+        is-kind : of_kind k t b A ≡ true
         is-kind = rw (e, beq-self t) (eq-eqb (suc b) (ones_in A) (sym many))
 
-    pub rank-side : has k A ≡ false → before A (keep (λ B. not (has k B)) (sets K (suc b))) ≡ keep (ofKind k false b) D
-    rank-side e = ap (before A) here ∙ before-seam A (keep (ofKind k false b) D) (keep (ofKind k false b) L) once
+    pub rank-side : has k A ≡ false → before A (keep (λ B. not (has k B)) (sets K (suc b))) ≡ keep (of_kind k false b) D
+    rank-side e = ap (before A) here ∙ before-seam A (keep (of_kind k false b) D) (keep (of_kind k false b) L) once
       where
-        here : keep (λ B. not (has k B)) (sets K (suc b)) ≡ keep (ofKind k false b) D ++ A ∷ keep (ofKind k false b) L
+        here : keep (λ B. not (has k B)) (sets K (suc b)) ≡ keep (of_kind k false b) D ++ A ∷ keep (of_kind k false b) L
         here = sym (without b low) ∙ parted false e
 
-        once : sum (λ B. bit (alike A B)) (keep (ofKind k false b) D ++ A ∷ keep (ofKind k false b) L) ≤ 1
+        once : sum (λ B. bit (alike A B)) (keep (of_kind k false b) D ++ A ∷ keep (of_kind k false b) L) ≤ 1
         once = rw (← here) (omega (arith, alike-one A K (suc b) long many, sum-keep-most (λ B. bit (alike A B)) (λ B. not (has k B)) (sets K (suc b))))
 
-    pub rank-wanted : has k A ≡ true → before (set A k false) (keep (λ B. not (has k B)) (sets K b)) ≡ map (λ B. set B k false) (keep (ofKind k true b) D)
-    rank-wanted e = ap (before A') here ∙ before-seam A' (map out (keep (ofKind k true b) D)) (map out (keep (ofKind k true b) L)) once
+    pub rank-wanted : has k A ≡ true → before (set A k false) (keep (λ B. not (has k B)) (sets K b)) ≡ map (λ B. set B k false) (keep (of_kind k true b) D)
+    rank-wanted e = ap (before A') here ∙ before-seam A' (map out (keep (of_kind k true b) D)) (map out (keep (of_kind k true b) L)) once
       where
         out : List Bool → List Bool
         out B = set B k false
@@ -106,10 +106,10 @@ module _ (K k : ℕ) (wanted : k < K) where
         A' : List Bool
         A' = set A k false
 
-        here : keep (λ B. not (has k B)) (sets K b) ≡ map out (keep (ofKind k true b) D) ++ A' ∷ map out (keep (ofKind k true b) L)
-        here = sym (reduced b low) ∙ ap (map out) (parted true e) ∙ map-append out (keep (ofKind k true b) D) (A ∷ keep (ofKind k true b) L)
+        here : keep (λ B. not (has k B)) (sets K b) ≡ map out (keep (of_kind k true b) D) ++ A' ∷ map out (keep (of_kind k true b) L)
+        here = sym (reduced b low) ∙ ap (map out) (parted true e) ∙ map-append out (keep (of_kind k true b) D) (A ∷ keep (of_kind k true b) L)
 
-        once : sum (λ B. bit (alike A' B)) (map out (keep (ofKind k true b) D) ++ A' ∷ map out (keep (ofKind k true b) L)) ≤ 1
+        once : sum (λ B. bit (alike A' B)) (map out (keep (of_kind k true b) D) ++ A' ∷ map out (keep (of_kind k true b) L)) ≤ 1
         once =
             rw (← here)
             (omega (
@@ -119,31 +119,31 @@ module _ (K k : ℕ) (wanted : k < K) where
             ))
 
     -- A itself is not before A
-    pub rank_below : has k A ≡ true → with k (keep (ofKind k true b) D) < with k (keep (ofKind k true b) (allSets K))
+    pub rank_below : has k A ≡ true → with k (keep (of_kind k true b) D) < with k (keep (of_kind k true b) (all_sets K))
     unfolding with sum bit
     rank_below e =
-        rw (parted true e) (omega (arith, sum-append (λ B. bit (has k B)) (keep (ofKind k true b) D) (A ∷ keep (ofKind k true b) L), ap bit e))
+        rw (parted true e) (omega (arith, sum-append (λ B. bit (has k B)) (keep (of_kind k true b) D) (A ∷ keep (of_kind k true b) L), ap bit e))
 
   -- what each server takes of a message in block b, and how many rows it joins
   module _ (N : ℕ) (wide : 1 < N) where
-    pub side-total : (p b : ℕ) → b < K → with p (sideSets N K k b) ≡ (N - 1) ^ b * with p (keep (ofKind k false b) (allSets K))
+    pub side-total : (p b : ℕ) → b < K → with p (side_sets N K k b) ≡ (N - 1) ^ b * with p (keep (of_kind k false b) (all_sets K))
     unfolding with
     side-total p b h =
-        sideSets-sum N K k wide wanted (λ A. bit (has p A)) b
+        side_sets-sum N K k wide wanted (λ A. bit (has p A)) b
         ∙ ap (λ s. (N - 1) ^ b * s)
         (sym (sum-keep (λ A. bit (has p A)) (λ A. not (has k A)) (sets K (suc b))) ∙ ap (sum (λ A. bit (has p A))) (sym (without b h)))
 
-    pub sources-total : (b : ℕ) → suc b < K → length (sideSets N K k b) ≡ (N - 1) ^ b * with k (keep (ofKind k true (suc b)) (allSets K))
+    pub sources-total : (b : ℕ) → suc b < K → length (side_sets N K k b) ≡ (N - 1) ^ b * with k (keep (of_kind k true (suc b)) (all_sets K))
     sources-total b h =
-        sym (sum_one (sideSets N K k b))
-        ∙ sideSets-sum N K k wide wanted (λ A. 1) b
+        sym (sum_one (side_sets N K k b))
+        ∙ side_sets-sum N K k wide wanted (λ A. 1) b
         ∙ ap (λ s. (N - 1) ^ b * s)
         (sym (sum-keep (λ A. 1) (λ A. not (has k A)) (sets K (suc b))) ∙ sum_one (keep (λ A. not (has k A)) (sets K (suc b))) ∙ counted-out (suc b) h)
 
-    pub wanted-total : (b : ℕ) → b < K → joins N K k b ≡ (N - 1) ^ b * with k (keep (ofKind k true b) (allSets K))
-    unfolding joins keep keepIf
+    pub wanted-total : (b : ℕ) → b < K → joins N K k b ≡ (N - 1) ^ b * with k (keep (of_kind k true b) (all_sets K))
+    unfolding joins keep keep_if
     wanted-total zero h = sym (rw (pow-zero (N - 1), ← counted-out 0 h, sets-zero K, has-none K k) refl)
     wanted-total (suc b) h =
         ap (λ s. (N - 1) * s) (sources-total b h)
-        ∙ sym (mul_assoc (N - 1) ((N - 1) ^ b) (with k (keep (ofKind k true (suc b)) (allSets K))))
-        ∙ ap (λ s. s * with k (keep (ofKind k true (suc b)) (allSets K))) (sym (pow-succ' (N - 1) b))
+        ∙ sym (mul_assoc (N - 1) ((N - 1) ^ b) (with k (keep (of_kind k true (suc b)) (all_sets K))))
+        ∙ ap (λ s. s * with k (keep (of_kind k true (suc b)) (all_sets K))) (sym (pow-succ' (N - 1) b))

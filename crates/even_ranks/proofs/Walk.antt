@@ -14,25 +14,25 @@ use Rattle.lists.specs.Parts.{cut}
 use Rattle.lists.specs.Ranges.{range}
 use Rattle.lists.specs.Sums.{All}
 use Rattle.lists.proofs.Each.{All-back, All-head}
-use Rattle.lists.proofs.Joined.{flatMap-flatMap, map-flatMap}
+use Rattle.lists.proofs.Joined.{flat_map-flat_map, map-flat_map}
 use Rattle.lists.proofs.Mapped.{map-append}
-use Rattle.even_places.specs.Rule.{has, ones_in, members, Row, is_some, cells, queryCells, allSets}
-use Rattle.even_places.proofs.SetLaws.{setOf}
-use Rattle.even_places.proofs.RowNumbers.{setRows, rows-by-set, setRows-length, row-set}
+use Rattle.even_places.specs.Rule.{has, ones_in, members, Row, is_some, cells, query_cells, all_sets}
+use Rattle.even_places.proofs.SetLaws.{set_of}
+use Rattle.even_places.proofs.RowNumbers.{set_rows, rows-by-set, set_rows-length, row-set}
 use Rattle.even_places.proofs.Flat.{inside}
 use Rattle.even_places.proofs.AllSets.{IsSet, all-sets}
-use Rattle.even_ranks.specs.Counts.{noCounts, countersOf, setCounted, countedAll, totalsOf}
-use Rattle.even_ranks.specs.Walk.{originPlace, origin_of, rowPlaces, setPlaces, setsPlaces, walked}
+use Rattle.even_ranks.specs.Counts.{no_counts, counters_of, set_counted, counted_all, totals_of}
+use Rattle.even_ranks.specs.Walk.{origin_place, origin_of, row_places, set_places, sets_places, walked}
 use Rattle.even_ranks.proofs.Cells.{cell-is}
 
 -- the places of rows, in order
-abbrev placesIn : List Row → List ℕ
-placesIn rs = map (λ e. e.1) (flat_map (cells 0) rs)
+abbrev places_in : List Row → List ℕ
+places_in rs = map (λ e. e.1) (flat_map (cells 0) rs)
 
 -- a row's places, where each is known
-cells_are : (f : ℕ → ℕ) (q : ℕ) (r : Row) → ((p : ℕ) → has p (setOf r) ≡ true → get_or r p none ≡ some (f (q + p)))
-    → map (λ e. e.1) (cells q r) ≡ map f (members q (setOf r))
-unfolding cells members setOf is_some has
+cells_are : (f : ℕ → ℕ) (q : ℕ) (r : Row) → ((p : ℕ) → has p (set_of r) ≡ true → get_or r p none ≡ some (f (q + p)))
+    → map (λ e. e.1) (cells q r) ≡ map f (members q (set_of r))
+unfolding cells members set_of is_some has
 cells_are f q [] g = refl
 cells_are f q (none ∷ r) g = cells_are f (suc q) r (λ p h. g (suc p) h ∙ ap (λ i. some (f i)) (omega arith))
 cells_are f q (some x ∷ r) g = ap₂ (λ y l. y ∷ l) here (cells_are f (suc q) r (λ p h. g (suc p) h ∙ ap (λ i. some (f i)) (omega arith)))
@@ -42,7 +42,7 @@ cells_are f q (some x ∷ r) g = ap₂ (λ y l. y ∷ l) here (cells_are f (suc 
 
 -- rows one after another, by number
 rows_are : (h : ℕ → List ℕ) (a : ℕ) (rs : List Row) → ((i : ℕ) → i < length rs → map (λ e. e.1) (cells 0 (get_or rs i [])) ≡ h (a + i))
-    → placesIn rs ≡ flat_map h (range a (length rs))
+    → places_in rs ≡ flat_map h (range a (length rs))
 unfolding flat_map range
 rows_are h a [] g = refl
 rows_are h a (r ∷ rs) g =
@@ -57,16 +57,16 @@ has-low A p g = go (dec_lt p (length A))
     go (yes h) = h
     go (no h) = absurd (false≢true (sym (get_or-eq_default A false (omega arith)) ∙ g))
 
-countedAll-last : (k : ℕ) (D : List (List Bool)) (A : List Bool) (counts : List ℕ) → countedAll k (D ++ A ∷ []) counts ≡ setCounted k A (countedAll k D counts)
-unfolding countedAll
-countedAll-last k [] A counts = refl
-countedAll-last k (B ∷ D) A counts = countedAll-last k D A (setCounted k B counts)
+counted_all-last : (k : ℕ) (D : List (List Bool)) (A : List Bool) (counts : List ℕ) → counted_all k (D ++ A ∷ []) counts ≡ set_counted k A (counted_all k D counts)
+unfolding counted_all
+counted_all-last k [] A counts = refl
+counted_all-last k (B ∷ D) A counts = counted_all-last k D A (set_counted k B counts)
 
 module _ (N K k n : ℕ) (wide : 1 < N) (wanted : k < K) (few : K ≤ 8) (server : n < N) where
-  set_is : (D L : List (List Bool)) (A : List Bool) → D ++ A ∷ L ≡ allSets K
-      → setPlaces N k n (totalsOf K k) (cut (countersOf k A) (length A) (countedAll k D noCounts)) A ≡ placesIn (setRows N K k n A)
-  unfolding setPlaces rowPlaces setRows
-  set_is D L A split = sym (rows_are places 0 (setRows N K k n A) row ∙ ap (λ s. flat_map places (range 0 s)) size)
+  set_is : (D L : List (List Bool)) (A : List Bool) → D ++ A ∷ L ≡ all_sets K
+      → set_places N k n (totals_of K k) (cut (counters_of k A) (length A) (counted_all k D no_counts)) A ≡ places_in (set_rows N K k n A)
+  unfolding set_places row_places set_rows
+  set_is D L A split = sym (rows_are places 0 (set_rows N K k n A) row ∙ ap (λ s. flat_map places (range 0 s)) size)
     where
       b : ℕ
       b = ones_in A - 1
@@ -78,51 +78,51 @@ module _ (N K k n : ℕ) (wide : 1 < N) (wanted : k < K) (few : K ≤ 8) (server
       many = omega (arith, known.some)
 
       ranks : List ℕ
-      ranks = cut (countersOf k A) (length A) (countedAll k D noCounts)
+      ranks = cut (counters_of k A) (length A) (counted_all k D no_counts)
 
       places : ℕ → List ℕ
-      places i = map (originPlace N k (totalsOf K k) ranks (origin_of N k n A i)) (members 0 A)
+      places i = map (origin_place N k (totals_of K k) ranks (origin_of N k n A i)) (members 0 A)
 
-      size : length (setRows N K k n A) ≡ (N - 1) ^ b
-      size = setRows-length N K k wide wanted n server A known
+      size : length (set_rows N K k n A) ≡ (N - 1) ^ b
+      size = set_rows-length N K k wide wanted n server A known
 
-      row : (i : ℕ) → i < length (setRows N K k n A) → map (λ e. e.1) (cells 0 (get_or (setRows N K k n A) i [])) ≡ places (0 + i)
+      row : (i : ℕ) → i < length (set_rows N K k n A) → map (λ e. e.1) (cells 0 (get_or (set_rows N K k n A) i [])) ≡ places (0 + i)
       row i h =
           cells_are f 0 r (λ p g. cell p (ap (has p) (sym its-set) ∙ g) ∙ ap (λ s. some (f s)) (sym (zero-add p)))
           ∙ ap (λ B. map f (members 0 B)) its-set
           ∙ ap places (sym (zero-add i))
         where
           r : Row
-          r = get_or (setRows N K k n A) i []
+          r = get_or (set_rows N K k n A) i []
 
-          its-set : setOf r ≡ A
+          its-set : set_of r ≡ A
           its-set = row-set N K k wide wanted n server A i known (omega (arith, size))
 
           f : ℕ → ℕ
-          f = originPlace N k (totalsOf K k) ranks (origin_of N k n A i)
+          f = origin_place N k (totals_of K k) ranks (origin_of N k n A i)
 
           cell : (p : ℕ) → has p A ≡ true → get_or r p none ≡ some (f p)
           cell p g = cell-is N K k wide wanted few D L A split n server b i p many (omega (arith, size)) (omega (arith, has-low A p g, known.long)) g
 
-  walk_is : (D L : List (List Bool)) → D ++ L ≡ allSets K
-      → setsPlaces N k n (totalsOf K k) (countedAll k D noCounts) L ≡ flat_map (λ A. placesIn (setRows N K k n A)) L
-  unfolding setsPlaces flat_map
+  walk_is : (D L : List (List Bool)) → D ++ L ≡ all_sets K
+      → sets_places N k n (totals_of K k) (counted_all k D no_counts) L ≡ flat_map (λ A. places_in (set_rows N K k n A)) L
+  unfolding sets_places flat_map
   walk_is D [] split = refl
   walk_is D (A ∷ L) split =
       ap₂ (λ l m. l ++ m) (set_is D L A split)
-      (ap (λ c. setsPlaces N k n (totalsOf K k) c L) (sym (countedAll-last k D A noCounts)) ∙ walk_is (D ++ A ∷ []) L (append_assoc D (A ∷ []) L ∙ split))
+      (ap (λ c. sets_places N k n (totals_of K k) c L) (sym (counted_all-last k D A no_counts)) ∙ walk_is (D ++ A ∷ []) L (append_assoc D (A ∷ []) L ∙ split))
 
-  pub walked-is : walked N K k n ≡ map (λ e. e.1) (queryCells N K k n)
-  unfolding walked queryCells countedAll
+  pub walked-is : walked N K k n ≡ map (λ e. e.1) (query_cells N K k n)
+  unfolding walked query_cells counted_all
   walked-is =
-      walk_is [] (allSets K) refl
+      walk_is [] (all_sets K) refl
       ∙ sym
-      (ap placesIn (rows-by-set N K k wide wanted n server)
-      ∙ ap (map (λ e. e.1)) (flatMap-flatMap (cells 0) (setRows N K k n) (allSets K))
-      ∙ map-flatMap (λ e. e.1) (λ A. flat_map (cells 0) (setRows N K k n A)) (allSets K))
+      (ap places_in (rows-by-set N K k wide wanted n server)
+      ∙ ap (map (λ e. e.1)) (flat_map-flat_map (cells 0) (set_rows N K k n) (all_sets K))
+      ∙ map-flat_map (λ e. e.1) (λ A. flat_map (cells 0) (set_rows N K k n A)) (all_sets K))
 
   pub walked-below : Below (N ^ K) (walked N K k n)
   walked-below =
       rw walked-is
-      (λ i h. rw (get_or-map (λ e. e.1) (queryCells N K k n) i (0, 0))
-      (inside N K k wide wanted n i server (omega (arith, length-map (queryCells N K k n) (λ e. e.1)))).1)
+      (λ i h. rw (get_or-map (λ e. e.1) (query_cells N K k n) i (0, 0))
+      (inside N K k wide wanted n i server (omega (arith, length-map (query_cells N K k n) (λ e. e.1)))).1)

@@ -5,37 +5,37 @@ use Rattle.std.specs.Prelude.{◌≡◌, ℕ, ◌+◌, ◌-◌, ◌*◌, ◌/◌
 use Rattle.lists.specs.Parts.{cut, put}
 use Rattle.lists.specs.Ranges.{range}
 use Rattle.lists.specs.Sums.{bit, sum}
-use Rattle.even_places.specs.Rule.{has, byte_of, ones_in, after, allSets}
-use Rattle.even_sets.specs.Sets.{setIn}
+use Rattle.even_places.specs.Rule.{has, byte_of, ones_in, after, all_sets}
+use Rattle.even_sets.specs.Sets.{set_in}
 
 -- where the counter of message p stands
 unfoldable pub counter : Bool → ℕ → ℕ → ℕ
 counter t b p = bit t * 64 + b * 8 + p
 
-unfoldable pub noCounts : List ℕ
-noCounts = replicate 128 0
+unfoldable pub no_counts : List ℕ
+no_counts = replicate 128 0
 
 -- a byte that stands for a set of K messages, one of them at least
 pub record Stands (K byte : ℕ) : Type 0 where
-  pub encoded : byte_of (setIn K byte) ≡ byte
-  pub some : 1 ≤ ones_in (setIn K byte)
+  pub encoded : byte_of (set_in K byte) ≡ byte
+  pub some : 1 ≤ ones_in (set_in K byte)
 
 module _ (k : ℕ) where
   -- where the counters of A's block and kind begin
-  unfoldable pub countersOf : List Bool → ℕ
-  countersOf A = counter (has k A) (ones_in A - 1) 0
+  unfoldable pub counters_of : List Bool → ℕ
+  counters_of A = counter (has k A) (ones_in A - 1) 0
 
   -- one more for each message of A
-  unfoldable pub setCounted : List Bool → List ℕ → List ℕ
-  setCounted A counts = put (countersOf A) (after A (cut (countersOf A) (length A) counts)) counts
+  unfoldable pub set_counted : List Bool → List ℕ → List ℕ
+  set_counted A counts = put (counters_of A) (after A (cut (counters_of A) (length A) counts)) counts
 
-  unfoldable pub countedAll : List (List Bool) → List ℕ → List ℕ
-  countedAll [] counts = counts
-  countedAll (A ∷ sets) counts = countedAll sets (setCounted A counts)
+  unfoldable pub counted_all : List (List Bool) → List ℕ → List ℕ
+  counted_all [] counts = counts
+  counted_all (A ∷ sets) counts = counted_all sets (set_counted A counts)
 
 -- the counts of all sets of K messages
-unfoldable pub totalsOf : ℕ → ℕ → List ℕ
-totalsOf K k = countedAll k (allSets K) noCounts
+unfoldable pub totals_of : ℕ → ℕ → List ℕ
+totals_of K k = counted_all k (all_sets K) no_counts
 
 -- how many sets of block b have rows that take a next place of message p: those with k take one of k, the others of each message
 unfoldable pub takers : ℕ → List ℕ → ℕ → ℕ → ℕ
@@ -47,5 +47,5 @@ module _ (N k : ℕ) (totals : List ℕ) where
   taken b p = sum (λ j. (N - 1) ^ j * takers k totals j p) (range 0 b)
 
   -- those of block b, eight messages each, one block after another
-  unfoldable pub takenTable : List ℕ
-  takenTable = map (λ i. taken (i / 8) (i % 8)) (range 0 64)
+  unfoldable pub taken_table : List ℕ
+  taken_table = map (λ i. taken (i / 8) (i % 8)) (range 0 64)

@@ -3,9 +3,9 @@
 ghost use Rattle.std.specs.Prelude.{◌≡◌, map, ◌-◌, ◌%◌, ◌/◌, ◌^◌, ◌≤◌, ◌<◌, eqb, length};
 ghost use Rattle.std.specs.Int.Count.{ones};
 ghost use Rattle.lists.specs.Below.{Below};
-ghost use Rattle.even_places.specs.Rule.{byte_of, after, allSets};
-ghost use Rattle.even_sets.specs.Sets.{setIn};
-ghost use Rattle.even_ranks.specs.Counts.{«counter» as counterAt, Stands, setCounted, totalsOf, «takers» as takersOf, taken, takenTable};
+ghost use Rattle.even_places.specs.Rule.{byte_of, after, all_sets};
+ghost use Rattle.even_sets.specs.Sets.{set_in};
+ghost use Rattle.even_ranks.specs.Counts.{«counter» as counterAt, Stands, set_counted, totals_of, «takers» as takersOf, taken, taken_table};
 
 // Where the places of a row come from.
 #[derive(Drop)]
@@ -39,7 +39,7 @@ pub fn counters_of(wanted: usize, set: u8) -> usize
 // Adds one to the counter of each message in the set, where `counts` are the counters of its block and kind.
 fn count_members(k: usize, set: u8, counts: &mut [usize])
     requires { (length counts.old ≡ k) × Below 65536 counts.old }
-    ensures { counts.new ≡ after (setIn k set) counts.old }
+    ensures { counts.new ≡ after (set_in k set) counts.old }
 {
     let mut rest = set;
     let mut p = 0;
@@ -53,7 +53,7 @@ fn count_members(k: usize, set: u8, counts: &mut [usize])
 // Counts a set.
 pub fn count_set(k: usize, wanted: usize, set: u8, counts: &mut [usize])
     requires { (k ≤ 8) × (wanted < k) × Stands k set × (length counts.old ≡ 128) × Below 65536 counts.old }
-    ensures { counts.new ≡ setCounted wanted (setIn k set) counts.old }
+    ensures { counts.new ≡ set_counted wanted (set_in k set) counts.old }
 {
     let at = counters_of(wanted, set);
     count_members(k, set, &mut counts[at..at + k]);
@@ -61,8 +61,8 @@ pub fn count_set(k: usize, wanted: usize, set: u8, counts: &mut [usize])
 
 // The counts of all sets, which are given in order.
 pub fn totals(k: usize, wanted: usize, sets: &[u8]) -> [usize; 128]
-    requires { (k ≤ 8) × (wanted < k) × (sets.now ≡ map byte_of (allSets k)) }
-    ensures { result ≡ totalsOf k wanted }
+    requires { (k ≤ 8) × (wanted < k) × (sets.now ≡ map byte_of (all_sets k)) }
+    ensures { result ≡ totals_of k wanted }
 {
     let mut counts = [0usize; 128];
     let mut i = 0;
@@ -103,7 +103,7 @@ fn taken_before(n: usize, wanted: usize, totals: &[usize], block: usize, p: usiz
 // The same for every block and message.
 pub fn takings(n: usize, wanted: usize, totals: &[usize]) -> [usize; 64]
     requires { (1 ≤ n) × (n ≤ 16) × (length totals.now ≡ 128) × Below 65536 totals.now }
-    ensures { result ≡ takenTable n wanted totals.now }
+    ensures { result ≡ taken_table n wanted totals.now }
 {
     let mut table = [0usize; 64];
     let mut i = 0;

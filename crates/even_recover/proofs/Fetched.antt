@@ -1,5 +1,5 @@
 -- Recovery from one server, set by set: what holds before set j is recovered (`Fetched`), that its group is ready (`set-ready`), that
--- the same holds of the next set then (`fetched-more`), and that in the end the scheme's `serverParts` are written (`fetched-done`).
+-- the same holds of the next set then (`fetched-more`), and that in the end the scheme's `server_parts` are written (`fetched-done`).
 use Prim.Native.Nat.{ℕ, ◌+◌, ◌-◌, ◌*◌, ◌/◌, ◌%◌, ◌^◌, ◌≤◌, ◌<◌}
 use native.Mathlib.Nat.{mul-le-mul}
 use native.Mathlib.Numerals.{add-one}
@@ -12,26 +12,26 @@ use lib.Dec.{eqb}
 use lib.ListN.{length, get_or, take, length-map}
 use lib.Seq.{take-suc, take_all}
 use Rattle.lists.specs.Ranges.{range}
-use Rattle.lists.specs.Sums.{bit, keep, keepIf, sum as summed}
-use Rattle.lists.proofs.Joined.{flatMap-append}
+use Rattle.lists.specs.Sums.{bit, keep, keep_if, sum as summed}
+use Rattle.lists.proofs.Joined.{flat_map-append}
 use Rattle.lists.proofs.Sums.{sum-append}
 use Rattle.lists.proofs.Keep.{keep_append}
 use Rattle.symbol.specs.Sum.{Sum}
-use Rattle.scheme.specs.Scheme.{answersIn}
-use Rattle.even_places.specs.Rule.{has, byte_of, ones_in, allSets}
+use Rattle.scheme.specs.Scheme.{answers_in}
+use Rattle.even_places.specs.Rule.{has, byte_of, ones_in, all_sets}
 use Rattle.even_places.proofs.Bytes.{byte-ones, byte-has}
 use Rattle.even_places.proofs.ByteParts.{byte-covers}
 use Rattle.even_places.proofs.WantedCells.{cells_of}
 use Rattle.even_places.proofs.AllSets.{ones-most}
 use Rattle.lists.specs.Parts.{lay}
-use Rattle.lists.specs.Assembled.{layAll}
-use Rattle.even_scheme.specs.Even.{recoveredPart, serverParts, evenScheme}
+use Rattle.lists.specs.Assembled.{lay_all}
+use Rattle.even_scheme.specs.Even.{recovered_part, server_parts, even_scheme}
 use Rattle.even_sets.specs.Sets.{rows_of}
 use Rattle.even_sets.proofs.Blocks.{all-length, subsets-few}
 use Rattle.even_sets.proofs.Fits.{layout-bounds}
 use Rattle.even_sets.proofs.SetBytes.{SetByte, byte_at}
 use Rattle.even_recover.specs.declared.ServerRows.{ServerRows}
-use Rattle.even_recover.specs.Rows.{serverRowsOf, groupParts, group_of, setParts, Held, Ready}
+use Rattle.even_recover.specs.Rows.{server_rows_of, group_parts, group_of, set_parts, Held, Ready}
 use Rattle.even_recover.proofs.Groups.{Reads, WantedSet, group-grouped}
 use Rattle.even_recover.proofs.GroupParts.{HasQuery, group-named, group-parts}
 use Rattle.even_recover.proofs.Sized.{Sized, sized}
@@ -39,26 +39,26 @@ use Rattle.lists.proofs.Assembled.{assemble-append}
 
 module _ (sum : Sum) (N K S wanted server : ℕ) (key answers : List ℕ) where
   -- the parts that one set gives, and those with the wanted message among some sets
-  unfoldable pub partsOfSet : List Bool → List (ℕ × List ℕ)
-  partsOfSet A =
-      map (recoveredPart sum N K S wanted key (answersIn (evenScheme sum N K S) N wanted key answers) server A) (range 0 ((N - 1) ^ (ones_in A - 1)))
+  unfoldable pub parts_of_set : List Bool → List (ℕ × List ℕ)
+  parts_of_set A =
+      map (recovered_part sum N K S wanted key (answers_in (even_scheme sum N K S) N wanted key answers) server A) (range 0 ((N - 1) ^ (ones_in A - 1)))
 
   unfoldable pub parts_of : List (List Bool) → List (ℕ × List ℕ)
-  parts_of sets = flat_map partsOfSet (keep (has wanted) sets)
+  parts_of sets = flat_map parts_of_set (keep (has wanted) sets)
 
-  parts_all : parts_of (allSets K) ≡ serverParts sum N K S wanted key (answersIn (evenScheme sum N K S) N wanted key answers) server
-  unfolding parts_of partsOfSet serverParts
+  parts_all : parts_of (all_sets K) ≡ server_parts sum N K S wanted key (answers_in (even_scheme sum N K S) N wanted key answers) server
+  unfolding parts_of parts_of_set server_parts
   parts_all = refl
 
-  parts_more : (sets : List (List Bool)) (A : List Bool) → parts_of (sets ++ (A ∷ [])) ≡ parts_of sets ++ cond (has wanted A) (partsOfSet A) []
-  unfolding parts_of keep keepIf flat_map
+  parts_more : (sets : List (List Bool)) (A : List Bool) → parts_of (sets ++ (A ∷ [])) ≡ parts_of sets ++ cond (has wanted A) (parts_of_set A) []
+  unfolding parts_of keep keep_if flat_map
   parts_more sets A =
-      ap (flat_map partsOfSet) (keep_append (has wanted) sets (A ∷ []))
-      ∙ flatMap-append partsOfSet (keep (has wanted) sets) (keep (has wanted) (A ∷ []))
+      ap (flat_map parts_of_set) (keep_append (has wanted) sets (A ∷ []))
+      ∙ flat_map-append parts_of_set (keep (has wanted) sets) (keep (has wanted) (A ∷ []))
       ∙ ap (λ (l : List (ℕ × List ℕ)). parts_of sets ++ l) (go (has wanted A))
     where
-      go : (t : Bool) → flat_map partsOfSet (keepIf t A []) ≡ cond t (partsOfSet A) []
-      go true = append-nil (partsOfSet A)
+      go : (t : Bool) → flat_map parts_of_set (keep_if t A []) ≡ cond t (parts_of_set A) []
+      go true = append-nil (parts_of_set A)
       go false = refl
 
 -- sets 0 to j - 1 are recovered
@@ -66,29 +66,29 @@ pub record Fetched (sum : Sum) (N K S wanted server : ℕ) (key sets firsts answ
     (cell j : ℕ) : Type 0 where
   pub reads : Reads N K S wanted server firsts
   pub asked : HasQuery N K wanted server key query
-  pub sets-are : sets ≡ map byte_of (allSets K)
+  pub sets-are : sets ≡ map byte_of (all_sets K)
   pub table : length firsts ≡ 256
-  pub here-is : here ≡ serverRowsOf N K S wanted server
+  pub here-is : here ≡ server_rows_of N K S wanted server
   pub held : Held here answers
-  pub within : j ≤ length (allSets K)
+  pub within : j ≤ length (all_sets K)
   pub long : length message ≡ length start
-  pub cell-is : cell ≡ summed (cells_of N) (take j (allSets K))
+  pub cell-is : cell ≡ summed (cells_of N) (take j (all_sets K))
   pub near : cell ≤ j * 2048
-  pub written : message ≡ layAll (parts_of sum N K S wanted server key answers (take j (allSets K))) start
+  pub written : message ≡ lay_all (parts_of sum N K S wanted server key answers (take j (all_sets K))) start
 
 module _ {sum : Sum} {N K S wanted server : ℕ} {key sets firsts answers start : List ℕ} {here : ServerRows} {query message : List ℕ} {cell j : ℕ}
     (fetched : Fetched sum N K S wanted server key sets firsts answers start here query message cell j) (more : j < length sets) where
   abbrev A : List Bool
-  A = get_or (allSets K) j []
+  A = get_or (all_sets K) j []
 
-  more-sets : j < length (allSets K)
-  more-sets = omega (arith, ap length fetched.sets-are, length-map (allSets K) byte_of)
+  more-sets : j < length (all_sets K)
+  more-sets = omega (arith, ap length fetched.sets-are, length-map (all_sets K) byte_of)
 
   pub set-near : j < 256
   set-near = omega (arith, more-sets, all-length K, subsets-few K fetched.reads.bounds.messages-high)
 
   pub set_is : SetByte N K (get_or sets j 0) A
-  set_is = byte_at N K j sets [] (layout-bounds fetched.reads.bounds) (fetched.sets-are ∙ sym (append-nil (map byte_of (allSets K)))) more-sets
+  set_is = byte_at N K j sets [] (layout-bounds fetched.reads.bounds) (fetched.sets-are ∙ sym (append-nil (map byte_of (all_sets K)))) more-sets
 
   pub bit-some : 1 ≤ here.bit
   bit-some = omega (arith, (sized fetched.reads.bounds fetched.reads.wanted-known).bit-low, ap (λ (r : ServerRows). r.bit) fetched.here-is)
@@ -111,15 +111,15 @@ module _ {sum : Sum} {N K S wanted server : ℕ} {key sets firsts answers start 
   wanted-set : has wanted A ≡ true → WantedSet K wanted A
   wanted-set e = record { good = record { long = set_is.is.long; some = set_is.is.some }; has-wanted = e }
 
-  set-parts : setParts sum here (get_or sets j 0) cell firsts query answers ≡ cond (has wanted A) (partsOfSet sum N K S wanted server key answers A) []
-  unfolding setParts partsOfSet bit
+  set-parts : set_parts sum here (get_or sets j 0) cell firsts query answers ≡ cond (has wanted A) (parts_of_set sum N K S wanted server key answers A) []
+  unfolding set_parts parts_of_set bit
   set-parts = rw (bit_is, fetched.here-is, set_is.byte, fetched.cell-is) (go (has wanted A) refl)
     where
       parts : List (ℕ × List ℕ)
-      parts = groupParts sum (serverRowsOf N K S wanted server)
-          (group_of (serverRowsOf N K S wanted server) (byte_of A) (summed (cells_of N) (take j (allSets K))) firsts) query answers
+      parts = group_parts sum (server_rows_of N K S wanted server)
+          (group_of (server_rows_of N K S wanted server) (byte_of A) (summed (cells_of N) (take j (all_sets K))) firsts) query answers
 
-      go : (t : Bool) → has wanted A ≡ t → cond (eqb (bit t) 1) parts [] ≡ cond t (partsOfSet sum N K S wanted server key answers A) []
+      go : (t : Bool) → has wanted A ≡ t → cond (eqb (bit t) 1) parts [] ≡ cond t (parts_of_set sum N K S wanted server key answers A) []
       go true e = group-parts sum fetched.reads fetched.asked j more-sets (wanted-set e) answers
       go false e = refl
 
@@ -131,7 +131,7 @@ module _ {sum : Sum} {N K S wanted server : ℕ} {key sets firsts answers start 
       small = sized fetched.reads.bounds fetched.reads.wanted-known
 
       go : (t : Bool) → has wanted A ≡ t → bit t ≡ 1
-          → Ready (serverRowsOf N K S wanted server) (byte_of A) (summed (cells_of N) (take j (allSets K))) firsts query
+          → Ready (server_rows_of N K S wanted server) (byte_of A) (summed (cells_of N) (take j (all_sets K))) firsts query
       go false f g = absurd (let w : ⊥ = omega arith in w)
       go true f g = record {
         given = record {
@@ -143,15 +143,15 @@ module _ {sum : Sum} {N K S wanted server : ℕ} {key sets firsts answers start 
           near = omega (arith, cells-near, fetched.cell-is);
           table = fetched.table;
         };
-        grouped = group-grouped fetched.reads (wanted-set f) (summed (cells_of N) (take j (allSets K)));
+        grouped = group-grouped fetched.reads (wanted-set f) (summed (cells_of N) (take j (all_sets K)));
         named = group-named sum fetched.reads fetched.asked j more-sets (wanted-set f);
       }
 
-  next-sets : take (j + 1) (allSets K) ≡ take j (allSets K) ++ (A ∷ [])
-  next-sets = ap (λ (n : ℕ). take n (allSets K)) (add-one j) ∙ take-suc (allSets K) j [] more-sets
+  next-sets : take (j + 1) (all_sets K) ≡ take j (all_sets K) ++ (A ∷ [])
+  next-sets = ap (λ (n : ℕ). take n (all_sets K)) (add-one j) ∙ take-suc (all_sets K) j [] more-sets
 
   pub fetched-more : (done : List ℕ) (next : ℕ) → length done ≡ length message
-      → done ≡ layAll (setParts sum here (get_or sets j 0) cell firsts query answers) message
+      → done ≡ lay_all (set_parts sum here (get_or sets j 0) cell firsts query answers) message
       → next ≡ cell + (N - 1) ^ (count (get_or sets j 0) - 1) * count (get_or sets j 0)
       → Fetched sum N K S wanted server key sets firsts answers start here query done next (j + 1)
   unfolding summed
@@ -164,22 +164,22 @@ module _ {sum : Sum} {N K S wanted server : ℕ} {key sets firsts answers start 
     held = fetched.held;
     within = omega (arith, more-sets);
     long = long ∙ fetched.long;
-    cell-is = rw next-sets (omega (arith, cells_are, fetched.cell-is, sum-append (cells_of N) (take j (allSets K)) (A ∷ [])));
+    cell-is = rw next-sets (omega (arith, cells_are, fetched.cell-is, sum-append (cells_of N) (take j (all_sets K)) (A ∷ [])));
     near = omega (arith, cells_are, few-cells, fetched.near);
     written =
         e
-        ∙ ap₂ layAll set-parts fetched.written
-        ∙ sym (assemble-append lay (parts_of sum N K S wanted server key answers (take j (allSets K)))
-        (cond (has wanted A) (partsOfSet sum N K S wanted server key answers A) []) start)
-        ∙ ap (λ (l : List (ℕ × List ℕ)). layAll l start)
-        (sym (ap (parts_of sum N K S wanted server key answers) next-sets ∙ parts_more sum N K S wanted server key answers (take j (allSets K)) A));
+        ∙ ap₂ lay_all set-parts fetched.written
+        ∙ sym (assemble-append lay (parts_of sum N K S wanted server key answers (take j (all_sets K)))
+        (cond (has wanted A) (parts_of_set sum N K S wanted server key answers A) []) start)
+        ∙ ap (λ (l : List (ℕ × List ℕ)). lay_all l start)
+        (sym (ap (parts_of sum N K S wanted server key answers) next-sets ∙ parts_more sum N K S wanted server key answers (take j (all_sets K)) A));
   }
 
 pub fetched-done : {sum : Sum} {N K S wanted server : ℕ} {key sets firsts answers start : List ℕ} {here : ServerRows} {query message : List ℕ} {cell j : ℕ}
     → Fetched sum N K S wanted server key sets firsts answers start here query message cell j → length sets ≤ j
-    → message ≡ layAll (serverParts sum N K S wanted key (answersIn (evenScheme sum N K S) N wanted key answers) server) start
+    → message ≡ lay_all (server_parts sum N K S wanted key (answers_in (even_scheme sum N K S) N wanted key answers) server) start
 fetched-done {sum} {N} {K} {S} {wanted} {server} {key} {sets} {answers} {start} {j} fetched end =
-    let all : length (allSets K) ≤ j = omega (arith, ap length fetched.sets-are, length-map (allSets K) byte_of) in
+    let all : length (all_sets K) ≤ j = omega (arith, ap length fetched.sets-are, length-map (all_sets K) byte_of) in
     fetched.written
-    ∙ ap (λ (l : List (List Bool)). layAll (parts_of sum N K S wanted server key answers l) start) (take_all j (allSets K) all)
-    ∙ ap (λ (l : List (ℕ × List ℕ)). layAll l start) (parts_all sum N K S wanted server key answers)
+    ∙ ap (λ (l : List (List Bool)). lay_all (parts_of sum N K S wanted server key answers l) start) (take_all j (all_sets K) all)
+    ∙ ap (λ (l : List (ℕ × List ℕ)). lay_all l start) (parts_all sum N K S wanted server key answers)

@@ -1,5 +1,5 @@
 -- The rows that recovery reads are in the answer buffer (`row_inside`): a group's own rows (`own-row`), and those that they are joined
--- from (`source_row`, `joined-row`).
+-- from (`source_row_lem`, `joined-row`).
 use Prim.Native.Nat.{ℕ, ◌+◌, ◌-◌, ◌*◌, ◌/◌, ◌%◌, ◌≤◌, ◌<◌}
 use native.Mathlib.Nat.{mul-le-mul, mul-le-mul_right, suc-mul, mul-zero, mod-lt, div-lt_iff_lt-mul}
 use native.Mathlib.Decide.{dec_lt}
@@ -16,7 +16,7 @@ use Rattle.even_places.specs.Rule.{others}
 use Rattle.even_places.proofs.Others.{others-length, others_below}
 use Rattle.even_recover.specs.declared.ServerRows.{ServerRows}
 use Rattle.even_recover.specs.declared.Group.{Group}
-use Rattle.even_recover.specs.Rows.{own_row, joinedFrom, Bounded, Held, Grouped}
+use Rattle.even_recover.specs.Rows.{own_row, joined_from, Bounded, Held, Grouped}
 
 -- row x of the answer buffer is one of the servers' rows, and its number is small
 pub record RowAt (here : ServerRows) (x : ℕ) : Type 0 where
@@ -44,8 +44,8 @@ module _ (here : ServerRows) (group : Group) (i : ℕ) (bounded : Bounded here) 
     pub turn : i / group.each < here.servers - 1
     pub source : RowAt here (get_or (others here.servers here.server) (i / group.each) 0 * here.rows + (group.source + i % group.each))
 
-  pub source_row : group.messages ≢ 1 → Source
-  source_row joined =
+  pub source_row_lem : group.messages ≢ 1 → Source
+  source_row_lem joined =
       let turns = grouped.turns joined in
       let some-each : 0 < group.each = positive (dec_lt 0 group.each) in
       let turn : i / group.each < here.servers - 1 = (div-lt_iff_lt-mul some-each).1 (omega arith) in
@@ -66,12 +66,12 @@ module _ (here : ServerRows) (group : Group) (i : ℕ) (bounded : Bounded here) 
           let nothing : (here.servers - 1) * group.each ≡ 0 = ap (λ (e : ℕ). (here.servers - 1) * e) none ∙ mul-zero (here.servers - 1) in
           absurd (let w : ⊥ = omega (arith, grouped.turns joined) in w)
 
-  pub joined-row : RowAt here (joinedFrom here group i)
-  unfolding joinedFrom
+  pub joined-row : RowAt here (joined_from here group i)
+  unfolding joined_from
   joined-row = go (eqb group.messages 1) refl
     where
       go : (t : Bool) → eqb group.messages 1 ≡ t
           → RowAt here (cond t (own_row here group i)
           (get_or (others here.servers here.server) (i / group.each) 0 * here.rows + (group.source + i % group.each)))
       go true e = own-row
-      go false e = (source_row (eqb-false group.messages 1 e)).source
+      go false e = (source_row_lem (eqb-false group.messages 1 e)).source

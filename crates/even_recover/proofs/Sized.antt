@@ -3,9 +3,9 @@ use Prim.Native.Nat.{ℕ, suc, ◌-◌, ◌*◌, ◌/◌, ◌^◌, ◌≤◌, �
 use native.Mathlib.Nat.{one-le-pow, pow-le-pow_right, pow-suc, div-le_self, mul-le-mul_left, mul-le-mul_right, le-mul_of_pos_right}
 use native.Mathlib.Omega.{arith}
 use mathlib.Core.Path.{◌≡◌, ap, ◌∙◌}
-use Rattle.parameters.specs.Measures.{evenRows}
+use Rattle.parameters.specs.Measures.{even_rows}
 use Rattle.parameters.proofs.Bounds.{EvenBounds}
-use Rattle.even_places.specs.Rule.{rowCount}
+use Rattle.even_places.specs.Rule.{row_count}
 use Rattle.even_places.proofs.Counts.{row-count-is, row-count-product}
 
 pub record Sized (N K wanted : ℕ) : Type 0 where
@@ -15,10 +15,10 @@ pub record Sized (N K wanted : ℕ) : Type 0 where
   pub query-high : K * N ^ (K - 1) ≤ 1024
   pub bit-low : 1 ≤ 2 ^ wanted
   pub bit_high : 2 ^ wanted ≤ 128
-  pub rows-high : evenRows N K ≤ 256
+  pub rows-high : even_rows N K ≤ 256
 
 pub sized : {N K S wanted : ℕ} → EvenBounds N K S → wanted < K → Sized N K wanted
-unfolding evenRows
+unfolding even_rows
 sized {N} {K} {S} {wanted} bounds known =
     let less : K - 1 ≤ K = omega arith in
     let whole : N ^ (K - 1) ≤ N ^ K = pow-le-pow_right {n = N} (omega (arith, bounds.servers-low)) less in
@@ -27,7 +27,7 @@ sized {N} {K} {S} {wanted} bounds known =
     let cells : K * N ^ (K - 1) ≤ 8 * N ^ (K - 1) = mul-le-mul_right (N ^ (K - 1)) bounds.messages-high in
     let seven : wanted ≤ 7 = omega (arith, bounds.messages-high) in
     let rest = div-le_self (N ^ (K - 1) - 1) (N - 1) in
-    let count = le-mul_of_pos_right {m = N - 1} (rowCount N K) (omega (arith, bounds.servers-low)) in
+    let count = le-mul_of_pos_right {m = N - 1} (row_count N K) (omega (arith, bounds.servers-low)) in
     record {
       whole-low = one-le-pow (K - 1) N (omega (arith, bounds.servers-low));
       whole-high = omega (arith, bounds.symbols-high);

@@ -10,42 +10,42 @@ use lib.ListN.{length, get_or, drop, length-append, get_or-append}
 use Rattle.lists.specs.Parts.{put}
 use Rattle.lists.specs.Sums.{keep, sum as summed}
 use Rattle.lists.proofs.Mapped.{mapped-length}
-use Rattle.parameters.specs.Bounds.{evenFits}
-use Rattle.parameters.specs.Measures.{evenRows}
+use Rattle.parameters.specs.Bounds.{even_fits}
+use Rattle.parameters.specs.Measures.{even_rows}
 use Rattle.parameters.proofs.Bounds.{EvenBounds, even-bounds}
 use Rattle.symbol.specs.Sum.{Sum}
-use Rattle.even_places.specs.Rule.{byte_of, allSets}
-use Rattle.lists.specs.Assembled.{assembleBy}
-use Rattle.even_scheme.specs.Even.{evenQuery}
-use Rattle.even_layout.specs.Layout.{firstRows, firstRowOf}
+use Rattle.even_places.specs.Rule.{byte_of, all_sets}
+use Rattle.lists.specs.Assembled.{assemble_by}
+use Rattle.even_scheme.specs.Even.{even_query}
+use Rattle.even_layout.specs.Layout.{first_rows, first_row_of}
 use Rattle.even_layout.proofs.Firsts.{first-rows-at}
 use Rattle.even_recover.specs.declared.ServerRows.{ServerRows}
-use Rattle.even_recover.specs.Rows.{serverRowsOf, Held}
+use Rattle.even_recover.specs.Rows.{server_rows_of, Held}
 use Rattle.even_recover.proofs.Groups.{Reads}
 use Rattle.even_recover.proofs.GroupParts.{HasQuery}
 use Rattle.even_recover.proofs.Sized.{sized}
 use Rattle.even_recover.proofs.Fetched.{Fetched, parts_of}
 
 -- a query written to the front of a buffer
-has-query : (N K wanted server : ℕ) (key query space : List ℕ) → query ≡ put 0 (evenQuery N K wanted server key) space
+has-query : (N K wanted server : ℕ) (key query space : List ℕ) → query ≡ put 0 (even_query N K wanted server key) space
     → HasQuery N K wanted server key query
 has-query N K wanted server key query space e =
-    let bytes = evenQuery N K wanted server key in
+    let bytes = even_query N K wanted server key in
     let rest = drop (length bytes) space in
     record {
       room = omega (arith, ap length e, length-append bytes rest);
       same = λ c h. ap (λ (l : List ℕ). get_or l c 0) e ∙ get_or-append bytes rest 0 c h;
     }
 
-pub firsts-length : (N K : ℕ) → length (firstRows N K) ≡ 256
-unfolding firstRows
-firsts-length N K = mapped-length (firstRowOf N K) 0 256
+pub firsts-length : (N K : ℕ) → length (first_rows N K) ≡ 256
+unfolding first_rows
+firsts-length N K = mapped-length (first_row_of N K) 0 256
 
-module _ (N K S wanted server : ℕ) (fits : evenFits N K S ≡ true) (wanted-known : wanted < K) (server-known : server < N) where
+module _ (N K S wanted server : ℕ) (fits : even_fits N K S ≡ true) (wanted-known : wanted < K) (server-known : server < N) where
   bounds : EvenBounds N K S
   bounds = even-bounds N K S fits
 
-  reads : (firsts : List ℕ) → firsts ≡ firstRows N K → Reads N K S wanted server firsts
+  reads : (firsts : List ℕ) → firsts ≡ first_rows N K → Reads N K S wanted server firsts
   reads firsts e = record {
     bounds = bounds;
     wanted-known = wanted-known;
@@ -53,7 +53,7 @@ module _ (N K S wanted server : ℕ) (fits : evenFits N K S ≡ true) (wanted-kn
     firsts-are = λ A good. ap (λ (l : List ℕ). get_or l (byte_of A) 0) e ∙ first-rows-at N K A bounds.messages-high good.long good.some;
   }
 
-  held : (answers : List ℕ) → N * (evenRows N K * S) ≤ length answers → Held (serverRowsOf N K S wanted server) answers
+  held : (answers : List ℕ) → N * (even_rows N K * S) ≤ length answers → Held (server_rows_of N K S wanted server) answers
   held answers h = record {
     bounded = record {
       known = server-known;
@@ -61,14 +61,14 @@ module _ (N K S wanted server : ℕ) (fits : evenFits N K S ≡ true) (wanted-kn
       short = (sized bounds wanted-known).rows-high;
       narrow = bounds.symbol_high;
     };
-    held = omega (arith, mul_assoc N (evenRows N K) S);
+    held = omega (arith, mul_assoc N (even_rows N K) S);
   }
 
   pub fetched-none : (sum : Sum) (key sets firsts answers start : List ℕ) (here : ServerRows) (query space : List ℕ)
-      → sets ≡ map byte_of (allSets K) → firsts ≡ firstRows N K → N * (evenRows N K * S) ≤ length answers
-      → here ≡ serverRowsOf N K S wanted server → query ≡ put 0 (evenQuery N K wanted server key) space
+      → sets ≡ map byte_of (all_sets K) → firsts ≡ first_rows N K → N * (even_rows N K * S) ≤ length answers
+      → here ≡ server_rows_of N K S wanted server → query ≡ put 0 (even_query N K wanted server key) space
       → Fetched sum N K S wanted server key sets firsts answers start here query start 0 0
-  unfolding summed parts_of keep flat_map assembleBy
+  unfolding summed parts_of keep flat_map assemble_by
   fetched-none sum key sets firsts answers start here query space sets-are firsts-are slots here-is query-is = record {
     reads = reads firsts firsts-are;
     asked = has-query N K wanted server key query space query-is;

@@ -1,42 +1,42 @@
 -- Recovery in the numbers that the code has in hand: the answer buffer as rows of symbols counted through, `rows` for each server,
--- and a set with the wanted message as a group of rows. `group-parts` shows that this is the scheme's `recoveredPart`.
+-- and a set with the wanted message as a group of rows. `group-parts` shows that this is the scheme's `recovered_part`.
 use Rattle.std.specs.Prelude.{ℕ, ◌+◌, ◌-◌, ◌*◌, ◌/◌, ◌%◌, ◌^◌, ◌≤◌, ◌<◌, ◌≡◌, ◌≢◌, cond, List, [], map, eqb, length, get_or}
 use Rattle.std.specs.Int.Count.{ones}
 use Rattle.lists.specs.Ranges.{range}
-use Rattle.parameters.specs.Measures.{evenRows}
+use Rattle.parameters.specs.Measures.{even_rows}
 use Rattle.symbol.specs.Sum.{Sum, symbol_at, less}
 use Rattle.even_places.specs.Rule.{others}
 use Rattle.even_recover.specs.declared.ServerRows.{ServerRows}
 use Rattle.even_recover.specs.declared.Group.{Group}
 
 -- what is the same for all rows of a server's query
-abbrev pub serverRowsOf : ℕ → ℕ → ℕ → ℕ → ℕ → ServerRows
-serverRowsOf N K S wanted server = record { servers = N; symbol = S; rows = evenRows N K; bit = 2 ^ wanted; server = server }
+abbrev pub server_rows_of : ℕ → ℕ → ℕ → ℕ → ℕ → ServerRows
+server_rows_of N K S wanted server = record { servers = N; symbol = S; rows = even_rows N K; bit = 2 ^ wanted; server = server }
 
 -- row i of a group, as a row of the answer buffer
 abbrev pub own_row : ServerRows → Group → ℕ → ℕ
 own_row here group i = here.server * here.rows + (group.first + i)
 
 -- the row of the answer buffer that it was joined from; the row itself, if the wanted message stands alone in it
-unfoldable pub joinedFrom : ServerRows → Group → ℕ → ℕ
-joinedFrom here group i =
+unfoldable pub joined_from : ServerRows → Group → ℕ → ℕ
+joined_from here group i =
     cond (eqb group.messages 1)
     (own_row here group i)
     (get_or (others here.servers here.server) (i / group.each) 0 * here.rows + (group.source + i % group.each))
 
 -- the symbol that it gives: the answer to it, less the answer to the row that it was joined from
-unfoldable pub groupSymbol : Sum → ServerRows → Group → List ℕ → ℕ → List ℕ
-groupSymbol sum here group answers i =
-    less sum (eqb group.messages 1) (symbol_at here.symbol answers (own_row here group i)) (symbol_at here.symbol answers (joinedFrom here group i))
+unfoldable pub group_symbol : Sum → ServerRows → Group → List ℕ → ℕ → List ℕ
+group_symbol sum here group answers i =
+    less sum (eqb group.messages 1) (symbol_at here.symbol answers (own_row here group i)) (symbol_at here.symbol answers (joined_from here group i))
 
 -- the part of the message that it gives: the query names the symbol's number
-unfoldable pub groupPart : Sum → ServerRows → Group → List ℕ → List ℕ → ℕ → ℕ × List ℕ
-groupPart sum here group query answers i =
-    (get_or query (group.cell + i * group.messages) 0 * here.symbol, groupSymbol sum here group answers i)
+unfoldable pub group_part : Sum → ServerRows → Group → List ℕ → List ℕ → ℕ → ℕ × List ℕ
+group_part sum here group query answers i =
+    (get_or query (group.cell + i * group.messages) 0 * here.symbol, group_symbol sum here group answers i)
 
 -- those of all its rows
-unfoldable pub groupParts : Sum → ServerRows → Group → List ℕ → List ℕ → List (ℕ × List ℕ)
-groupParts sum here group query answers = map (groupPart sum here group query answers) (range 0 group.count)
+unfoldable pub group_parts : Sum → ServerRows → Group → List ℕ → List ℕ → List (ℕ × List ℕ)
+group_parts sum here group query answers = map (group_part sum here group query answers) (range 0 group.count)
 
 -- the group of a set with the wanted message, whose first row begins at a cell of the query
 unfoldable pub group_of : ServerRows → ℕ → ℕ → List ℕ → Group
@@ -50,9 +50,9 @@ group_of here set cell firsts = record {
 }
 
 -- what the rows of a set give: nothing, if it is without the wanted message
-unfoldable pub setParts : Sum → ServerRows → ℕ → ℕ → List ℕ → List ℕ → List ℕ → List (ℕ × List ℕ)
-setParts sum here set cell firsts query answers =
-    cond (eqb (set / here.bit % 2) 1) (groupParts sum here (group_of here set cell firsts) query answers) []
+unfoldable pub set_parts : Sum → ServerRows → ℕ → ℕ → List ℕ → List ℕ → List ℕ → List (ℕ × List ℕ)
+set_parts sum here set cell firsts query answers =
+    cond (eqb (set / here.bit % 2) 1) (group_parts sum here (group_of here set cell firsts) query answers) []
 
 -- a set with the wanted message has rows, and a table the first of them; its first cell is near
 pub record Given (here : ServerRows) (set cell : ℕ) (firsts : List ℕ) : Type 0 where

@@ -1,15 +1,15 @@
 // Recovery of the even code (01: 'Even code', recovery): the wanted message from the answers of all servers.
 ghost use Rattle.std.specs.Prelude.{◌≡◌, true, map, ◌*◌, ◌/◌, ◌%◌, ◌^◌, ◌≤◌, ◌<◌, length};
 ghost use Rattle.lists.specs.Parts.{lay};
-ghost use Rattle.lists.specs.Assembled.{layAll};
+ghost use Rattle.lists.specs.Assembled.{lay_all};
 ghost use Rattle.symbol.specs.Operations.{sum_of};
-ghost use Rattle.parameters.specs.Bounds.{evenFits};
-ghost use Rattle.parameters.specs.Measures.{evenRows, evenSizes};
-ghost use Rattle.scheme.specs.Scheme.{Valid, answersIn, recoverIn};
-ghost use Rattle.even_places.specs.Rule.{byte_of, allSets};
-ghost use Rattle.even_scheme.specs.Even.{serverParts, evenScheme};
-ghost use Rattle.even_layout.specs.Layout.{firstRows};
-ghost use Rattle.even_recover.specs.Rows.{serverRowsOf, groupParts, group_of, setParts, Given, Held, Grouped, Named, Ready};
+ghost use Rattle.parameters.specs.Bounds.{even_fits};
+ghost use Rattle.parameters.specs.Measures.{even_rows, even_sizes};
+ghost use Rattle.scheme.specs.Scheme.{Valid, answers_in, recover_in};
+ghost use Rattle.even_places.specs.Rule.{byte_of, all_sets};
+ghost use Rattle.even_scheme.specs.Even.{server_parts, even_scheme};
+ghost use Rattle.even_layout.specs.Layout.{first_rows};
+ghost use Rattle.even_recover.specs.Rows.{server_rows_of, group_parts, group_of, set_parts, Given, Held, Grouped, Named, Ready};
 
 use symbol::Operation;
 
@@ -60,7 +60,7 @@ fn from_group(
     requires held { Held here answers.now }
     requires grouped { Grouped here group }
     requires named { Named group query.now }
-    ensures { message.new ≡ layAll (groupParts (sum_of op) here group query.now answers.now) message.old }
+    ensures { message.new ≡ lay_all (group_parts (sum_of op) here group query.now answers.now) message.old }
 {
     let count = group.count;
     let mut cell = group.cell;
@@ -104,7 +104,7 @@ fn from_set(
     requires held { Held here answers.now }
     requires ready { set / here.bit % 2 ≡ 1 → Ready here set cell firsts.now query.now }
     ensures { message.new
-        ≡ layAll (setParts (sum_of op) here set cell firsts.now query.now answers.now) message.old }
+        ≡ lay_all (set_parts (sum_of op) here set cell firsts.now query.now answers.now) message.old }
 {
     if set / here.bit % 2 == 1 {
         from_group(
@@ -120,9 +120,9 @@ fn from_set(
 
 // What is the same for all rows of a server's query.
 fn server_rows_of(n: usize, k: usize, s: usize, wanted: usize, server: usize) -> ServerRows
-    requires s_value { evenFits n k s ≡ true }
+    requires s_value { even_fits n k s ≡ true }
     requires wanted_lt_k { wanted < k }
-    ensures { result ≡ serverRowsOf n k s wanted server }
+    ensures { result ≡ server_rows_of n k s wanted server }
 {
     let whole = parameters::power(n, k - 1);
     ServerRows {
@@ -148,14 +148,14 @@ fn from_server(
     answers: &[u8],
     message: &mut [u8],
 )
-    requires s_value { evenFits n k s ≡ true }
+    requires s_value { even_fits n k s ≡ true }
     requires wanted_lt_k { (wanted < k) × (server < n) }
     requires key_len { length key.now ≡ k * n ^ k }
-    requires sets_value { (sets.now ≡ map byte_of (allSets k)) × (firsts.now ≡ firstRows n k) }
-    requires s_in_bounds { n * (evenRows n k * s) ≤ length answers.now }
+    requires sets_value { (sets.now ≡ map byte_of (all_sets k)) × (firsts.now ≡ first_rows n k) }
+    requires s_in_bounds { n * (even_rows n k * s) ≤ length answers.now }
     ensures { message.new
-        ≡ layAll (serverParts (sum_of op) n k s wanted key.now
-        (answersIn (evenScheme (sum_of op) n k s) n wanted key.now answers.now) server) message.old }
+        ≡ lay_all (server_parts (sum_of op) n k s wanted key.now
+        (answers_in (even_scheme (sum_of op) n k s) n wanted key.now answers.now) server) message.old }
 {
     let here = server_rows_of(n, k, s, wanted, server);
     let mut asked = [0u8; 1024];
@@ -181,12 +181,12 @@ pub fn recover(
     answers: &[u8],
     message: &mut [u8],
 )
-    requires s_value { evenFits n k s ≡ true }
+    requires s_value { even_fits n k s ≡ true }
     requires wanted_lt_k { wanted < k }
-    requires valid { Valid (evenScheme (sum_of op) n k s) key.now }
-    requires s_in_bounds { n * (evenSizes n k s).slot ≤ length answers.now }
+    requires valid { Valid (even_scheme (sum_of op) n k s) key.now }
+    requires s_in_bounds { n * (even_sizes n k s).slot ≤ length answers.now }
     ensures { message.new
-        ≡ lay 0 (recoverIn (evenScheme (sum_of op) n k s) n wanted key.now answers.now) message.old }
+        ≡ lay 0 (recover_in (even_scheme (sum_of op) n k s) n wanted key.now answers.now) message.old }
 {
     let sets = even_sets::ordered_sets(k);
     let count = parameters::power(2, k) - 1;

@@ -2,7 +2,7 @@
 ghost use Rattle.std.specs.Prelude.{◌≡◌, ◌*◌, ◌≤◌, ◌<◌};
 ghost use Rattle.lists.specs.Parts.{lay};
 ghost use Rattle.symbol.specs.Operations.{sum_of};
-ghost use Rattle.even_recover.specs.Rows.{joinedFrom, groupSymbol, Bounded, Held, Grouped};
+ghost use Rattle.even_recover.specs.Rows.{joined_from, group_symbol, Bounded, Held, Grouped};
 
 use crate::{Group, ServerRows};
 use symbol::Operation;
@@ -12,7 +12,7 @@ fn joined_from(here: ServerRows, group: Group, i: usize) -> usize
     requires bounded { Bounded here }
     requires grouped { Grouped here group }
     requires i_lt_count { i < group.count }
-    ensures { result ≡ joinedFrom here group i }
+    ensures { result ≡ joined_from here group i }
 {
     if group.messages == 1 {
         return here.server * here.rows + (group.first + i);
@@ -36,7 +36,7 @@ pub fn from_row(
     requires grouped { Grouped here group }
     requires i_lt_count { i < group.count }
     requires number_bound { number ≤ 255 }
-    ensures { message.new ≡ lay (number * here.symbol) (groupSymbol (sum_of op) here group answers.now i) message.old }
+    ensures { message.new ≡ lay (number * here.symbol) (group_symbol (sum_of op) here group answers.now i) message.old }
 {
     let size = here.symbol;
     let own = (here.server * here.rows + (group.first + i)) * size;

@@ -9,44 +9,44 @@ use lib.Dec.{eqb}
 use lib.ListN.{length, drop}
 use Rattle.lists.specs.Below.{Below}
 use Rattle.lists.specs.Pairs.{under}
-use Rattle.lists.specs.Sums.{bit, keep, sum, All, allNil, allCons}
+use Rattle.lists.specs.Sums.{bit, keep, sum, All, all_nil, all_cons}
 use Rattle.lists.proofs.Below.{below-drop}
 use Rattle.lists.proofs.Bits.{bit-small}
 use Rattle.lists.proofs.Distinct.{times, stands-times}
 use Rattle.lists.specs.Distinct.{stands}
 use Rattle.lists.proofs.Pairs.{under-cons, zip-append}
 use Rattle.lists.proofs.Sums.{sum-append}
-use Rattle.parameters.specs.Measures.{evenSizes}
+use Rattle.parameters.specs.Measures.{even_sizes}
 use Rattle.symbol.specs.Sum.{Sum, total}
 use Rattle.even_places.specs.Rule.{ones_in, members, layout, positions}
 use Rattle.even_places.proofs.AllSets.{layout-long}
 use Rattle.even_places.proofs.Positions.{members-below, members-length}
-use Rattle.even_scheme.specs.Even.{numbersOf, symbol_of, rowAnswer, rowAnswers, evenAdmits, evenAnswer, evenScheme}
+use Rattle.even_scheme.specs.Even.{numbers_of, symbol_of, row_answer, row_answers, even_admits, even_answer, even_scheme}
 use Rattle.even_scheme.proofs.Answers.{layout-length}
 use Rattle.even_scheme.proofs.Reach.{admitted}
-use Rattle.scheme.specs.Asked.{Cell, cellSymbol, rowsTotal, rowsAnswer, isCell, timesIn}
-use Rattle.even_scheme.specs.Asked.{setRows, layoutRows}
+use Rattle.scheme.specs.Asked.{Cell, cell_symbol, rows_total, rows_answer, is_cell, times_in}
+use Rattle.even_scheme.specs.Asked.{set_rows, layout_rows}
 use Rattle.scheme.specs.Asks.{CellIn, Asks}
 
 module _ (by : Sum) (N K S : ℕ) (store : List ℕ) where
-  cells-named : (ps query : List ℕ) → zip_with (symbol_of by N K S store) ps query ≡ map (cellSymbol (N ^ K) S store) (zip ps query)
+  cells-named : (ps query : List ℕ) → zip_with (symbol_of by N K S store) ps query ≡ map (cell_symbol (N ^ K) S store) (zip ps query)
   unfolding zip zip_with symbol_of
   cells-named [] query = refl
   cells-named (p ∷ ps) [] = refl
-  cells-named (p ∷ ps) (i ∷ query) = ap (λ (xs : List (List ℕ)). cellSymbol (N ^ K) S store (p, i) ∷ xs) (cells-named ps query)
+  cells-named (p ∷ ps) (i ∷ query) = ap (λ (xs : List (List ℕ)). cell_symbol (N ^ K) S store (p, i) ∷ xs) (cells-named ps query)
 
-  sets-answered : (sets : List (List Bool)) (query : List ℕ) → rowAnswers by N K S store sets query ≡ rowsAnswer by (N ^ K) S store (setRows sets query)
-  unfolding rowAnswers rowAnswer rowsTotal flat_map setRows
+  sets-answered : (sets : List (List Bool)) (query : List ℕ) → row_answers by N K S store sets query ≡ rows_answer by (N ^ K) S store (set_rows sets query)
+  unfolding row_answers row_answer rows_total flat_map set_rows
   sets-answered [] query = refl
   sets-answered (A ∷ sets) query =
       ap₂ (λ (x y : List ℕ). x ++ y) (ap (total by S) (cells-named (members 0 A) query)) (sets-answered sets (drop (ones_in A) query))
 
-  even-answered : (query : List ℕ) → evenAnswer by N K S store query ≡ rowsAnswer by (N ^ K) S store (layoutRows N K query)
-  unfolding evenAnswer
+  even-answered : (query : List ℕ) → even_answer by N K S store query ≡ rows_answer by (N ^ K) S store (layout_rows N K query)
+  unfolding even_answer
   even-answered query = sets-answered (layout N K) query
 
-pub sets-many : (sets : List (List Bool)) (query : List ℕ) → length (setRows sets query) ≡ length sets
-unfolding setRows
+pub sets-many : (sets : List (List Bool)) (query : List ℕ) → length (set_rows sets query) ≡ length sets
+unfolding set_rows
 sets-many [] query = refl
 sets-many (A ∷ sets) query = ap suc (sets-many sets (drop (ones_in A) query))
 
@@ -55,57 +55,57 @@ sets-many (A ∷ sets) query = ap suc (sets-many sets (drop (ones_in A) query))
 module _ (K symbols : ℕ) where
   zip-inside : {ps : List ℕ} → All (λ p. p < K) ps → (query : List ℕ) → Below symbols query → All (CellIn K symbols) (zip ps query)
   unfolding zip zip_with
-  zip-inside allNil query b = allNil
-  zip-inside (allCons h a) [] b = allNil
-  zip-inside (allCons h a) (i ∷ query) b =
-      allCons (record { message = h; symbol = b 0 (omega arith) }) (zip-inside a query (λ j l. b (suc j) (omega arith)))
+  zip-inside all_nil query b = all_nil
+  zip-inside (all_cons h a) [] b = all_nil
+  zip-inside (all_cons h a) (i ∷ query) b =
+      all_cons (record { message = h; symbol = b 0 (omega arith) }) (zip-inside a query (λ j l. b (suc j) (omega arith)))
 
   sets-inside : {sets : List (List Bool)} → All (λ A. length A ≡ K) sets → (query : List ℕ) → Below symbols query
-      → All (All (CellIn K symbols)) (setRows sets query)
-  unfolding setRows
-  sets-inside allNil query b = allNil
-  sets-inside (allCons {x = A} {xs = sets} h a) query b =
-      allCons (zip-inside (members-below K 0 A (omega arith)) query b) (sets-inside a (drop (ones_in A) query) (below-drop symbols (ones_in A) query b))
+      → All (All (CellIn K symbols)) (set_rows sets query)
+  unfolding set_rows
+  sets-inside all_nil query b = all_nil
+  sets-inside (all_cons {x = A} {xs = sets} h a) query b =
+      all_cons (zip-inside (members-below K 0 A (omega arith)) query b) (sets-inside a (drop (ones_in A) query) (below-drop symbols (ones_in A) query b))
 
 -- ---- How often a symbol is named
 
 module _ (p i : ℕ) where
   -- the rows' cells one after another are the query's numbers with the messages that they are of
-  sets-times : (sets : List (List Bool)) (query : List ℕ) → sum (timesIn p i) (setRows sets query) ≡ timesIn p i (zip (flat_map (members 0) sets) query)
-  unfolding setRows sum timesIn flat_map zip zip_with
+  sets-times : (sets : List (List Bool)) (query : List ℕ) → sum (times_in p i) (set_rows sets query) ≡ times_in p i (zip (flat_map (members 0) sets) query)
+  unfolding set_rows sum times_in flat_map zip zip_with
   sets-times [] query = refl
   sets-times (A ∷ sets) query =
       let rest = drop (length (members 0 A)) query in
-      let one : Cell → ℕ = λ cell. bit (isCell p i cell) in
-      let ih : sum (timesIn p i) (setRows sets (drop (ones_in A) query)) ≡ timesIn p i (zip (flat_map (members 0) sets) rest) =
-      sets-times sets (drop (ones_in A) query) ∙ ap (λ (n : ℕ). timesIn p i (zip (flat_map (members 0) sets) (drop n query))) (sym (members-length 0 A)) in
-      ap (λ (n : ℕ). timesIn p i (zip (members 0 A) query) + n) ih
+      let one : Cell → ℕ = λ cell. bit (is_cell p i cell) in
+      let ih : sum (times_in p i) (set_rows sets (drop (ones_in A) query)) ≡ times_in p i (zip (flat_map (members 0) sets) rest) =
+      sets-times sets (drop (ones_in A) query) ∙ ap (λ (n : ℕ). times_in p i (zip (flat_map (members 0) sets) (drop n query))) (sym (members-length 0 A)) in
+      ap (λ (n : ℕ). times_in p i (zip (members 0 A) query) + n) ih
       ∙ sym (sum-append one (zip (members 0 A) query) (zip (flat_map (members 0) sets) rest))
       ∙ ap (sum one) (sym (zip-append (members 0 A) (flat_map (members 0) sets) query))
 
-  times-under : (cells : List Cell) → timesIn p i cells ≡ times i (under p cells)
-  unfolding timesIn times sum under keep bit
+  times-under : (cells : List Cell) → times_in p i cells ≡ times i (under p cells)
+  unfolding times_in times sum under keep bit
   times-under [] = refl
   times-under ((q, k) ∷ cells) = go (eqb q p) (times-under cells) ∙ sym (ap (times i) (under-cons p q k cells))
     where
-      go : (t : Bool) → timesIn p i cells ≡ times i (under p cells)
-          → bit (t && eqb k i) + timesIn p i cells ≡ times i (cond t (k ∷ under p cells) (under p cells))
+      go : (t : Bool) → times_in p i cells ≡ times i (under p cells)
+          → bit (t && eqb k i) + times_in p i cells ≡ times i (cond t (k ∷ under p cells) (under p cells))
       go true ih = omega (arith, ih)
       go false ih = omega (arith, ih)
 
-even-once : (N K server : ℕ) (query : List ℕ) → evenAdmits N K server query ≡ true → (p i : ℕ) → p < K → sum (timesIn p i) (layoutRows N K query) ≤ 1
-unfolding numbersOf positions
+even-once : (N K server : ℕ) (query : List ℕ) → even_admits N K server query ≡ true → (p i : ℕ) → p < K → sum (times_in p i) (layout_rows N K query) ≤ 1
+unfolding numbers_of positions
 even-once N K server query a p i h =
     omega (
       arith,
       sets-times p i (layout N K) query,
       times-under p i (zip (positions N K) query),
-      stands-times i (numbersOf N K p query) ((admitted N K server query a).apart p h),
-      bit-small (stands i (numbersOf N K p query)),
+      stands-times i (numbers_of N K p query) ((admitted N K server query a).apart p h),
+      bit-small (stands i (numbers_of N K p query)),
     )
 
-pub even-asks : (by : Sum) (N K S : ℕ) → 1 < N → 0 < K → Asks by K S (evenScheme by N K S) (layoutRows N K)
-unfolding evenSizes
+pub even-asks : (by : Sum) (N K S : ℕ) → 1 < N → 0 < K → Asks by K S (even_scheme by N K S) (layout_rows N K)
+unfolding even_sizes
 even-asks by N K S wide some = record {
   store-whole = sym (mul_assoc K (N ^ K) S);
   answers = even-answered by N K S;

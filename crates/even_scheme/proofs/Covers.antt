@@ -19,7 +19,7 @@ use Rattle.scheme.specs.Scheme.{Valid}
 use Rattle.even_places.specs.Rule.{has, ones_in}
 use Rattle.even_places.proofs.RowNumbers.{WantedRow}
 use Rattle.even_places.proofs.AllSets.{IsSet, all-sets}
-use Rattle.even_scheme.specs.Even.{entry_at, recoveredSymbol, wantedPlace, recoveredPart, serverParts, recoveredParts, evenScheme}
+use Rattle.even_scheme.specs.Even.{entry_at, recovered_symbol, wanted_place, recovered_part, server_parts, recovered_parts, even_scheme}
 use Rattle.lists.specs.Assembled.{Part}
 use Rattle.lists.proofs.Assembled.{PartWithin, Covers}
 use Rattle.even_scheme.proofs.Once.{symbols-once}
@@ -27,44 +27,44 @@ use Rattle.even_scheme.proofs.Symbols.{number-below}
 
 module _ (sum : Sum) (N K S k : ℕ) (key : List ℕ) (answers : List (List ℕ)) where
   part : ℕ → List Bool → ℕ → Part
-  part n A i = recoveredPart sum N K S k key answers n A i
+  part n A i = recovered_part sum N K S k key answers n A i
 
-  setParts : ℕ → List Bool → List Part
-  setParts n A = map (part n A) (range 0 ((N - 1) ^ (ones_in A - 1)))
+  set_parts : ℕ → List Bool → List Part
+  set_parts n A = map (part n A) (range 0 ((N - 1) ^ (ones_in A - 1)))
 
   -- what holds of the part of each row with the wanted message holds of each part
-  pub each_part : {P : Part → Type 0} → ((n : ℕ) (A : List Bool) (i : ℕ) → WantedRow N K k n A i → P (recoveredPart sum N K S k key answers n A i))
-      → All P (recoveredParts sum N K S k key answers)
-  unfolding recoveredParts serverParts part setParts
+  pub each_part : {P : Part → Type 0} → ((n : ℕ) (A : List Bool) (i : ℕ) → WantedRow N K k n A i → P (recovered_part sum N K S k key answers n A i))
+      → All P (recovered_parts sum N K S k key answers)
+  unfolding recovered_parts server_parts part set_parts
   each_part {P} p =
-      All-flatMap (serverParts sum N K S k key answers)
-      (All-range N (λ n l. All-flatMap (setParts n) (All-imp (λ A h. of-set n l A h.0 h.1) (All-keep (has k) (all-sets K)))))
+      All-flatMap (server_parts sum N K S k key answers)
+      (All-range N (λ n l. All-flatMap (set_parts n) (All-imp (λ A h. of-set n l A h.0 h.1) (All-keep (has k) (all-sets K)))))
     where
-      of-set : (n : ℕ) → n < N → (A : List Bool) → IsSet K A → has k A ≡ true → All P (setParts n A)
+      of-set : (n : ℕ) → n < N → (A : List Bool) → IsSet K A → has k A ≡ true → All P (set_parts n A)
       of-set n l A good in-set =
           All-map (part n A)
           (All-range ((N - 1) ^ (ones_in A - 1)) (λ i h. p n A i (record { server-below = l; set-good = good; in-set = in-set; row_below = h })))
 
 -- each recovered symbol has its length
 abbrev pub Whole : Sum → ℕ → ℕ → ℕ → ℕ → List (List ℕ) → Type 0
-Whole sum N K S k answers = (n : ℕ) (A : List Bool) (i : ℕ) → WantedRow N K k n A i → length (recoveredSymbol sum N K S k answers n A i) ≡ S
+Whole sum N K S k answers = (n : ℕ) (A : List Bool) (i : ℕ) → WantedRow N K k n A i → length (recovered_symbol sum N K S k answers n A i) ≡ S
 
-module _ (sum : Sum) (N K S k : ℕ) (key : List ℕ) (answers : List (List ℕ)) (wide : 1 < N) (known : k < K) (valid : Valid (evenScheme sum N K S) key)
+module _ (sum : Sum) (N K S k : ℕ) (key : List ℕ) (answers : List (List ℕ)) (wide : 1 < N) (known : k < K) (valid : Valid (even_scheme sum N K S) key)
     (whole : Whole sum N K S k answers) where
-  pub parts_within : All (PartWithin (N ^ K * S)) (recoveredParts sum N K S k key answers)
-  unfolding recoveredPart
+  pub parts_within : All (PartWithin (N ^ K * S)) (recovered_parts sum N K S k key answers)
+  unfolding recovered_part
   parts_within = each_part sum N K S k key answers (λ n A i wanted.
-      let number = entry_at N K key k (wantedPlace sum N K S k n A i) in
-      let below : number < N ^ K = number-below N K key k (wantedPlace sum N K S k n A i) valid.good known (one-le-pow K N (omega arith)) in
+      let number = entry_at N K key k (wanted_place sum N K S k n A i) in
+      let below : number < N ^ K = number-below N K key k (wanted_place sum N K S k n A i) valid.good known (one-le-pow K N (omega arith)) in
       omega (arith, whole n A i wanted, suc-mul number S, mul-le-mul_right S below))
 
   -- byte j lies in the part of symbol j / S
-  pub parts-cover : 0 < S → Covers (N ^ K * S) (recoveredParts sum N K S k key answers)
-  unfolding recoveredPart
+  pub parts-cover : 0 < S → Covers (N ^ K * S) (recovered_parts sum N K S k key answers)
+  unfolding recovered_part
   parts-cover sized j h = Any-at (0, []) parts i below (omega (arith, starts, whole-symbols), omega (arith, starts, long, whole-symbols, mod-lt j sized))
     where
       parts : List Part
-      parts = recoveredParts sum N K S k key answers
+      parts = recovered_parts sum N K S k key answers
 
       once : (numbers : List ℕ) × Permutation (N ^ K) numbers × (map (λ part. part.0) parts ≡ map (λ number. number * S) numbers)
       once = symbols-once sum N K S k key answers wide known valid

@@ -4,10 +4,10 @@ use mathlib.Core.Path.{◌≡◌, refl}
 use mathlib.Core.List.{List, [], ◌∷◌, map}
 use Prim.Native.Nat.{ℕ, suc, ◌-◌, ◌^◌}
 use Rattle.lists.specs.Ranges.{range}
-use Rattle.lists.specs.Sums.{All, allNil, allCons}
+use Rattle.lists.specs.Sums.{All, all_nil, all_cons}
 use Rattle.symbol.specs.Xor.{xor}
-use Rattle.even_places.specs.Rule.{members, queryCells, layout, positions}
-use Rattle.even_scheme.specs.Even.{permutation, entry_at, evenQuery, evenScheme}
+use Rattle.even_places.specs.Rule.{members, query_cells, layout, positions}
+use Rattle.even_scheme.specs.Even.{permutation, entry_at, even_query, even_scheme}
 use Rattle.even_scheme.proofs.Keys.{key_of}
 
 pub data Example : Type 0 where
@@ -22,7 +22,7 @@ abbrev plain : ℕ → ℕ → List ℕ
 plain N K = key_of K (λ p. range 0 (N ^ K))
 
 unfoldable pub Holds : Example → Type 0
-Holds (printed N K θ DB indices) = map (λ place. suc place) ((evenScheme xor N K 1).query (θ - 1) (DB - 1) (plain N K)) ≡ indices
+Holds (printed N K θ DB indices) = map (λ place. suc place) ((even_scheme xor N K 1).query (θ - 1) (DB - 1) (plain N K)) ≡ indices
 Holds (structure N K messages) = positions N K ≡ messages
 
 unfoldable pub table : List Example
@@ -48,14 +48,14 @@ table =
     ∷ []
 
 pub examples : All Holds table
-unfolding Holds table evenQuery entry_at permutation queryCells key_of range positions layout members
+unfolding Holds table even_query entry_at permutation query_cells key_of range positions layout members
 examples =
-    allCons refl
-    (allCons refl
-    (allCons refl
-    (allCons refl
-    (allCons refl
-    (allCons refl
-    (allCons refl
-    (allCons refl
-    (allCons refl (allCons refl (allCons refl (allCons refl (allCons refl (allCons refl (allCons refl allNil))))))))))))))
+    all_cons refl
+    (all_cons refl
+    (all_cons refl
+    (all_cons refl
+    (all_cons refl
+    (all_cons refl
+    (all_cons refl
+    (all_cons refl
+    (all_cons refl (all_cons refl (all_cons refl (all_cons refl (all_cons refl (all_cons refl (all_cons refl all_nil))))))))))))))

@@ -11,15 +11,15 @@ use Rattle.lists.specs.Below.{Below}
 use Rattle.lists.specs.Distinct.{distinct}
 use Rattle.lists.specs.Parts.{lay}
 use Rattle.lists.proofs.Completed.{completed-permutation}
-use Rattle.parameters.specs.Bounds.{evenFits}
+use Rattle.parameters.specs.Bounds.{even_fits}
 use Rattle.symbol.specs.Group.{AbelianGroup}
 use Rattle.symbol.specs.Sum.{Sum}
 use Rattle.scheme.specs.Laws.{Laws}
-use Rattle.scheme.specs.Scheme.{Valid, answersIn, recoverIn}
-use Rattle.lists.specs.Assembled.{layAll}
-use Rattle.even_scheme.specs.Even.{recoveredParts, evenScheme}
+use Rattle.scheme.specs.Scheme.{Valid, answers_in, recover_in}
+use Rattle.lists.specs.Assembled.{lay_all}
+use Rattle.even_scheme.specs.Even.{recovered_parts, even_scheme}
 use Rattle.even_scheme.proofs.Answers.{answer-length, answer-fits}
-use Rattle.even_scheme.proofs.Exchange.{evenExchange, moved-valid, moved_back, moved-shown}
+use Rattle.even_scheme.proofs.Exchange.{even_exchange, moved-valid, moved_back, moved-shown}
 use Rattle.even_scheme.proofs.Keys.{key_of, key-of-valid}
 use Rattle.even_scheme.proofs.Measures.{servers-some, servers-fit, key_fits, store-whole}
 use Rattle.even_scheme.proofs.Queries.{query-length, query-admitted}
@@ -33,7 +33,7 @@ none-distinct : distinct [] ≡ true
 unfolding distinct
 none-distinct = refl
 
-pub even-laws : (sum : Sum) (N K S : ℕ) → AbelianGroup sum S → evenFits N K S ≡ true → Laws N K (evenScheme sum N K S)
+pub even-laws : (sum : Sum) (N K S : ℕ) → AbelianGroup sum S → even_fits N K S ≡ true → Laws N K (even_scheme sum N K S)
 even-laws sum N K S group fits = record {
   servers-some = servers-some sum N K S fits;
   servers-fit = servers-fit sum N K S fits;
@@ -46,7 +46,7 @@ even-laws sum N K S group fits = record {
   answer-length = answer-length sum N K S group.plus-length fits;
   answer-fits = answer-fits sum N K S;
   recovers = recovers sum N K S group fits;
-  exchange = evenExchange N K;
+  exchange = even_exchange N K;
   exchange-valid = λ server wanted other key there known known' valid.
       moved-valid sum N K S fits server wanted server other key there known there known' valid;
   exchange-back = λ server wanted other key there known known' valid.
@@ -55,10 +55,10 @@ even-laws sum N K S group fits = record {
       moved-shown sum N K S fits server wanted server other key there known there known' valid;
 }
 
-pub even-written : (sum : Sum) (N K S : ℕ) → AbelianGroup sum S → evenFits N K S ≡ true → (wanted : ℕ) → wanted < K → (key : List ℕ)
-    → Valid (evenScheme sum N K S) key → (slots : List ℕ) → N * (evenScheme sum N K S).sizes.slot ≤ length slots
+pub even-written : (sum : Sum) (N K S : ℕ) → AbelianGroup sum S → even_fits N K S ≡ true → (wanted : ℕ) → wanted < K → (key : List ℕ)
+    → Valid (even_scheme sum N K S) key → (slots : List ℕ) → N * (even_scheme sum N K S).sizes.slot ≤ length slots
     → (buffer : List ℕ)
-    → layAll (recoveredParts sum N K S wanted key (answersIn (evenScheme sum N K S) N wanted key slots)) buffer
-    ≡ lay 0 (recoverIn (evenScheme sum N K S) N wanted key slots) buffer
+    → lay_all (recovered_parts sum N K S wanted key (answers_in (even_scheme sum N K S) N wanted key slots)) buffer
+    ≡ lay 0 (recover_in (even_scheme sum N K S) N wanted key slots) buffer
 even-written sum N K S group fits wanted known key valid slots enough buffer =
     slots-written sum N K S group.minus-length fits wanted known key valid slots enough buffer

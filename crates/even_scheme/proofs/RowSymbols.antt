@@ -9,12 +9,12 @@ use native.Mathlib.Omega.{arith}
 use lib.ListN.{length, get_or, set, length-append, length-map}
 use Rattle.lists.proofs.Each.{All-front, All-back, All-head, All-tail}
 use Rattle.symbol.specs.Group.{Symbols}
-use Rattle.symbol.specs.Sum.{Symbol, Sum, total, totalFrom}
+use Rattle.symbol.specs.Sum.{Symbol, Sum, total, total_from}
 use Rattle.symbol.proofs.Totals.{total-found}
 use Rattle.even_places.specs.Rule.{ones_in, Row, cells}
-use Rattle.even_places.proofs.SetLaws.{setOf, cells-length}
+use Rattle.even_places.proofs.SetLaws.{set_of, cells-length}
 use Rattle.even_scheme.specs.Even.{entry_at, symbol_of}
-use Rattle.even_scheme.proofs.HonestRows.{cellNumber, cellSymbol, rowTotal, Retrieval, row-symbols}
+use Rattle.even_scheme.proofs.HonestRows.{cell_number, cell_symbol, row_total, Retrieval, row-symbols}
 
 nothing : {x : ℕ} → none ≡ some x → ⊥
 nothing e = let z : ◌≡◌ {A = ℕ} 0 1 = cc in omega arith
@@ -62,7 +62,7 @@ module _ (sum : Sum) (N K S k : ℕ) (store key : List ℕ) (run : Retrieval sum
   around-wanted = around 0 k x r place
 
   named : ℕ × ℕ → List ℕ
-  named = cellSymbol sum N K S store key
+  named = cell_symbol sum N K S store key
 
   before : List (List ℕ)
   before = map named around-wanted.before
@@ -82,20 +82,20 @@ module _ (sum : Sum) (N K S k : ℕ) (store key : List ℕ) (run : Retrieval sum
       (All-front before (named (0 + k, x) ∷ after) all, All-head rest, All-tail rest)
 
   wanted-cell : named (0 + k, x) ≡ symbol_of sum N K S store k (entry_at N K key k x)
-  unfolding named cellSymbol cellNumber
+  unfolding named cell_symbol cell_number
   wanted-cell = ap (λ (p : ℕ). named (p, x)) (zero-add k)
 
   -- a row is one symbol more than the row without the wanted message
-  pub row_more : sum.minus (rowTotal sum N K S store key r) (rowTotal sum N K S store key (set r k none)) ≡ symbol_of sum N K S store k (entry_at N K key k x)
-  unfolding rowTotal named before after
+  pub row_more : sum.minus (row_total sum N K S store key r) (row_total sum N K S store key (set r k none)) ≡ symbol_of sum N K S store k (entry_at N K key k x)
+  unfolding row_total named before after
   row_more =
       rw (whole, ap (map named) around-wanted.without ∙ map-append named around-wanted.before around-wanted.after)
       (total-found sum S run.group parts.1 parts.0 parts.2)
       ∙ wanted-cell
 
   -- a row with the wanted message alone is its symbol
-  pub row-alone : ones_in (setOf r) ≡ 1 → rowTotal sum N K S store key r ≡ symbol_of sum N K S store k (entry_at N K key k x)
-  unfolding rowTotal named total totalFrom
+  pub row-alone : ones_in (set_of r) ≡ 1 → row_total sum N K S store key r ≡ symbol_of sum N K S store k (entry_at N K key k x)
+  unfolding row_total named total total_from
   row-alone one = ap (total sum S) whole ∙ go before after (sym (ap length whole) ∙ length-map (cells 0 r) named ∙ cells-length 0 r ∙ one) ∙ wanted-cell
     where
       go : (xs ys : List (List ℕ)) → length (xs ++ named (0 + k, x) ∷ ys) ≡ 1 → total sum S (xs ++ named (0 + k, x) ∷ ys) ≡ named (0 + k, x)

@@ -9,23 +9,23 @@ use native.Mathlib.Decide.{dec_lt}
 use native.Mathlib.Omega.{arith}
 use lib.ListN.{length, get_or, get_or-eq_default, drop}
 use Rattle.lists.specs.Below.{Below}
-use Rattle.lists.specs.Distinct.{isPermutation}
+use Rattle.lists.specs.Distinct.{is_permutation}
 use Rattle.lists.specs.Parts.{cut}
 use Rattle.lists.proofs.Arranged.{Permutation, permutation-facts}
 use Rattle.lists.proofs.Below.{below-take, below-drop}
 use Rattle.lists.proofs.Cuts.{cut-length, cut-cut}
 use Rattle.lists.proofs.Every.{every-at}
 use Rattle.symbol.specs.Sum.{Symbol, Sum}
-use Rattle.even_scheme.specs.Even.{permutation, entry_at, evenKeyGood, symbol_of}
+use Rattle.even_scheme.specs.Even.{permutation, entry_at, even_key_good, symbol_of}
 
 -- ---- The key's numbers
 
-pub number-below : (N K : ℕ) (key : List ℕ) (p place : ℕ) → evenKeyGood N K key ≡ true → p < K → 0 < N ^ K → entry_at N K key p place < N ^ K
-unfolding evenKeyGood entry_at
+pub number-below : (N K : ℕ) (key : List ℕ) (p place : ℕ) → even_key_good N K key ≡ true → p < K → 0 < N ^ K → entry_at N K key p place < N ^ K
+unfolding even_key_good entry_at
 number-below N K key p place good h some = go (dec_lt place (N ^ K))
   where
     numbers : Permutation (N ^ K) (permutation N K key p)
-    numbers = permutation-facts (N ^ K) (permutation N K key p) (every-at K (λ q. isPermutation (N ^ K) (permutation N K key q)) good p h)
+    numbers = permutation-facts (N ^ K) (permutation N K key p) (every-at K (λ q. is_permutation (N ^ K) (permutation N K key q)) good p h)
 
     go : Dec (place < N ^ K) → get_or (permutation N K key p) place 0 < N ^ K
     go (yes l) = numbers.low place l

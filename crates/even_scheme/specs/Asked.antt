@@ -5,9 +5,9 @@ use Rattle.scheme.specs.Asked.{Cell}
 use Rattle.even_places.specs.Rule.{ones_in, members, layout}
 
 -- each row has its set's messages, ascending, each with the next number of the query
-unfoldable pub setRows : List (List Bool) → List ℕ → List (List Cell)
-setRows [] query = []
-setRows (A ∷ sets) query = zip (members 0 A) query ∷ setRows sets (drop (ones_in A) query)
+unfoldable pub set_rows : List (List Bool) → List ℕ → List (List Cell)
+set_rows [] query = []
+set_rows (A ∷ sets) query = zip (members 0 A) query ∷ set_rows sets (drop (ones_in A) query)
 
-abbrev pub layoutRows : ℕ → ℕ → List ℕ → List (List Cell)
-layoutRows N K query = setRows (layout N K) query
+abbrev pub layout_rows : ℕ → ℕ → List ℕ → List (List Cell)
+layout_rows N K query = set_rows (layout N K) query

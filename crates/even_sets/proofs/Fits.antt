@@ -3,7 +3,7 @@
 use mathlib.Core.Path.{◌≡◌}
 use mathlib.Core.Bool.{true}
 use Prim.Native.Nat.{ℕ}
-use Rattle.parameters.specs.Bounds.{evenFits}
+use Rattle.parameters.specs.Bounds.{even_fits}
 use Rattle.parameters.proofs.Bounds.{EvenBounds, even-bounds}
 use Rattle.even_sets.specs.Sets.{LayoutBounds}
 
@@ -15,5 +15,5 @@ layout-bounds b = record {
   symbols-high = b.symbols-high;
 }
 
-pub layout-fits : (N K S : ℕ) → evenFits N K S ≡ true → LayoutBounds N K
+pub layout-fits : (N K S : ℕ) → even_fits N K S ≡ true → LayoutBounds N K
 layout-fits N K S e = layout-bounds (even-bounds N K S e)

@@ -10,25 +10,25 @@ use lib.Count.{ones as count}
 use lib.ListN.{length, get_or, length-map, get_or-append, get_or-map}
 use Rattle.lists.specs.Sums.{bit}
 use Rattle.lists.proofs.Each.{All-get}
-use Rattle.even_places.specs.Rule.{byte_of, ones_in, allSets}
+use Rattle.even_places.specs.Rule.{byte_of, ones_in, all_sets}
 use Rattle.even_places.proofs.AllSets.{IsSet, all-sets, ones-most}
 use Rattle.even_places.proofs.Bytes.{byte-ones, byte-below}
-use Rattle.even_sets.specs.Sets.{LayoutBounds, setIn, rows_of}
+use Rattle.even_sets.specs.Sets.{LayoutBounds, set_in, rows_of}
 
 -- a set's byte stands for it
-setIn-byte : (A : List Bool) → setIn (length A) (byte_of A) ≡ A
-unfolding setIn byte_of bit
-setIn-byte [] = refl
-setIn-byte (true ∷ A) = rw (digits_mod (byte_of A) {m = 2} {r = 1} (omega arith), digits_div (byte_of A) {m = 2} {r = 1} (omega arith), setIn-byte A)
-setIn-byte (false ∷ A) = rw (digits_mod (byte_of A) {m = 2} {r = 0} (omega arith), digits_div (byte_of A) {m = 2} {r = 0} (omega arith), setIn-byte A)
+set_in-byte : (A : List Bool) → set_in (length A) (byte_of A) ≡ A
+unfolding set_in byte_of bit
+set_in-byte [] = refl
+set_in-byte (true ∷ A) = rw (digits_mod (byte_of A) {m = 2} {r = 1} (omega arith), digits_div (byte_of A) {m = 2} {r = 1} (omega arith), set_in-byte A)
+set_in-byte (false ∷ A) = rw (digits_mod (byte_of A) {m = 2} {r = 0} (omega arith), digits_div (byte_of A) {m = 2} {r = 0} (omega arith), set_in-byte A)
 
-pub set-in : (K : ℕ) (A : List Bool) → length A ≡ K → setIn K (byte_of A) ≡ A
-set-in K A e = rw (← e) (setIn-byte A)
+pub set-in : (K : ℕ) (A : List Bool) → length A ≡ K → set_in K (byte_of A) ≡ A
+set-in K A e = rw (← e) (set_in-byte A)
 
-pub setIn-length : (K x : ℕ) → length (setIn K x) ≡ K
-unfolding setIn
-setIn-length zero x = refl
-setIn-length (suc K) x = ap suc (setIn-length K (x / 2))
+pub set_in-length : (K x : ℕ) → length (set_in K x) ≡ K
+unfolding set_in
+set_in-length zero x = refl
+set_in-length (suc K) x = ap suc (set_in-length K (x / 2))
 
 -- a set has no more rows than a message has symbols, and one at least
 module _ (N K : ℕ) (bounds : LayoutBounds N K) (A : List Bool) (s : IsSet K A) where
@@ -52,7 +52,7 @@ pub record SetByte (N K set : ℕ) (A : List Bool) : Type 0 where
   pub is : IsSet K A
   pub byte : set ≡ byte_of A
   pub small : set < 256
-  pub decoded : setIn K set ≡ A
+  pub decoded : set_in K set ≡ A
   pub counted : count set ≡ ones_in A
   pub some : 1 ≤ count set
   pub rows : (N - 1) ^ (count set - 1) ≡ rows_of N A
@@ -66,7 +66,7 @@ set-byte N K set A bounds s e =
       is = s;
       byte = e;
       small = omega (arith, rw s.long at (byte-below A), pow-le-pow_right {n = 2} (omega arith) {j = 8} bounds.messages-high);
-      decoded = ap (setIn K) e ∙ set-in K A s.long;
+      decoded = ap (set_in K) e ∙ set-in K A s.long;
       counted = ones-set;
       some = omega (arith, s.some);
       rows = ap (λ (n : ℕ). (N - 1) ^ (n - 1)) ones-set;
@@ -74,10 +74,10 @@ set-byte N K set A bounds s e =
     }
 
 -- the byte at index i of the sets in order, whatever follows them
-pub byte_at : (N K i : ℕ) (table more : List ℕ) → LayoutBounds N K → table ≡ map byte_of (allSets K) ++ more → i < length (allSets K)
-    → SetByte N K (get_or table i 0) (get_or (allSets K) i [])
+pub byte_at : (N K i : ℕ) (table more : List ℕ) → LayoutBounds N K → table ≡ map byte_of (all_sets K) ++ more → i < length (all_sets K)
+    → SetByte N K (get_or table i 0) (get_or (all_sets K) i [])
 unfolding byte_of
 byte_at N K i table more bounds e h =
-    let bytes = map byte_of (allSets K) in
-    set-byte N K (get_or table i 0) (get_or (allSets K) i []) bounds (All-get [] (all-sets K) i h)
-    (ap (λ (l : List ℕ). get_or l i 0) e ∙ get_or-append bytes more 0 i (omega (arith, length-map (allSets K) byte_of)) ∙ get_or-map byte_of (allSets K) i [])
+    let bytes = map byte_of (all_sets K) in
+    set-byte N K (get_or table i 0) (get_or (all_sets K) i []) bounds (All-get [] (all-sets K) i h)
+    (ap (λ (l : List ℕ). get_or l i 0) e ∙ get_or-append bytes more 0 i (omega (arith, length-map (all_sets K) byte_of)) ∙ get_or-map byte_of (all_sets K) i [])

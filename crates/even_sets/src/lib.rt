@@ -3,8 +3,8 @@
 ghost use Rattle.std.specs.Prelude.{◌≡◌, map, ◌-◌, ◌^◌, ◌≤◌, ◌<◌};
 ghost use Rattle.std.specs.Int.Count.{ones};
 ghost use Rattle.lists.specs.Padded.{padded};
-ghost use Rattle.even_places.specs.Rule.{byte_of, allSets};
-ghost use Rattle.even_sets.specs.Sets.{listedRows};
+ghost use Rattle.even_places.specs.Rule.{byte_of, all_sets};
+ghost use Rattle.even_sets.specs.Sets.{listed_rows};
 
 // The sets of an even query in order, for each number of messages up to 8: those of k messages stand from 2^k on, and the empty one after them.
 const SETS: [[u8; 8]; 64] = [
@@ -76,7 +76,7 @@ const SETS: [[u8; 8]; 64] = [
 
 // The table, in rows of eight.
 fn listed_sets() -> [[u8; 8]; 64]
-    ensures { result ≡ listedRows }
+    ensures { result ≡ listed_rows }
 {
     SETS
 }
@@ -84,7 +84,7 @@ fn listed_sets() -> [[u8; 8]; 64]
 // The sets of an even query in order: by block, in each in lexicographic order.
 pub fn ordered_sets(k: usize) -> [u8; 256]
     requires { k ≤ 8 }
-    ensures { result ≡ padded 256 (map byte_of (allSets k)) }
+    ensures { result ≡ padded 256 (map byte_of (all_sets k)) }
 {
     let table = listed_sets();
     let first = parameters::power(2, k);

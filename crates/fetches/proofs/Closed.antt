@@ -9,12 +9,12 @@ use lib.Dec.{eqb}
 use Rattle.lists.specs.Sums.{keep}
 use Rattle.catalogue.specs.declared.Catalogue.{Catalogue}
 use Rattle.catalogue.specs.Catalogue.{Admitted}
-use Rattle.codes.specs.Codes.{schemeOf}
+use Rattle.codes.specs.Codes.{scheme_of}
 use Rattle.codes.proofs.Promises.{promises}
 use Rattle.codes.proofs.Messages.{messages-end}
 use Rattle.session.proofs.Promised.{query-fits}
 use Rattle.fetches.specs.Fetches.{Fetch}
-use Rattle.fetches.specs.Shown.{Issue, issuesOf, shown}
+use Rattle.fetches.specs.Shown.{Issue, issues_of, shown}
 use Rattle.fetches.specs.Claim.{Claim, Demand3}
 use Rattle.fetches.specs.Plain.{PlainFetches}
 use Rattle.fetches.specs.Received.{Bounded}
@@ -28,26 +28,26 @@ use Rattle.fetches.proofs.Reached.{marks-and-meters-by-history}
 use Rattle.fetches.proofs.Unserved.{nothing-recovered}
 use Rattle.fetches.proofs.Unmeasured.{lengths-hidden}
 
-pub no-server-can-tell : Demand3 schemeOf
-no-server-can-tell = demand3 schemeOf promises
+pub no-server-can-tell : Demand3 scheme_of
+no-server-can-tell = demand3 scheme_of promises
 
 -- as document 01 has it: lists that make the same issues, to all servers, show each server the same
-pub alike-if-all-issues-are : (c : Catalogue) (store : List ℕ) (n : ℕ) (fs gs : List Fetch) → Claim schemeOf c store n fs gs → issuesOf fs ≡ issuesOf gs
-    → shown schemeOf c store n fs ≡ shown schemeOf c store n gs
+pub alike-if-all-issues-are : (c : Catalogue) (store : List ℕ) (n : ℕ) (fs gs : List Fetch) → Claim scheme_of c store n fs gs → issues_of fs ≡ issues_of gs
+    → shown scheme_of c store n fs ≡ shown scheme_of c store n gs
 alike-if-all-issues-are c store n fs gs claim same = claim.alike (ap (map (keep (λ (i : Issue). eqb i.server n))) same)
 
-pub every-fetch-recovers : PlainFetches schemeOf
-every-fetch-recovers = plain-fetch schemeOf promises (λ c a k inside. (messages-end c a k inside).1) query-fits
+pub every-fetch-recovers : PlainFetches scheme_of
+every-fetch-recovers = plain-fetch scheme_of promises (λ c a k inside. (messages-end c a k inside).1) query-fits
 
-pub marks-and-meters-are-good-exactly-if-reached : MarksAndMetersByHistory schemeOf
-marks-and-meters-are-good-exactly-if-reached = marks-and-meters-by-history schemeOf promises
+pub marks-and-meters-are-good-exactly-if-reached : MarksAndMetersByHistory scheme_of
+marks-and-meters-are-good-exactly-if-reached = marks-and-meters-by-history scheme_of promises
 
-pub the-bound-holds : (c : Catalogue) → Admitted c → Bounded schemeOf c
-the-bound-holds = bound-holds schemeOf promises
+pub the-bound-holds : (c : Catalogue) → Admitted c → Bounded scheme_of c
+the-bound-holds = bound-holds scheme_of promises
 
-pub out-of-season-nothing-is-recovered : NothingRecovered schemeOf
-out-of-season-nothing-is-recovered = nothing-recovered schemeOf promises
+pub out-of-season-nothing-is-recovered : NothingRecovered scheme_of
+out-of-season-nothing-is-recovered = nothing-recovered scheme_of promises
 
-pub lengths-are-not-shown : LengthsHidden schemeOf
-unfolding schemeOf
-lengths-are-not-shown = lengths-hidden schemeOf promises (λ c l. refl)
+pub lengths-are-not-shown : LengthsHidden scheme_of
+unfolding scheme_of
+lengths-are-not-shown = lengths-hidden scheme_of promises (λ c l. refl)

@@ -8,8 +8,8 @@ use Prim.Native.Nat.{ℕ, suc, ◌+◌, ◌≤◌, ◌<◌}
 use lib.ListN.{length, set}
 use lib.Seq.{get_or-set_same}
 use Rattle.session_parts.specs.declared.Meters.{Meters}
-use Rattle.session_parts.specs.Marks.{noMarks, marked}
-use Rattle.session_parts.specs.Meters.{noMeters, noBytes, counted, countIssued, countTaken}
+use Rattle.session_parts.specs.Marks.{no_marks, marked}
+use Rattle.session_parts.specs.Meters.{no_meters, no_bytes, counted, count_issued, count_taken}
 use Rattle.session_parts.proofs.Marks.{none-marked}
 use Rattle.session_parts.proofs.Metering.{none-counted, count-here}
 use Rattle.fetches.proofs.Upto.{Upto, Beside, upto-none, upto-here, upto-beside, beside-set, beside-upto, upto_all}
@@ -32,12 +32,12 @@ module _ (issued taken : List Bool) (meters : Meters) where
     pub sent-here : counted m.sent i ≡ a
     pub got-here : counted m.got i ≡ b
 
-  pub filled_none : Filled 0 noMarks noMarks noMeters
+  pub filled_none : Filled 0 no_marks no_marks no_meters
   filled_none = record {
-    first-upto = upto-none false noMarks issued none-marked;
-    second-upto = upto-none false noMarks taken none-marked;
-    sent-upto = upto-none 0 noBytes meters.sent none-counted;
-    got-upto = upto-none 0 noBytes meters.got none-counted;
+    first-upto = upto-none false no_marks issued none-marked;
+    second-upto = upto-none false no_marks taken none-marked;
+    sent-upto = upto-none 0 no_bytes meters.sent none-counted;
+    got-upto = upto-none 0 no_bytes meters.got none-counted;
   }
 
   module _ (i : ℕ) (first second : List Bool) (m : Meters) where
@@ -65,7 +65,7 @@ module _ (issued taken : List Bool) (meters : Meters) where
 
     -- a query or an answer of so many bytes
     module _ (x y : Bool) (a b bytes : ℕ) (f : Filling i first second m x y a b) where
-      pub issue-fills : i < length first → i < length m.sent → Filling i (set first i true) second (countIssued m i bytes) true y (a + bytes) b
+      pub issue-fills : i < length first → i < length m.sent → Filling i (set first i true) second (count_issued m i bytes) true y (a + bytes) b
       issue-fills h k = record {
         first-beside = beside-set false i first issued true f.first-beside;
         second-beside = f.second-beside;
@@ -77,7 +77,7 @@ module _ (issued taken : List Bool) (meters : Meters) where
         got-here = f.got-here;
       }
 
-      pub take-fills : i < length second → i < length m.got → Filling i first (set second i true) (countTaken m i bytes) x true a (b + bytes)
+      pub take-fills : i < length second → i < length m.got → Filling i first (set second i true) (count_taken m i bytes) x true a (b + bytes)
       take-fills h k = record {
         first-beside = f.first-beside;
         second-beside = beside-set false i second taken true f.second-beside;

@@ -10,8 +10,8 @@ use Rattle.scheme.specs.Laws.{Laws}
 use Rattle.catalogue.specs.declared.Catalogue.{Catalogue}
 use Rattle.catalogue.specs.Catalogue.{Admitted}
 use Rattle.session_parts.specs.declared.Meters.{Meters}
-use Rattle.session_parts.specs.Marks.{noMarks}
-use Rattle.session_parts.specs.Meters.{noMeters}
+use Rattle.session_parts.specs.Marks.{no_marks}
+use Rattle.session_parts.specs.Meters.{no_meters}
 use Rattle.fetches.specs.Fetches.{Call, State, start, ended}
 use Rattle.fetches.specs.Past.{Past, nothing}
 use Rattle.fetches.specs.Claim.{Promises}
@@ -22,33 +22,33 @@ use Rattle.fetches.proofs.Theorem.{kept-first, begun}
 use Rattle.fetches.proofs.Leading.{reached}
 
 -- the marks and meters at the end of a fetch are good
-module _ (schemeOf : Catalogue → Scheme) (c : Catalogue) (admitted : Admitted c) (laws : Laws c.servers c.messages (schemeOf c))
-    (wanted : ℕ) (inside : wanted < c.messages) (key : List ℕ) (valid : Valid (schemeOf c) key) where
+module _ (scheme_of : Catalogue → Scheme) (c : Catalogue) (admitted : Admitted c) (laws : Laws c.servers c.messages (scheme_of c))
+    (wanted : ℕ) (inside : wanted < c.messages) (key : List ℕ) (valid : Valid (scheme_of c) key) where
   abbrev GoodAt : State → Type 0
-  GoodAt at = HistoryGood schemeOf c wanted key at.session.issued at.session.taken at.session.meters
+  GoodAt at = HistoryGood scheme_of c wanted key at.session.issued at.session.taken at.session.meters
 
   good-after : (calls : List Call) (room : ℕ) (past : Past) (issued taken : List Bool) (meters : Meters) (answers : List ℕ)
-      → Kept schemeOf c wanted key room past issued taken meters answers → GoodAt (ended schemeOf (state_of c wanted key issued taken meters answers) calls)
+      → Kept scheme_of c wanted key room past issued taken meters answers → GoodAt (ended scheme_of (state_of c wanted key issued taken meters answers) calls)
   good-after [] room past issued taken meters answers k = record {
     marks = k.marks.good;
-    metered = kept-meters schemeOf c admitted laws wanted inside key valid room past issued taken meters answers k;
+    metered = kept-meters scheme_of c admitted laws wanted inside key valid room past issued taken meters answers k;
   }
   good-after (call ∷ calls) room past issued taken meters answers k =
-      let x = next schemeOf c admitted laws wanted inside key valid room past issued taken meters answers k call in
-      subst (λ (at : State). GoodAt (ended schemeOf at calls)) (sym x.is)
+      let x = next scheme_of c admitted laws wanted inside key valid room past issued taken meters answers k call in
+      subst (λ (at : State). GoodAt (ended scheme_of at calls)) (sym x.is)
       (good-after calls room _ x.issued x.taken x.meters x.answers x.kept)
 
-  good-if-reached : (issued taken : List Bool) (meters : Meters) → Reached schemeOf c wanted key issued taken meters
-      → HistoryGood schemeOf c wanted key issued taken meters
+  good-if-reached : (issued taken : List Bool) (meters : Meters) → Reached scheme_of c wanted key issued taken meters
+      → HistoryGood scheme_of c wanted key issued taken meters
   good-if-reached issued taken meters r =
-      let good : GoodAt (ended schemeOf (start schemeOf c r.fetch) r.fetch.calls) =
-      rw (r.its-message, r.its-key, begun schemeOf c admitted laws wanted inside key valid)
-      (good-after r.fetch.calls (length r.fetch.answers) nothing noMarks noMarks noMeters r.fetch.answers
-      (kept-first schemeOf c wanted key r.fetch.answers)) in
+      let good : GoodAt (ended scheme_of (start scheme_of c r.fetch) r.fetch.calls) =
+      rw (r.its-message, r.its-key, begun scheme_of c admitted laws wanted inside key valid)
+      (good-after r.fetch.calls (length r.fetch.answers) nothing no_marks no_marks no_meters r.fetch.answers
+      (kept-first scheme_of c wanted key r.fetch.answers)) in
       rw r.its-session at good
 
-pub marks-and-meters-by-history : (schemeOf : Catalogue → Scheme) → Promises schemeOf → MarksAndMetersByHistory schemeOf
-marks-and-meters-by-history schemeOf promises c admitted wanted inside key valid issued taken meters holds = record {
-  reached-if-good = reached schemeOf c admitted (promises c admitted) wanted inside key valid issued taken meters holds;
-  good-if-reached = good-if-reached schemeOf c admitted (promises c admitted) wanted inside key valid issued taken meters;
+pub marks-and-meters-by-history : (scheme_of : Catalogue → Scheme) → Promises scheme_of → MarksAndMetersByHistory scheme_of
+marks-and-meters-by-history scheme_of promises c admitted wanted inside key valid issued taken meters holds = record {
+  reached-if-good = reached scheme_of c admitted (promises c admitted) wanted inside key valid issued taken meters holds;
+  good-if-reached = good-if-reached scheme_of c admitted (promises c admitted) wanted inside key valid issued taken meters;
 }

@@ -14,21 +14,21 @@ use Rattle.lists.specs.Ranges.{range}
 use Rattle.lists.proofs.Cuts.{cut-length, slot-end}
 use Rattle.refusal.specs.declared.Verdict.TheVariants.{Accepted}
 use Rattle.refusal.specs.declared.Outcome.TheVariants.{Value}
-use Rattle.scheme.specs.Scheme.{Scheme, Valid, messageOf}
+use Rattle.scheme.specs.Scheme.{Scheme, Valid, message_of}
 use Rattle.scheme.specs.Laws.{Laws}
 use Rattle.calendar.specs.declared.Day.{Day}
 use Rattle.catalogue.specs.declared.Catalogue.{Catalogue}
 use Rattle.catalogue.specs.Catalogue.{Admitted}
 use Rattle.catalogue.specs.Days.{Served}
-use Rattle.codes.specs.Messages.{messageLength}
-use Rattle.server.specs.Answering.{answerVerdict}
+use Rattle.codes.specs.Messages.{message_length}
+use Rattle.server.specs.Answering.{answer_verdict}
 use Rattle.server.proofs.Laws.{answer-accepted, answer-by, writes-answer}
 use Rattle.fetches.specs.Fetches.{Call, issuing, taking, recovering, history}
-use Rattle.fetches.specs.Shown.{Shown, asked, issues, asking, shownTo}
+use Rattle.fetches.specs.Shown.{Shown, asked, issues, asking, shown_to}
 use Rattle.fetches.specs.Claim.{Promises}
-use Rattle.fetches.specs.Plain.{queryTo, answer_of, plainFetch, PlainFetches}
-use Rattle.session_parts.specs.Meters.{mostBytes}
-use Rattle.fetches.proofs.View.{verdictOn, sentAfter, seen, seenOf}
+use Rattle.fetches.specs.Plain.{query_to, answer_of, plain_fetch, PlainFetches}
+use Rattle.session_parts.specs.Meters.{most_bytes}
+use Rattle.fetches.proofs.View.{verdict_on, sent_after, seen, seen_of}
 use Rattle.fetches.proofs.Theorem.{fetch-shown}
 use Rattle.fetches.proofs.Plain.{plain-ends}
 
@@ -40,57 +40,57 @@ no-issues answer message zero from = refl
 no-issues answer message (suc count) from = no-issues answer message count (suc from)
 
 -- issues to the servers from `from` on show server n one of them, if it is there
-module _ (schemeOf : Catalogue → Scheme) (c : Catalogue) (store : List ℕ) (n : ℕ) (asked-for query answer : List ℕ) (day answerDay : ℕ → Day)
+module _ (scheme_of : Catalogue → Scheme) (c : Catalogue) (store : List ℕ) (n : ℕ) (asked-for query answer : List ℕ) (day answer_day : ℕ → Day)
     (rest : List Call) (none : issues rest ≡ []) where
-  abbrev issuesFrom : ℕ → ℕ → List Call
-  issuesFrom from count = map (λ (server : ℕ). issuing server (day server) query (answerDay server) answer) (range from count) ++ rest
+  abbrev issues_from : ℕ → ℕ → List Call
+  issues_from from count = map (λ (server : ℕ). issuing server (day server) query (answer_day server) answer) (range from count) ++ rest
 
-  abbrev shownOnce : ℕ → Shown
-  shownOnce server = seen schemeOf c store n asked-for 0 (day server) (length query) (answerDay server) (length answer)
+  abbrev shown_once : ℕ → Shown
+  shown_once server = seen scheme_of c store n asked-for 0 (day server) (length query) (answer_day server) (length answer)
 
   -- the bytes issued to it after that
-  abbrev afterOnce : ℕ → ℕ
-  afterOnce server =
-      sentAfter (schemeOf c).sizes.query 0 (verdictOn c (schemeOf c).sizes.query 0 (day server) (length query))
+  abbrev after_once : ℕ → ℕ
+  after_once server =
+      sent_after (scheme_of c).sizes.query 0 (verdict_on c (scheme_of c).sizes.query 0 (day server) (length query))
 
   seen_none : (before count from : ℕ) → n < from
-      → seenOf schemeOf c store n asked-for before (issues (issuesFrom from count)) ≡ []
+      → seen_of scheme_of c store n asked-for before (issues (issues_from from count)) ≡ []
   unfolding range
   seen_none before zero from h = rw none
   seen_none before (suc count) from h = rw (ne_eqb from n (λ q. omega arith)) (seen_none before count (suc from) (omega arith))
 
   pub seen-once : (count from : ℕ) → from ≤ n → n < from + count
-      → seenOf schemeOf c store n asked-for 0 (issues (issuesFrom from count)) ≡ shownOnce n ∷ []
+      → seen_of scheme_of c store n asked-for 0 (issues (issues_from from count)) ≡ shown_once n ∷ []
   unfolding range
   seen-once zero from l u = absurd (let w : ⊥ = omega arith in w)
   seen-once (suc count) from l u = go (seen-once count (suc from)) (eqb from n) refl
     where
-      go : (suc from ≤ n → n < suc from + count → seenOf schemeOf c store n asked-for 0 (issues (issuesFrom (suc from) count)) ≡ shownOnce n ∷ [])
+      go : (suc from ≤ n → n < suc from + count → seen_of scheme_of c store n asked-for 0 (issues (issues_from (suc from) count)) ≡ shown_once n ∷ [])
           → (t : Bool) → eqb from n ≡ t
-          → cond t (shownOnce from ∷ []) [] ++ seenOf schemeOf c store n asked-for (cond t (afterOnce from) 0) (issues (issuesFrom (suc from) count))
-          ≡ shownOnce n ∷ []
+          → cond t (shown_once from ∷ []) [] ++ seen_of scheme_of c store n asked-for (cond t (after_once from) 0) (issues (issues_from (suc from) count))
+          ≡ shown_once n ∷ []
       go later true q =
           let e : from ≡ n = eqb-true from n q in
-          rw (seen_none (afterOnce from) count (suc from) (omega arith)) (ap (λ (server : ℕ). shownOnce server ∷ []) e)
+          rw (seen_none (after_once from) count (suc from) (omega arith)) (ap (λ (server : ℕ). shown_once server ∷ []) e)
       go later false q = let ne : (from ≡ n → ⊥) = eqb-false from n q in later (omega (arith, ne)) (omega (arith, ne))
 
-module _ (schemeOf : Catalogue → Scheme) (c : Catalogue) (admitted : Admitted c) (laws : Laws c.servers c.messages (schemeOf c))
-    (store : List ℕ) (long : length store ≡ (schemeOf c).sizes.store) (wanted : ℕ) (inside : wanted < c.messages)
-    (key : List ℕ) (valid : Valid (schemeOf c) key) (n : ℕ) (below : n < c.servers) (small : (schemeOf c).sizes.query ≤ mostBytes) where
+module _ (scheme_of : Catalogue → Scheme) (c : Catalogue) (admitted : Admitted c) (laws : Laws c.servers c.messages (scheme_of c))
+    (store : List ℕ) (long : length store ≡ (scheme_of c).sizes.store) (wanted : ℕ) (inside : wanted < c.messages)
+    (key : List ℕ) (valid : Valid (scheme_of c) key) (n : ℕ) (below : n < c.servers) (small : (scheme_of c).sizes.query ≤ most_bytes) where
   abbrev query : List ℕ
-  query = queryTo schemeOf c store wanted key n
+  query = query_to scheme_of c store wanted key n
 
   abbrev answer : List ℕ
-  answer = answer_of schemeOf c store wanted key n
+  answer = answer_of scheme_of c store wanted key n
 
   -- a server answers the query honestly, on a day in season
-  pub honest : (day : Day) → Served c day → (buffer : List ℕ) → (schemeOf c).sizes.slot ≤ length buffer
-      → asking schemeOf c store n query day buffer ≡ asked query (Value (length answer)) answer
+  pub honest : (day : Day) → Served c day → (buffer : List ℕ) → (scheme_of c).sizes.slot ≤ length buffer
+      → asking scheme_of c store n query day buffer ≡ asked query (Value (length answer)) answer
   honest day in-season buffer roomy =
       let admits = laws.query-admitted wanted n key inside below valid in
-      let sized : length answer ≡ (schemeOf c).answerLength query = laws.answer-length n store query long admits in
-      let accepted : answerVerdict schemeOf c day n (length store) query (length buffer) ≡ Accepted =
-      answer-accepted schemeOf c day n (length store) query (length buffer) (record {
+      let sized : length answer ≡ (scheme_of c).answer_length query = laws.answer-length n store query long admits in
+      let accepted : answer_verdict scheme_of c day n (length store) query (length buffer) ≡ Accepted =
+      answer-accepted scheme_of c day n (length store) query (length buffer) (record {
         admitted = admitted;
         served = in-season;
         below = below;
@@ -98,61 +98,61 @@ module _ (schemeOf : Catalogue → Scheme) (c : Catalogue) (admitted : Admitted 
         store_long = long;
         roomy = omega (arith, laws.answer-fits n query admits);
       }) in
-      let by = answer-by schemeOf c day n store query buffer Accepted (sym accepted) in
-      let written = writes-answer schemeOf c laws day n store query buffer accepted in
+      let by = answer-by scheme_of c day n store query buffer Accepted (sym accepted) in
+      let written = writes-answer scheme_of c laws day n store query buffer accepted in
       rw by
-      (ap (asked query (Value ((schemeOf c).answerLength query))) (rw by at written) ∙ ap (λ (size : ℕ). asked query (Value size) answer) (sym sized))
+      (ap (asked query (Value ((scheme_of c).answer_length query))) (rw by at written) ∙ ap (λ (size : ℕ). asked query (Value size) answer) (sym sized))
 
-  pub served : (day answerDay : ℕ → Day) → Served c (day n) → Served c (answerDay n)
-      → (answers queryBuffer answerBuffer message : List ℕ) → (schemeOf c).sizes.query ≤ length queryBuffer
-      → (schemeOf c).sizes.slot ≤ length answerBuffer
-      → shownTo schemeOf c store n (history schemeOf c (plainFetch schemeOf c store wanted key day answerDay answers queryBuffer answerBuffer message))
+  pub served : (day answer_day : ℕ → Day) → Served c (day n) → Served c (answer_day n)
+      → (answers query_buffer answer_buffer message : List ℕ) → (scheme_of c).sizes.query ≤ length query_buffer
+      → (scheme_of c).sizes.slot ≤ length answer_buffer
+      → shown_to scheme_of c store n (history scheme_of c (plain_fetch scheme_of c store wanted key day answer_day answers query_buffer answer_buffer message))
       ≡ asked query (Value (length answer)) answer ∷ []
-  served day answerDay issued-in answered-in answers queryBuffer answerBuffer message query-fits answer-fits =
-      fetch-shown schemeOf c admitted laws store n below
-      (plainFetch schemeOf c store wanted key day answerDay answers queryBuffer answerBuffer message) inside valid
-      ∙ seen-once schemeOf c store n query queryBuffer answerBuffer day answerDay _
-      (no-issues (answer_of schemeOf c store wanted key) message c.servers 0) c.servers 0 (omega arith) (omega (arith, zero-add c.servers))
+  served day answer_day issued-in answered-in answers query_buffer answer_buffer message query-fits answer-fits =
+      fetch-shown scheme_of c admitted laws store n below
+      (plain_fetch scheme_of c store wanted key day answer_day answers query_buffer answer_buffer message) inside valid
+      ∙ seen-once scheme_of c store n query query_buffer answer_buffer day answer_day _
+      (no-issues (answer_of scheme_of c store wanted key) message c.servers 0) c.servers 0 (omega arith) (omega (arith, zero-add c.servers))
       ∙ ap (λ (s : Shown). s ∷ []) once
     where
-      once : seen schemeOf c store n query 0 (day n) (length queryBuffer) (answerDay n) (length answerBuffer) ≡ asked query (Value (length answer)) answer
+      once : seen scheme_of c store n query 0 (day n) (length query_buffer) (answer_day n) (length answer_buffer) ≡ asked query (Value (length answer)) answer
       once =
           rw (
             issued-in,
-            le-ltb (length queryBuffer) (schemeOf c).sizes.query query-fits,
-            le-ltb mostBytes (0 + (schemeOf c).sizes.query) (let w : 0 + (schemeOf c).sizes.query ≤ mostBytes = omega (arith, small) in w),
-            take_all (schemeOf c).sizes.query query (omega (arith, laws.query-length wanted n key inside below valid)),
+            le-ltb (length query_buffer) (scheme_of c).sizes.query query-fits,
+            le-ltb most_bytes (0 + (scheme_of c).sizes.query) (let w : 0 + (scheme_of c).sizes.query ≤ most_bytes = omega (arith, small) in w),
+            take_all (scheme_of c).sizes.query query (omega (arith, laws.query-length wanted n key inside below valid)),
           )
-          (honest (answerDay n) answered-in (replicate (length answerBuffer) 0) (omega (arith, length-replicate {A = ℕ} (length answerBuffer) 0)))
+          (honest (answer_day n) answered-in (replicate (length answer_buffer) 0) (omega (arith, length-replicate {A = ℕ} (length answer_buffer) 0)))
 
 -- no message is longer than its symbols
 abbrev pub EndsWithin : (Catalogue → Scheme) → Type 0
-EndsWithin schemeOf = (c : Catalogue) → Admitted c → (k : ℕ) → k < c.messages → messageLength schemeOf c k ≤ (schemeOf c).sizes.message
+EndsWithin scheme_of = (c : Catalogue) → Admitted c → (k : ℕ) → k < c.messages → message_length scheme_of c k ≤ (scheme_of c).sizes.message
 
 -- every meter can say the bytes of a query
 abbrev pub QueriesFit : (Catalogue → Scheme) → Type 0
-QueriesFit schemeOf = (c : Catalogue) → Admitted c → (schemeOf c).sizes.query ≤ mostBytes
+QueriesFit scheme_of = (c : Catalogue) → Admitted c → (scheme_of c).sizes.query ≤ most_bytes
 
 -- a message of the store has all its bytes, and as many of them are left as its length says
 whole-message : (servers messages : ℕ) (scheme : Scheme) → Laws servers messages scheme → (store : List ℕ) → length store ≡ scheme.sizes.store
-    → (wanted : ℕ) → wanted < messages → (size : ℕ) → size ≤ scheme.sizes.message → length (take size (messageOf scheme store wanted)) ≡ size
+    → (wanted : ℕ) → wanted < messages → (size : ℕ) → size ≤ scheme.sizes.message → length (take size (message_of scheme store wanted)) ≡ size
 whole-message servers messages scheme laws store long wanted inside size fits =
-    let whole : length (messageOf scheme store wanted) ≡ scheme.sizes.message =
+    let whole : length (message_of scheme store wanted) ≡ scheme.sizes.message =
     cut-length (wanted * scheme.sizes.message) scheme.sizes.message store
     (omega (arith, slot-end wanted messages scheme.sizes.message inside, laws.store-whole)) in
-    length-take-le size (messageOf scheme store wanted) (omega (arith, whole))
+    length-take-le size (message_of scheme store wanted) (omega (arith, whole))
 
-pub plain-fetch : (schemeOf : Catalogue → Scheme) → Promises schemeOf → EndsWithin schemeOf → QueriesFit schemeOf → PlainFetches schemeOf
-plain-fetch schemeOf promises ends small c admitted store bytes long wanted inside key valid day answerDay in-season answers query answer message
+pub plain-fetch : (scheme_of : Catalogue → Scheme) → Promises scheme_of → EndsWithin scheme_of → QueriesFit scheme_of → PlainFetches scheme_of
+plain-fetch scheme_of promises ends small c admitted store bytes long wanted inside key valid day answer_day in-season answers query answer message
     slots-fit query-fits answer-fits message-fits =
     record {
       whole =
-          whole-message c.servers c.messages (schemeOf c) (promises c admitted) store long wanted inside (messageLength schemeOf c wanted)
+          whole-message c.servers c.messages (scheme_of c) (promises c admitted) store long wanted inside (message_length scheme_of c wanted)
           (ends c admitted wanted inside);
       served = λ n below.
-          served schemeOf c admitted (promises c admitted) store long wanted inside key valid n below (small c admitted) day answerDay
+          served scheme_of c admitted (promises c admitted) store long wanted inside key valid n below (small c admitted) day answer_day
           (in-season n below).0 (in-season n below).1 answers query answer message query-fits answer-fits;
       ends =
-          plain-ends schemeOf c admitted (promises c admitted) wanted inside key valid store bytes long message message-fits answers slots-fit
-          day answerDay in-season (small c admitted) query answer query-fits;
+          plain-ends scheme_of c admitted (promises c admitted) wanted inside key valid store bytes long message message-fits answers slots-fit
+          day answer_day in-season (small c admitted) query answer query-fits;
     }

@@ -19,76 +19,76 @@ use Rattle.catalogue.specs.declared.Catalogue.{Catalogue}
 use Rattle.catalogue.specs.Catalogue.{Admitted}
 use Rattle.session.specs.declared.Session.{Session}
 use Rattle.session_parts.specs.declared.Meters.{Meters}
-use Rattle.session_parts.specs.Meters.{mostBytes, counted, countIssued, countTaken}
-use Rattle.session.specs.Calls.{queryOf, issueVerdict, takeVerdict}
+use Rattle.session_parts.specs.Meters.{most_bytes, counted, count_issued, count_taken}
+use Rattle.session.specs.Calls.{query_of, issue_verdict, take_verdict}
 use Rattle.session_parts.proofs.Metering.{count_long, meters-good}
-use Rattle.session_checks.specs.Checks.{answerBytes, metersFit}
+use Rattle.session_checks.specs.Checks.{answer_bytes, meters_fit}
 use Rattle.session_parts.proofs.Marks.{marks-issue, marks-take}
 use Rattle.session.proofs.Sound.{Sound}
 use Rattle.session.proofs.Begin.{key-kept}
 use Rattle.session.proofs.Issue.{issue-passed, issue-by}
-use Rattle.session.proofs.Take.{Takes, take-passed, take_by}
+use Rattle.session.proofs.Take.{Takes, take-passed, take_by_lem}
 use Rattle.session.proofs.Recover.{recover-same}
 use Rattle.session.proofs.Slots.{take-length, take-reads, take-others}
 use Rattle.fetches.specs.Fetches.{Call, issuing, taking, recovering, State}
 use Rattle.fetches.specs.Past.{Past}
 use Rattle.fetches.specs.Right.{Honest}
 use Rattle.fetches.proofs.Agree.{mark-agrees, sent-agrees, still-fits, got-agrees, sent-good, got-good}
-use Rattle.fetches.proofs.Kept.{sessionOf, state_of, Kept, HeldAt, Held, Next}
+use Rattle.fetches.proofs.Kept.{session_of, state_of, Kept, HeldAt, Held, Next}
 
-module _ (schemeOf : Catalogue → Scheme) (c : Catalogue) (admitted : Admitted c) (laws : Laws c.servers c.messages (schemeOf c))
-    (wanted : ℕ) (inside : wanted < c.messages) (key : List ℕ) (valid : Valid (schemeOf c) key) where
+module _ (scheme_of : Catalogue → Scheme) (c : Catalogue) (admitted : Admitted c) (laws : Laws c.servers c.messages (scheme_of c))
+    (wanted : ℕ) (inside : wanted < c.messages) (key : List ℕ) (valid : Valid (scheme_of c) key) where
   pub kept-query : (issued taken : List Bool) (meters : Meters) (server : ℕ)
-      → queryOf schemeOf (sessionOf c wanted key issued taken meters) server ≡ (schemeOf c).query wanted server key
-  kept-query issued taken meters server = ap ((schemeOf c).query wanted server) (key-kept schemeOf c wanted key valid.long)
+      → query_of scheme_of (session_of c wanted key issued taken meters) server ≡ (scheme_of c).query wanted server key
+  kept-query issued taken meters server = ap ((scheme_of c).query wanted server) (key-kept scheme_of c wanted key valid.long)
 
   -- meters that agree with the calls made are good
   pub kept-meters : (room : ℕ) (past : Past) (issued taken : List Bool) (meters : Meters) (answers : List ℕ)
-      → Kept schemeOf c wanted key room past issued taken meters answers → metersFit schemeOf c wanted key issued taken meters ≡ true
+      → Kept scheme_of c wanted key room past issued taken meters answers → meters_fit scheme_of c wanted key issued taken meters ≡ true
   kept-meters room past issued taken meters answers k =
-      meters-good (schemeOf c).sizes.query (answerBytes schemeOf c wanted key) issued taken meters
+      meters-good (scheme_of c).sizes.query (answer_bytes scheme_of c wanted key) issued taken meters
       (λ place h. record {
-        sent = rw (k.agree-issued place, k.agree-sent place) (sent-good (schemeOf c).sizes.query place past.issued);
-        got = rw (k.agree place, k.agree-got place) (got-good (answerBytes schemeOf c wanted key place) (stands place past.taken));
+        sent = rw (k.agree-issued place, k.agree-sent place) (sent-good (scheme_of c).sizes.query place past.issued);
+        got = rw (k.agree place, k.agree-got place) (got-good (answer_bytes scheme_of c wanted key place) (stands place past.taken));
       })
 
   pub sound : (room : ℕ) (past : Past) (issued taken : List Bool) (meters : Meters) (answers : List ℕ)
-      → Kept schemeOf c wanted key room past issued taken meters answers → Sound schemeOf (sessionOf c wanted key issued taken meters)
+      → Kept scheme_of c wanted key room past issued taken meters answers → Sound scheme_of (session_of c wanted key issued taken meters)
   sound room past issued taken meters answers k = record {
     admitted = admitted;
     inside = inside;
-    good = rw (key-kept schemeOf c wanted key valid.long) valid.good;
+    good = rw (key-kept scheme_of c wanted key valid.long) valid.good;
     marks = k.marks.good;
-    meters = rw (key-kept schemeOf c wanted key valid.long) (kept-meters room past issued taken meters answers k);
+    meters = rw (key-kept scheme_of c wanted key valid.long) (kept-meters room past issued taken meters answers k);
   }
 
   -- what is asked of a server, and the length of a slot
   abbrev query : ℕ → List ℕ
-  query i = (schemeOf c).query wanted i key
+  query i = (scheme_of c).query wanted i key
 
   abbrev slot : ℕ
-  slot = (schemeOf c).sizes.slot
+  slot = (scheme_of c).sizes.slot
 
   -- an honest answer fits its slot
-  pub fits-slot : (i : ℕ) → i < c.servers → (schemeOf c).answerLength (query i) ≤ slot
+  pub fits-slot : (i : ℕ) → i < c.servers → (scheme_of c).answer_length (query i) ≤ slot
   fits-slot i h = laws.answer-fits i (query i) (laws.query-admitted wanted i key inside h valid)
 
   module _ (room : ℕ) (past : Past) (issued taken : List Bool) (meters : Meters) (answers : List ℕ)
-      (k : Kept schemeOf c wanted key room past issued taken meters answers) where
+      (k : Kept scheme_of c wanted key room past issued taken meters answers) where
     abbrev s : Session
-    s = sessionOf c wanted key issued taken meters
+    s = session_of c wanted key issued taken meters
 
     abbrev at : State
     at = state_of c wanted key issued taken meters answers
 
     -- the bytes of a query
     abbrev size : ℕ
-    size = (schemeOf c).sizes.query
+    size = (scheme_of c).sizes.query
 
     -- an issue that was not refused
-    pub issue-kept : (server : ℕ) → server < c.servers → counted meters.sent server + size ≤ mostBytes
-        → Kept schemeOf c wanted key room (record { issued = server ∷ past.issued; taken = past.taken }) (set issued server true) taken
-        (countIssued meters server size) answers
+    pub issue-kept : (server : ℕ) → server < c.servers → counted meters.sent server + size ≤ most_bytes
+        → Kept scheme_of c wanted key room (record { issued = server ∷ past.issued; taken = past.taken }) (set issued server true) taken
+        (count_issued meters server size) answers
     issue-kept server below counts =
         let inside-sent : server < length meters.sent = omega (arith, k.sent-long, laws.servers-fit) in
         record {
@@ -104,56 +104,56 @@ module _ (schemeOf : Catalogue → Scheme) (c : Catalogue) (admitted : Admitted 
           roomy = k.roomy;
         }
 
-    next-issue : (server : ℕ) (day answerDay : Day) (buffer answer : List ℕ)
-        → Next schemeOf c wanted key room past at (issuing server day buffer answerDay answer)
-    next-issue server day answerDay buffer answer = go (issueVerdict schemeOf s day server (length buffer)) refl
+    next-issue : (server : ℕ) (day answer_day : Day) (buffer answer : List ℕ)
+        → Next scheme_of c wanted key room past at (issuing server day buffer answer_day answer)
+    next-issue server day answer_day buffer answer = go (issue_verdict scheme_of s day server (length buffer)) refl
       where
-        go : (v : Verdict) → v ≡ issueVerdict schemeOf s day server (length buffer)
-            → Next schemeOf c wanted key room past at (issuing server day buffer answerDay answer)
+        go : (v : Verdict) → v ≡ issue_verdict scheme_of s day server (length buffer)
+            → Next scheme_of c wanted key room past at (issuing server day buffer answer_day answer)
         go Accepted e =
-            let done = issue-by schemeOf s day server buffer Accepted e in
-            let i = issue-passed schemeOf s day server (length buffer) (sym e) in
+            let done = issue-by scheme_of s day server buffer Accepted e in
+            let i = issue-passed scheme_of s day server (length buffer) (sym e) in
             record {
               issued = set issued server true;
               taken = taken;
-              meters = countIssued meters server size;
+              meters = count_issued meters server size;
               answers = answers;
               is = rw done;
               kept = rw done (issue-kept server i.below i.counts);
               held = rw done (λ store h honest. h);
             }
         go (Refused refusal) e =
-            let done = issue-by schemeOf s day server buffer (Refused refusal) e in
+            let done = issue-by scheme_of s day server buffer (Refused refusal) e in
             record { issued = issued; taken = taken; meters = meters; answers = answers; is = rw done; kept = rw done k; held = rw done (λ store h honest. h) }
 
-    next-recover : (message : List ℕ) → Next schemeOf c wanted key room past at (recovering message)
+    next-recover : (message : List ℕ) → Next scheme_of c wanted key room past at (recovering message)
     next-recover message = record {
       issued = issued;
       taken = taken;
       meters = meters;
       answers = answers;
-      is = rw (recover-same schemeOf s answers message);
+      is = rw (recover-same scheme_of s answers message);
       kept = k;
       held = λ store h honest. h;
     }
 
     -- a take that was not refused
-    module _ (server : ℕ) (answer : List ℕ) (t : Takes schemeOf s server (length answer) (length answers)) where
+    module _ (server : ℕ) (answer : List ℕ) (t : Takes scheme_of s server (length answer) (length answers)) where
       abbrev after : List ℕ
       after = put (server * slot) answer answers
 
-      fits : (schemeOf c).answerLength (queryOf schemeOf s server) ≤ slot
+      fits : (scheme_of c).answer_length (query_of scheme_of s server) ≤ slot
       fits = rw (kept-query issued taken meters server) (fits-slot server t.below)
 
       -- the bytes of the answer that is due
       abbrev due : ℕ → ℕ
-      due i = (schemeOf c).answerLength (query i)
+      due i = (scheme_of c).answer_length (query i)
 
       sized : length answer ≡ due server
-      sized = t.sized ∙ ap (schemeOf c).answerLength (kept-query issued taken meters server)
+      sized = t.sized ∙ ap (scheme_of c).answer_length (kept-query issued taken meters server)
 
-      pub take-kept : Kept schemeOf c wanted key room (record { issued = past.issued; taken = server ∷ past.taken }) issued (set taken server true)
-          (countTaken meters server (length answer)) after
+      pub take-kept : Kept scheme_of c wanted key room (record { issued = past.issued; taken = server ∷ past.taken }) issued (set taken server true)
+          (count_taken meters server (length answer)) after
       take-kept = record {
         sent-long = k.sent-long;
         got-long = count_long meters.got server (length answer) ∙ k.got-long;
@@ -163,51 +163,51 @@ module _ (schemeOf : Catalogue → Scheme) (c : Catalogue) (admitted : Admitted 
             (sym (k.agree server) ∙ t.not_taken));
         sent-fits = k.sent-fits;
         marks = marks-take c.servers issued taken k.marks server t.below laws.servers-fit t.was-issued;
-        room-kept = take-length schemeOf s server answer answers t fits ∙ k.room-kept;
+        room-kept = take-length scheme_of s server answer answers t fits ∙ k.room-kept;
         agree-issued = k.agree-issued;
         agree = mark-agrees taken past.taken server k.agree (omega (arith, k.marks.taken-long, t.below, laws.servers-fit));
         roomy = λ i h. let e = k.room-kept in omega (arith, t.roomy);
       }
 
-      pub take-held : (store : List ℕ) → Held schemeOf c store wanted key past answers → Honest schemeOf c store wanted key server answer
-          → Held schemeOf c store wanted key (record { issued = past.issued; taken = server ∷ past.taken }) after
+      pub take-held : (store : List ℕ) → Held scheme_of c store wanted key past answers → Honest scheme_of c store wanted key server answer
+          → Held scheme_of c store wanted key (record { issued = past.issued; taken = server ∷ past.taken }) after
       unfolding stands
       take-held store held honest i h = go (eqb i server) refl
         where
-          here : cut (server * slot) ((schemeOf c).answerLength (query server)) after ≡ (schemeOf c).answer store (query server)
+          here : cut (server * slot) ((scheme_of c).answer_length (query server)) after ≡ (scheme_of c).answer store (query server)
           here =
-              ap (λ (q : List ℕ). cut (server * slot) ((schemeOf c).answerLength q) after) (sym (kept-query issued taken meters server))
-              ∙ take-reads schemeOf s server answer answers t fits
+              ap (λ (q : List ℕ). cut (server * slot) ((scheme_of c).answer_length q) after) (sym (kept-query issued taken meters server))
+              ∙ take-reads scheme_of s server answer answers t fits
               ∙ honest.as-coded
 
-          go : (b : Bool) → eqb i server ≡ b → (b || stands i past.taken) ≡ true → HeldAt schemeOf c store wanted key after i
+          go : (b : Bool) → eqb i server ≡ b → (b || stands i past.taken) ≡ true → HeldAt scheme_of c store wanted key after i
           go true e p = record { store_long = honest.store_long; holds = rw (eqb-true i server e) here }
           go false e p =
               let w = held i h p in
-              let apart = take-others schemeOf s server answer answers t fits i ((schemeOf c).answerLength (query i)) (eqb-false i server e) (fits-slot i h) in
+              let apart = take-others scheme_of s server answer answers t fits i ((scheme_of c).answer_length (query i)) (eqb-false i server e) (fits-slot i h) in
               record { store_long = w.store_long; holds = apart ∙ w.holds }
 
-    next-take : (server : ℕ) (answer : List ℕ) → Next schemeOf c wanted key room past at (taking server answer)
-    next-take server answer = go (takeVerdict schemeOf s server (length answer) (length answers)) refl
+    next-take : (server : ℕ) (answer : List ℕ) → Next scheme_of c wanted key room past at (taking server answer)
+    next-take server answer = go (take_verdict scheme_of s server (length answer) (length answers)) refl
       where
-        go : (v : Verdict) → v ≡ takeVerdict schemeOf s server (length answer) (length answers) → Next schemeOf c wanted key room past at (taking server answer)
+        go : (v : Verdict) → v ≡ take_verdict scheme_of s server (length answer) (length answers) → Next scheme_of c wanted key room past at (taking server answer)
         go Accepted e =
-            let by = take_by schemeOf s server answer answers Accepted e in
-            let t = take-passed schemeOf s server (length answer) (length answers) (sym e) in
+            let by = take_by_lem scheme_of s server answer answers Accepted e in
+            let t = take-passed scheme_of s server (length answer) (length answers) (sym e) in
             record {
               issued = issued;
               taken = set taken server true;
-              meters = countTaken meters server (length answer);
+              meters = count_taken meters server (length answer);
               answers = put (server * slot) answer answers;
               is = rw by;
               kept = rw by (take-kept server answer t);
               held = rw by (λ store h honest. take-held server answer t store h (honest server answer refl refl));
             }
         go (Refused refusal) e =
-            let by = take_by schemeOf s server answer answers (Refused refusal) e in
+            let by = take_by_lem scheme_of s server answer answers (Refused refusal) e in
             record { issued = issued; taken = taken; meters = meters; answers = answers; is = rw by; kept = rw by k; held = rw by (λ store h honest. h) }
 
-    pub next : (call : Call) → Next schemeOf c wanted key room past at call
-    next (issuing server day buffer answerDay answer) = next-issue server day answerDay buffer answer
+    pub next : (call : Call) → Next scheme_of c wanted key room past at call
+    next (issuing server day buffer answer_day answer) = next-issue server day answer_day buffer answer
     next (taking server answer) = next-take server answer
     next (recovering message) = next-recover message

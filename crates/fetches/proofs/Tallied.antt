@@ -9,10 +9,10 @@ use borrow.Author.Tests.{eqb-true, eqb-false, eq-eqb, ne_eqb, lt-leb}
 use lib.Dec.{ltb, eqb}
 use lib.ListN.{length}
 use Rattle.lists.specs.Distinct.{stands}
-use Rattle.lists.specs.Sums.{keepIf}
+use Rattle.lists.specs.Sums.{keep_if}
 use Rattle.refusal.specs.declared.Verdict.{Verdict}
 use Rattle.refusal.specs.declared.Verdict.TheVariants.{Accepted, Refused}
-use Rattle.refusal.specs.Chain.{refuseIf}
+use Rattle.refusal.specs.Chain.{refuse_if}
 use Rattle.scheme.specs.Scheme.{Scheme, Valid}
 use Rattle.scheme.specs.Laws.{Laws}
 use Rattle.calendar.specs.declared.Day.{Day}
@@ -21,13 +21,13 @@ use Rattle.catalogue.specs.Catalogue.{Admitted}
 use Rattle.session_parts.specs.declared.Meters.{Meters}
 use Rattle.session.specs.Calls.{slots_of}
 use Rattle.fetches.specs.Fetches.{Call, issuing, taking, recovering, State, Made, make, ended}
-use Rattle.fetches.specs.Past.{Past, pastBy, since}
-use Rattle.fetches.specs.Told.{bytesTo, sentTo}
-use Rattle.fetches.specs.Metered.{Meter, metersAt, sent, got, Named, issueTo, takeFrom, named}
+use Rattle.fetches.specs.Past.{Past, past_by, since}
+use Rattle.fetches.specs.Told.{bytes_to, sent_to}
+use Rattle.fetches.specs.Metered.{Meter, meters_at, sent, got, Named, issue_to, take_from, named}
 use Rattle.fetches.proofs.Kept.{state_of, Kept}
 use Rattle.fetches.proofs.Steps.{next}
 use Rattle.fetches.proofs.Told.{told}
-use Rattle.fetches.proofs.View.{verdictOn}
+use Rattle.fetches.proofs.View.{verdict_on}
 
 -- the bytes issued to it, and whether it was asked and its answer taken
 pub record Tally : Type 0 where
@@ -38,119 +38,119 @@ pub record Tally : Type 0 where
 abbrev pub none : Tally
 none = record { sent = 0; asked = false; had = false }
 
-abbrev pub afterIssue : ℕ → Tally → Verdict → Tally
-afterIssue size t Accepted = record { sent = size + t.sent; asked = true; had = t.had }
-afterIssue size t (Refused refusal) = t
+abbrev pub after_issue : ℕ → Tally → Verdict → Tally
+after_issue size t Accepted = record { sent = size + t.sent; asked = true; had = t.had }
+after_issue size t (Refused refusal) = t
 
-abbrev pub afterTake : Tally → Verdict → Tally
-afterTake t Accepted = record { sent = t.sent; asked = t.asked; had = true }
-afterTake t (Refused refusal) = t
+abbrev pub after_take : Tally → Verdict → Tally
+after_take t Accepted = record { sent = t.sent; asked = t.asked; had = true }
+after_take t (Refused refusal) = t
 
 -- the verdict on a take of `size` bytes, with an answer buffer of `room`, where N slots have `slots` bytes and `due` are due
-abbrev pub takeOn : ℕ → ℕ → Tally → ℕ → ℕ → Verdict
-takeOn slots due t size room =
-    refuseIf (ltb room slots) 9 (refuseIf (not (eqb size due)) 10 (refuseIf (not t.asked) 11 (refuseIf t.had 11 Accepted)))
+abbrev pub take_on : ℕ → ℕ → Tally → ℕ → ℕ → Verdict
+take_on slots due t size room =
+    refuse_if (ltb room slots) 9 (refuse_if (not (eqb size due)) 10 (refuse_if (not t.asked) 11 (refuse_if t.had 11 Accepted)))
 
-module _ (schemeOf : Catalogue → Scheme) (c : Catalogue) (due : ℕ) where
-  abbrev pub metersBy : Tally → List Named → Meter
-  metersBy t [] = record { sent = t.sent; got = cond t.had due 0 }
-  metersBy t (issueTo day room answerDay answerRoom ∷ calls) =
-      metersBy (afterIssue (schemeOf c).sizes.query t (verdictOn c (schemeOf c).sizes.query t.sent day room)) calls
-  metersBy t (takeFrom size room ∷ calls) = metersBy (afterTake t (takeOn (slots_of schemeOf c) due t size room)) calls
+module _ (scheme_of : Catalogue → Scheme) (c : Catalogue) (due : ℕ) where
+  abbrev pub meters_by : Tally → List Named → Meter
+  meters_by t [] = record { sent = t.sent; got = cond t.had due 0 }
+  meters_by t (issue_to day room answer_day answer_room ∷ calls) =
+      meters_by (after_issue (scheme_of c).sizes.query t (verdict_on c (scheme_of c).sizes.query t.sent day room)) calls
+  meters_by t (take_from size room ∷ calls) = meters_by (after_take t (take_on (slots_of scheme_of c) due t size room)) calls
 
-module _ (schemeOf : Catalogue → Scheme) (c : Catalogue) (admitted : Admitted c) (laws : Laws c.servers c.messages (schemeOf c))
-    (wanted : ℕ) (inside : wanted < c.messages) (key : List ℕ) (valid : Valid (schemeOf c) key) (n : ℕ) where
+module _ (scheme_of : Catalogue → Scheme) (c : Catalogue) (admitted : Admitted c) (laws : Laws c.servers c.messages (scheme_of c))
+    (wanted : ℕ) (inside : wanted < c.messages) (key : List ℕ) (valid : Valid (scheme_of c) key) (n : ℕ) where
   abbrev due : ℕ
-  due = (schemeOf c).answerLength ((schemeOf c).query wanted n key)
+  due = (scheme_of c).answer_length ((scheme_of c).query wanted n key)
 
-  abbrev sentOf : Past → ℕ
-  sentOf past = sentTo schemeOf c past n
+  abbrev sent_of : Past → ℕ
+  sent_of past = sent_to scheme_of c past n
 
   abbrev tally_of : Past → Tally
-  tally_of past = record { sent = sentTo schemeOf c past n; asked = stands n past.issued; had = stands n past.taken }
+  tally_of past = record { sent = sent_to scheme_of c past n; asked = stands n past.issued; had = stands n past.taken }
 
   module _ (below : n < c.servers) where
     module _ (room : ℕ) (past : Past) (issued taken : List Bool) (meters : Meters) (answers : List ℕ)
-        (k : Kept schemeOf c wanted key room past issued taken meters answers) where
+        (k : Kept scheme_of c wanted key room past issued taken meters answers) where
       abbrev did : Call → Made
-      did call = make schemeOf (state_of c wanted key issued taken meters answers) call
+      did call = make scheme_of (state_of c wanted key issued taken meters answers) call
 
-      issue-here : (day answerDay : Day) (query answer : List ℕ) (v : Verdict)
-          → tally_of (pastBy (issuing n day query answerDay answer) v past) ≡ afterIssue (schemeOf c).sizes.query (tally_of past) v
-      unfolding bytesTo stands
-      issue-here day answerDay query answer Accepted = rw (eq-eqb n n refl)
-      issue-here day answerDay query answer (Refused refusal) = refl
+      issue-here : (day answer_day : Day) (query answer : List ℕ) (v : Verdict)
+          → tally_of (past_by (issuing n day query answer_day answer) v past) ≡ after_issue (scheme_of c).sizes.query (tally_of past) v
+      unfolding bytes_to stands
+      issue-here day answer_day query answer Accepted = rw (eq-eqb n n refl)
+      issue-here day answer_day query answer (Refused refusal) = refl
 
-      issue-beside : (server : ℕ) (day answerDay : Day) (query answer : List ℕ) → (n ≡ server → ⊥) → (v : Verdict)
-          → tally_of (pastBy (issuing server day query answerDay answer) v past) ≡ tally_of past
-      unfolding bytesTo stands
-      issue-beside server day answerDay query answer ne Accepted = rw (ne_eqb n server ne, zero-add (bytesTo (schemeOf c).sizes.query n past.issued))
-      issue-beside server day answerDay query answer ne (Refused refusal) = refl
+      issue-beside : (server : ℕ) (day answer_day : Day) (query answer : List ℕ) → (n ≡ server → ⊥) → (v : Verdict)
+          → tally_of (past_by (issuing server day query answer_day answer) v past) ≡ tally_of past
+      unfolding bytes_to stands
+      issue-beside server day answer_day query answer ne Accepted = rw (ne_eqb n server ne, zero-add (bytes_to (scheme_of c).sizes.query n past.issued))
+      issue-beside server day answer_day query answer ne (Refused refusal) = refl
 
-      take-here : (answer : List ℕ) (v : Verdict) → tally_of (pastBy (taking n answer) v past) ≡ afterTake (tally_of past) v
+      take-here : (answer : List ℕ) (v : Verdict) → tally_of (past_by (taking n answer) v past) ≡ after_take (tally_of past) v
       unfolding stands
       take-here answer Accepted = rw (eq-eqb n n refl)
       take-here answer (Refused refusal) = refl
 
-      take-beside : (server : ℕ) (answer : List ℕ) → (n ≡ server → ⊥) → (v : Verdict) → tally_of (pastBy (taking server answer) v past) ≡ tally_of past
+      take-beside : (server : ℕ) (answer : List ℕ) → (n ≡ server → ⊥) → (v : Verdict) → tally_of (past_by (taking server answer) v past) ≡ tally_of past
       unfolding stands
       take-beside server answer ne Accepted = rw (ne_eqb n server ne)
       take-beside server answer ne (Refused refusal) = refl
 
-      issue-tally : (server : ℕ) (day answerDay : Day) (query answer : List ℕ) (t : Bool) → eqb server n ≡ t
-          → tally_of (since past (did (issuing server day query answerDay answer)))
-          ≡ cond t (afterIssue (schemeOf c).sizes.query (tally_of past) (verdictOn c (schemeOf c).sizes.query (sentOf past) day (length query)))
+      issue-tally : (server : ℕ) (day answer_day : Day) (query answer : List ℕ) (t : Bool) → eqb server n ≡ t
+          → tally_of (since past (did (issuing server day query answer_day answer)))
+          ≡ cond t (after_issue (scheme_of c).sizes.query (tally_of past) (verdict_on c (scheme_of c).sizes.query (sent_of past) day (length query)))
           (tally_of past)
-      issue-tally server day answerDay query answer true e =
+      issue-tally server day answer_day query answer true e =
           let same : server ≡ n = eqb-true server n e in
-          let says : (did (issuing n day query answerDay answer)).verdict ≡ verdictOn c (schemeOf c).sizes.query (sentOf past) day (length query) =
-          (told schemeOf c admitted laws wanted inside key valid room past issued taken meters answers k (issuing n day query answerDay answer)
-          ).issues n day answerDay query answer refl
+          let says : (did (issuing n day query answer_day answer)).verdict ≡ verdict_on c (scheme_of c).sizes.query (sent_of past) day (length query) =
+          (told scheme_of c admitted laws wanted inside key valid room past issued taken meters answers k (issuing n day query answer_day answer)
+          ).issues n day answer_day query answer refl
           ∙ rw (lt-leb c.servers n below) in
           rw same
-          (issue-here day answerDay query answer (did (issuing n day query answerDay answer)).verdict
-          ∙ ap (afterIssue (schemeOf c).sizes.query (tally_of past)) says)
-      issue-tally server day answerDay query answer false e =
-          issue-beside server day answerDay query answer (λ q. eqb-false server n e (sym q)) (did (issuing server day query answerDay answer)).verdict
+          (issue-here day answer_day query answer (did (issuing n day query answer_day answer)).verdict
+          ∙ ap (after_issue (scheme_of c).sizes.query (tally_of past)) says)
+      issue-tally server day answer_day query answer false e =
+          issue-beside server day answer_day query answer (λ q. eqb-false server n e (sym q)) (did (issuing server day query answer_day answer)).verdict
 
       take-tally : (server : ℕ) (answer : List ℕ) (t : Bool) → eqb server n ≡ t
           → tally_of (since past (did (taking server answer)))
-          ≡ cond t (afterTake (tally_of past) (takeOn (slots_of schemeOf c) due (tally_of past) (length answer) room)) (tally_of past)
+          ≡ cond t (after_take (tally_of past) (take_on (slots_of scheme_of c) due (tally_of past) (length answer) room)) (tally_of past)
       take-tally server answer true e =
           let same : server ≡ n = eqb-true server n e in
-          let says : (did (taking n answer)).verdict ≡ takeOn (slots_of schemeOf c) due (tally_of past) (length answer) room =
-          (told schemeOf c admitted laws wanted inside key valid room past issued taken meters answers k (taking n answer)).takes n answer refl
+          let says : (did (taking n answer)).verdict ≡ take_on (slots_of scheme_of c) due (tally_of past) (length answer) room =
+          (told scheme_of c admitted laws wanted inside key valid room past issued taken meters answers k (taking n answer)).takes n answer refl
           ∙ rw (lt-leb c.servers n below) in
-          rw same (take-here answer (did (taking n answer)).verdict ∙ ap (afterTake (tally_of past)) says)
+          rw same (take-here answer (did (taking n answer)).verdict ∙ ap (after_take (tally_of past)) says)
       take-tally server answer false e =
           take-beside server answer (λ q. eqb-false server n e (sym q)) (did (taking server answer)).verdict
 
     -- a call that names the server, or another
     named_by : (call : Named) (rest : List Named) (t : Bool) (before here after : Tally) → after ≡ cond t here before
-        → metersBy schemeOf c due here rest ≡ metersBy schemeOf c due before (call ∷ rest)
-        → metersBy schemeOf c due after rest ≡ metersBy schemeOf c due before (keepIf t call rest)
-    unfolding keepIf
-    named_by call rest true before here after e f = ap (λ (t : Tally). metersBy schemeOf c due t rest) e ∙ f
-    named_by call rest false before here after e f = ap (λ (t : Tally). metersBy schemeOf c due t rest) e
+        → meters_by scheme_of c due here rest ≡ meters_by scheme_of c due before (call ∷ rest)
+        → meters_by scheme_of c due after rest ≡ meters_by scheme_of c due before (keep_if t call rest)
+    unfolding keep_if
+    named_by call rest true before here after e f = ap (λ (t : Tally). meters_by scheme_of c due t rest) e ∙ f
+    named_by call rest false before here after e f = ap (λ (t : Tally). meters_by scheme_of c due t rest) e
 
     pub tallied : (calls : List Call) (room : ℕ) (past : Past) (issued taken : List Bool) (meters : Meters) (answers : List ℕ)
-        → Kept schemeOf c wanted key room past issued taken meters answers
-        → metersAt n (ended schemeOf (state_of c wanted key issued taken meters answers) calls)
-        ≡ metersBy schemeOf c ((schemeOf c).answerLength ((schemeOf c).query wanted n key))
-        (record { sent = sentTo schemeOf c past n; asked = stands n past.issued; had = stands n past.taken }) (named n room calls)
+        → Kept scheme_of c wanted key room past issued taken meters answers
+        → meters_at n (ended scheme_of (state_of c wanted key issued taken meters answers) calls)
+        ≡ meters_by scheme_of c ((scheme_of c).answer_length ((scheme_of c).query wanted n key))
+        (record { sent = sent_to scheme_of c past n; asked = stands n past.issued; had = stands n past.taken }) (named n room calls)
     tallied [] room past issued taken meters answers k = rw (k.agree-sent n, k.agree-got n)
-    tallied (issuing server day query answerDay answer ∷ calls) room past issued taken meters answers k =
-        let x = next schemeOf c admitted laws wanted inside key valid room past issued taken meters answers k (issuing server day query answerDay answer) in
-        ap (λ (at : State). metersAt n (ended schemeOf at calls)) x.is
+    tallied (issuing server day query answer_day answer ∷ calls) room past issued taken meters answers k =
+        let x = next scheme_of c admitted laws wanted inside key valid room past issued taken meters answers k (issuing server day query answer_day answer) in
+        ap (λ (at : State). meters_at n (ended scheme_of at calls)) x.is
         ∙ tallied calls room _ x.issued x.taken x.meters x.answers x.kept
         ∙ named_by _ (named n room calls) (eqb server n) (tally_of past) _ _
-        (issue-tally room past issued taken meters answers k server day answerDay query answer (eqb server n) refl) refl
+        (issue-tally room past issued taken meters answers k server day answer_day query answer (eqb server n) refl) refl
     tallied (taking server answer ∷ calls) room past issued taken meters answers k =
-        let x = next schemeOf c admitted laws wanted inside key valid room past issued taken meters answers k (taking server answer) in
-        ap (λ (at : State). metersAt n (ended schemeOf at calls)) x.is
+        let x = next scheme_of c admitted laws wanted inside key valid room past issued taken meters answers k (taking server answer) in
+        ap (λ (at : State). meters_at n (ended scheme_of at calls)) x.is
         ∙ tallied calls room _ x.issued x.taken x.meters x.answers x.kept
         ∙ named_by _ (named n room calls) (eqb server n) (tally_of past) _ _
         (take-tally room past issued taken meters answers k server answer (eqb server n) refl) refl
     tallied (recovering message ∷ calls) room past issued taken meters answers k =
-        let x = next schemeOf c admitted laws wanted inside key valid room past issued taken meters answers k (recovering message) in
-        ap (λ (at : State). metersAt n (ended schemeOf at calls)) x.is ∙ tallied calls room _ x.issued x.taken x.meters x.answers x.kept
+        let x = next scheme_of c admitted laws wanted inside key valid room past issued taken meters answers k (recovering message) in
+        ap (λ (at : State). meters_at n (ended scheme_of at calls)) x.is ∙ tallied calls room _ x.issued x.taken x.meters x.answers x.kept

@@ -23,30 +23,30 @@ pub then-holds : {P : Past → Made → Type 0} {past : Past} {made : Made} {res
     → Throughout P (since past made) rest
 then-holds (step p ps) = ps
 
-module _ (schemeOf : Catalogue → Scheme) where
+module _ (scheme_of : Catalogue → Scheme) where
   -- from one state as from an equal one
   pub from-state : {P : Past → Made → Type 0} {past : Past} {at other : State} (calls : List Call) → at ≡ other
-      → Throughout P past (run schemeOf other calls) → Throughout P past (run schemeOf at calls)
+      → Throughout P past (run scheme_of other calls) → Throughout P past (run scheme_of at calls)
   from-state {P} {past} {at} {other} calls e t = rw e t
 
   -- what holds of any call holds throughout
-  always : {P : Past → Made → Type 0} → ((past : Past) (at : State) (call : Call) → P past (make schemeOf at call))
-      → (calls : List Call) (past : Past) (at : State) → Throughout P past (run schemeOf at calls)
+  always : {P : Past → Made → Type 0} → ((past : Past) (at : State) (call : Call) → P past (make scheme_of at call))
+      → (calls : List Call) (past : Past) (at : State) → Throughout P past (run scheme_of at calls)
   always p [] past at = end
-  always p (call ∷ calls) past at = step (p past at call) (always p calls (since past (make schemeOf at call)) (make schemeOf at call).after)
+  always p (call ∷ calls) past at = step (p past at call) (always p calls (since past (make scheme_of at call)) (make scheme_of at call).after)
 
-  unchanged : (past : Past) (at : State) (call : Call) → Unchanged past (make schemeOf at call)
-  unchanged past at (issuing server day query answerDay answer) refusal e =
-      let q = (issue-goes schemeOf at.session day server query).unchanged refusal e in rw q (refl, refl)
+  unchanged : (past : Past) (at : State) (call : Call) → Unchanged past (make scheme_of at call)
+  unchanged past at (issuing server day query answer_day answer) refusal e =
+      let q = (issue-goes scheme_of at.session day server query).unchanged refusal e in rw q (refl, refl)
   unchanged past at (taking server answer) refusal e =
-      let q = (take-goes schemeOf at.session server answer at.answers).unchanged refusal e in rw q (refl, refl)
-  unchanged past at (recovering message) refusal e = let q = (recover-goes schemeOf at.session at.answers message).unchanged refusal e in rw q (refl, refl)
+      let q = (take-goes scheme_of at.session server answer at.answers).unchanged refusal e in rw q (refl, refl)
+  unchanged past at (recovering message) refusal e = let q = (recover-goes scheme_of at.session at.answers message).unchanged refusal e in rw q (refl, refl)
 
-  pub all-unchanged : (calls : List Call) (past : Past) (at : State) → Throughout Unchanged past (run schemeOf at calls)
+  pub all-unchanged : (calls : List Call) (past : Past) (at : State) → Throughout Unchanged past (run scheme_of at calls)
   all-unchanged = always unchanged
 
-  pub all-answers-left : (c : Catalogue) → Laws c.servers c.messages (schemeOf c) → (store : List ℕ) (calls : List Call) (past : Past) (at : State)
-      → Throughout (AnswerLeft schemeOf c store) past (run schemeOf at calls)
+  pub all-answers-left : (c : Catalogue) → Laws c.servers c.messages (scheme_of c) → (store : List ℕ) (calls : List Call) (past : Past) (at : State)
+      → Throughout (AnswerLeft scheme_of c store) past (run scheme_of at calls)
   all-answers-left c laws store =
-      always (λ past at call server day answerDay query answer e f.
-      writes-only schemeOf c laws answerDay server store (take (schemeOf c).sizes.query (make schemeOf at call).left) answer)
+      always (λ past at call server day answer_day query answer e f.
+      writes-only scheme_of c laws answer_day server store (take (scheme_of c).sizes.query (make scheme_of at call).left) answer)

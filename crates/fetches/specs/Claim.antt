@@ -8,18 +8,18 @@ use Rattle.scheme.specs.Laws.{Laws}
 use Rattle.catalogue.specs.declared.Catalogue.{Catalogue}
 use Rattle.catalogue.specs.Catalogue.{Admitted}
 use Rattle.fetches.specs.Fetches.{Fetch}
-use Rattle.fetches.specs.Shown.{issuesTo, shown}
+use Rattle.fetches.specs.Shown.{issues_to, shown}
 use Rattle.fetches.specs.Metered.{Alongside, MetersAgree}
 use Rattle.fetches.specs.Right.{FetchRight}
 
 -- THE CLAIM on the lists fs and gs: server n is shown the same of both, if they make the same issues to it, on the same days, refused ones included (their
 -- issues to other servers may differ); its two meters agree, fetch by fetch, where the calls that name it are the same in kind, order, days and all lengths
 -- lent (02, item 5; other calls may differ); and each fetch of both is right
-pub record Claim (schemeOf : Catalogue → Scheme) (c : Catalogue) (store : List ℕ) (n : ℕ) (fs gs : List Fetch) : Type 0 where
-  pub alike : issuesTo n fs ≡ issuesTo n gs → shown schemeOf c store n fs ≡ shown schemeOf c store n gs
-  pub metered : Alongside (MetersAgree schemeOf c n) fs gs
-  pub first : All (FetchRight schemeOf c store) fs
-  pub second : All (FetchRight schemeOf c store) gs
+pub record Claim (scheme_of : Catalogue → Scheme) (c : Catalogue) (store : List ℕ) (n : ℕ) (fs gs : List Fetch) : Type 0 where
+  pub alike : issues_to n fs ≡ issues_to n gs → shown scheme_of c store n fs ≡ shown scheme_of c store n gs
+  pub metered : Alongside (MetersAgree scheme_of c n) fs gs
+  pub first : All (FetchRight scheme_of c store) fs
+  pub second : All (FetchRight scheme_of c store) gs
 
 -- Lists of valid keys, one for each of `count` fetches
 pub record KeyList (scheme : Scheme) (count : ℕ) (keys : List (List ℕ)) : Type 0 where
@@ -28,23 +28,23 @@ pub record KeyList (scheme : Scheme) (count : ℕ) (keys : List (List ℕ)) : Ty
 
 -- For a catalogue, a server and two lists of messages: a one-to-one exchange of the lists of valid keys, and the claim of any fetches with these
 -- messages, with any keys for the first list and the exchanged ones for the second
-pub record Exchange (schemeOf : Catalogue → Scheme) (c : Catalogue) (n : ℕ) (ps qs : List ℕ) : Type 0 where
+pub record Exchange (scheme_of : Catalogue → Scheme) (c : Catalogue) (n : ℕ) (ps qs : List ℕ) : Type 0 where
   pub swap : List (List ℕ) → List (List ℕ)
   pub back : List (List ℕ) → List (List ℕ)
-  pub swap-valid : (keys : List (List ℕ)) → KeyList (schemeOf c) (length ps) keys → KeyList (schemeOf c) (length qs) (swap keys)
-  pub back-valid : (keys : List (List ℕ)) → KeyList (schemeOf c) (length qs) keys → KeyList (schemeOf c) (length ps) (back keys)
-  pub back-swap : (keys : List (List ℕ)) → KeyList (schemeOf c) (length ps) keys → back (swap keys) ≡ keys
-  pub swap-back : (keys : List (List ℕ)) → KeyList (schemeOf c) (length qs) keys → swap (back keys) ≡ keys
-  pub claim : (keys : List (List ℕ)) → KeyList (schemeOf c) (length ps) keys → (store : List ℕ) → Below 256 store → (fs gs : List Fetch)
+  pub swap-valid : (keys : List (List ℕ)) → KeyList (scheme_of c) (length ps) keys → KeyList (scheme_of c) (length qs) (swap keys)
+  pub back-valid : (keys : List (List ℕ)) → KeyList (scheme_of c) (length qs) keys → KeyList (scheme_of c) (length ps) (back keys)
+  pub back-swap : (keys : List (List ℕ)) → KeyList (scheme_of c) (length ps) keys → back (swap keys) ≡ keys
+  pub swap-back : (keys : List (List ℕ)) → KeyList (scheme_of c) (length qs) keys → swap (back keys) ≡ keys
+  pub claim : (keys : List (List ℕ)) → KeyList (scheme_of c) (length ps) keys → (store : List ℕ) → Below 256 store → (fs gs : List Fetch)
       → map (λ (f : Fetch). f.wanted) fs ≡ ps → map (λ (f : Fetch). f.key) fs ≡ keys
-      → map (λ (f : Fetch). f.wanted) gs ≡ qs → map (λ (f : Fetch). f.key) gs ≡ swap keys → Claim schemeOf c store n fs gs
+      → map (λ (f : Fetch). f.wanted) gs ≡ qs → map (λ (f : Fetch). f.key) gs ≡ swap keys → Claim scheme_of c store n fs gs
 
 -- Demand 3, whole; an admitted catalogue has two messages or more (02, item 9)
 abbrev pub Demand3 : (Catalogue → Scheme) → Type 0
-Demand3 schemeOf =
+Demand3 scheme_of =
     (c : Catalogue) → Admitted c → (n : ℕ) → n < c.servers → (ps qs : List ℕ) → length ps ≡ length qs → Below c.messages ps
-    → Below c.messages qs → Exchange schemeOf c n ps qs
+    → Below c.messages qs → Exchange scheme_of c n ps qs
 
 -- The code of each admitted catalogue keeps its promises
 abbrev pub Promises : (Catalogue → Scheme) → Type 0
-Promises schemeOf = (c : Catalogue) → Admitted c → Laws c.servers c.messages (schemeOf c)
+Promises scheme_of = (c : Catalogue) → Admitted c → Laws c.servers c.messages (scheme_of c)

@@ -6,13 +6,13 @@ use Rattle.scheme.specs.Scheme.{Scheme}
 use Rattle.calendar.specs.declared.Day.{Day}
 use Rattle.catalogue.specs.declared.Catalogue.{Catalogue}
 use Rattle.session.specs.declared.Session.{Session}
-use Rattle.session.specs.Calls.{Out, begin, issue, takeAnswer, recover}
+use Rattle.session.specs.Calls.{Out, begin, issue, take_answer, recover}
 
 -- A call of a fetch, with the buffers that are its own as they are when it is made: an issue has the one for the query, and the one that the server
 -- answers the query into; a recover has the one for the message. A take and a recover are lent the fetch's one answer buffer besides. An issue has two
 -- days, the one on which it is issued and the one on which it is answered (document 02, item 1)
 pub data Call : Type 0 where
-  issuing : (server : ℕ) (day : Day) (query : List ℕ) (answerDay : Day) (answer : List ℕ) → Call
+  issuing : (server : ℕ) (day : Day) (query : List ℕ) (answer_day : Day) (answer : List ℕ) → Call
   taking : (server : ℕ) (answer : List ℕ) → Call
   recovering : (message : List ℕ) → Call
 
@@ -38,13 +38,13 @@ pub record Made : Type 0 where
 
 -- the call's own buffer, as it was lent
 abbrev pub lent : Call → List ℕ
-lent (issuing server day query answerDay answer) = query
+lent (issuing server day query answer_day answer) = query
 lent (taking server answer) = []
 lent (recovering message) = message
 
 -- issue and recover may write the call's own buffer, and take the answer buffer
-abbrev pub ownWritten : Call → State → Out → Made
-ownWritten call at o = record {
+abbrev pub own_written : Call → State → Out → Made
+own_written call at o = record {
   call = call;
   before = at;
   verdict = o.handed.verdict;
@@ -52,8 +52,8 @@ ownWritten call at o = record {
   after = record { session = o.handed.session; answers = at.answers };
 }
 
-abbrev pub answersWritten : Call → State → Out → Made
-answersWritten call at o = record {
+abbrev pub answers_written : Call → State → Out → Made
+answers_written call at o = record {
   call = call;
   before = at;
   verdict = o.handed.verdict;
@@ -61,12 +61,12 @@ answersWritten call at o = record {
   after = record { session = o.handed.session; answers = o.buffer };
 }
 
-module _ (schemeOf : Catalogue → Scheme) where
+module _ (scheme_of : Catalogue → Scheme) where
   abbrev pub make : State → Call → Made
-  make at (issuing server day query answerDay answer) =
-      ownWritten (issuing server day query answerDay answer) at (issue schemeOf at.session day server query)
-  make at (taking server answer) = answersWritten (taking server answer) at (takeAnswer schemeOf at.session server answer at.answers)
-  make at (recovering message) = ownWritten (recovering message) at (recover schemeOf at.session at.answers message)
+  make at (issuing server day query answer_day answer) =
+      own_written (issuing server day query answer_day answer) at (issue scheme_of at.session day server query)
+  make at (taking server answer) = answers_written (taking server answer) at (take_answer scheme_of at.session server answer at.answers)
+  make at (recovering message) = own_written (recovering message) at (recover scheme_of at.session at.answers message)
 
   -- each call gets the session that the last one handed back, and the answer buffer as the last one left it
   abbrev pub run : State → List Call → List Made
@@ -80,7 +80,7 @@ module _ (schemeOf : Catalogue → Scheme) where
 
   -- the first of them gets begin's
   abbrev pub start : Catalogue → Fetch → State
-  start c f = record { session = (begin schemeOf c f.wanted f.key).session; answers = f.answers }
+  start c f = record { session = (begin scheme_of c f.wanted f.key).session; answers = f.answers }
 
   abbrev pub history : Catalogue → Fetch → List Made
   history c f = run (start c f) f.calls

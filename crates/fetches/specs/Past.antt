@@ -14,15 +14,15 @@ abbrev pub nothing : Past
 nothing = record { issued = []; taken = [] }
 
 -- one server more after an issue or a take that was not refused
-abbrev pub pastBy : Call → Verdict → Past → Past
-pastBy (issuing server day query answerDay answer) Accepted past = record { issued = server ∷ past.issued; taken = past.taken }
-pastBy (issuing server day query answerDay answer) (Refused refusal) past = past
-pastBy (taking server answer) Accepted past = record { issued = past.issued; taken = server ∷ past.taken }
-pastBy (taking server answer) (Refused refusal) past = past
-pastBy (recovering message) verdict past = past
+abbrev pub past_by : Call → Verdict → Past → Past
+past_by (issuing server day query answer_day answer) Accepted past = record { issued = server ∷ past.issued; taken = past.taken }
+past_by (issuing server day query answer_day answer) (Refused refusal) past = past
+past_by (taking server answer) Accepted past = record { issued = past.issued; taken = server ∷ past.taken }
+past_by (taking server answer) (Refused refusal) past = past
+past_by (recovering message) verdict past = past
 
 abbrev pub since : Past → Made → Past
-since past made = pastBy made.call made.verdict past
+since past made = past_by made.call made.verdict past
 
 -- P holds of each call that was made, with what the calls before it say
 pub data Throughout (P : Past → Made → Type 0) : Past → List Made → Type 0 where

@@ -6,11 +6,11 @@ use Rattle.lists.specs.Parts.{put}
 use Rattle.refusal.specs.declared.Refusal.{Refusal}
 use Rattle.refusal.specs.declared.Verdict.{Verdict}
 use Rattle.refusal.specs.declared.Verdict.TheVariants.{Accepted, Refused}
-use Rattle.refusal.specs.Chain.{refused, refuseIf}
+use Rattle.refusal.specs.Chain.{refused, refuse_if}
 use Rattle.scheme.specs.Scheme.{Scheme}
 use Rattle.calendar.specs.declared.Day.{Day}
 use Rattle.catalogue.specs.declared.Catalogue.{Catalogue}
-use Rattle.codes.specs.Messages.{messageLength, messageIn}
+use Rattle.codes.specs.Messages.{message_length, message_in}
 use Rattle.server.specs.Answering.{Answered, written_by, answering}
 use Rattle.session.specs.Calls.{slots_of, begin}
 use Rattle.fetches.specs.Fetches.{issuing, taking, recovering, Fetch, Made, lent, history}
@@ -25,17 +25,17 @@ Unchanged past made = (refusal : Refusal) → made.verdict ≡ Refused refusal �
 abbrev pub OnlyWritten : Answered → List ℕ → Type 0
 OnlyWritten a before = a.buffer ≡ put 0 (written_by a.outcome a.buffer) before
 
-module _ (schemeOf : Catalogue → Scheme) (c : Catalogue) where
+module _ (scheme_of : Catalogue → Scheme) (c : Catalogue) where
   abbrev pub AllTaken : Past → Type 0
   AllTaken past = (server : ℕ) → server < c.servers → stands server past.taken ≡ true
 
   -- A recover into `message`, with an answer buffer of `room` bytes: once all are taken it is done, unless the message's buffer is too short (9) for the
   -- bytes of the wanted message; with an answer missing it is refused, 9 if a buffer is too short, else 12
   pub record RecoverSays (wanted room : ℕ) (past : Past) (message : List ℕ) (verdict : Verdict) : Type 0 where
-    pub all-taken : AllTaken past → verdict ≡ refuseIf (ltb (length message) (messageLength schemeOf c wanted)) 9 Accepted
+    pub all-taken : AllTaken past → verdict ≡ refuse_if (ltb (length message) (message_length scheme_of c wanted)) 9 Accepted
     pub missing : (server : ℕ) → server < c.servers → stands server past.taken ≡ false
         → verdict
-        ≡ refuseIf (ltb room (slots_of schemeOf c)) 9 (refuseIf (ltb (length message) (messageLength schemeOf c wanted)) 9 (refused 12))
+        ≡ refuse_if (ltb room (slots_of scheme_of c)) 9 (refuse_if (ltb (length message) (message_length scheme_of c wanted)) 9 (refused 12))
 
   abbrev pub RecoverVerdict : ℕ → ℕ → Past → Made → Type 0
   RecoverVerdict wanted room past made = (message : List ℕ) → made.call ≡ recovering message → RecoverSays wanted room past message made.verdict
@@ -43,8 +43,8 @@ module _ (schemeOf : Catalogue → Scheme) (c : Catalogue) where
   module _ (store : List ℕ) where
     -- The honest answer of a server to what the wanted message and the key call for there. From a store not of the catalogue's length none is honest
     pub record Honest (wanted : ℕ) (key : List ℕ) (server : ℕ) (answer : List ℕ) : Type 0 where
-      pub store_long : length store ≡ (schemeOf c).sizes.store
-      pub as-coded : answer ≡ (schemeOf c).answer store ((schemeOf c).query wanted server key)
+      pub store_long : length store ≡ (scheme_of c).sizes.store
+      pub as-coded : answer ≡ (scheme_of c).answer store ((scheme_of c).query wanted server key)
 
     -- a take that was not refused handed over the honest answer of the server that it names
     abbrev pub HonestTake : ℕ → List ℕ → Past → Made → Type 0
@@ -54,22 +54,22 @@ module _ (schemeOf : Catalogue → Scheme) (c : Catalogue) where
     -- a recover after all are taken leaves the wanted message at the start of its buffer, if that is long enough, and the rest as it was
     abbrev pub MessageLeft : ℕ → Past → Made → Type 0
     MessageLeft wanted past made =
-        (message : List ℕ) → made.call ≡ recovering message → AllTaken past → messageLength schemeOf c wanted ≤ length message
-        → made.left ≡ put 0 (messageIn schemeOf c store wanted) message
+        (message : List ℕ) → made.call ≡ recovering message → AllTaken past → message_length scheme_of c wanted ≤ length message
+        → made.left ≡ put 0 (message_in scheme_of c store wanted) message
 
     -- of the buffer that a query is answered into, nothing is left changed but what the server is shown to write
     abbrev pub AnswerLeft : Past → Made → Type 0
     AnswerLeft past made =
-        (server : ℕ) (day answerDay : Day) (query answer : List ℕ) → made.call ≡ issuing server day query answerDay answer → made.verdict ≡ Accepted
-        → OnlyWritten (answering schemeOf c answerDay server store (take (schemeOf c).sizes.query made.left) answer) answer
+        (server : ℕ) (day answer_day : Day) (query answer : List ℕ) → made.call ≡ issuing server day query answer_day answer → made.verdict ≡ Accepted
+        → OnlyWritten (answering scheme_of c answer_day server store (take (scheme_of c).sizes.query made.left) answer) answer
 
     -- What holds in each fetch
     pub record FetchRight (f : Fetch) : Type 0 where
-      pub begun : (begin schemeOf c f.wanted f.key).verdict ≡ Accepted
-      pub refusals : Throughout Unchanged nothing (history schemeOf c f)
-      pub told : Throughout (Told schemeOf c f.wanted f.key (length f.answers)) nothing (history schemeOf c f)
-      pub answers-left : Throughout AnswerLeft nothing (history schemeOf c f)
-      pub metered : (server : ℕ) → Metered schemeOf c f server
-      pub verdicts : Throughout (RecoverVerdict f.wanted (length f.answers)) nothing (history schemeOf c f)
-      pub messages : Throughout (HonestTake f.wanted f.key) nothing (history schemeOf c f)
-          → Throughout (MessageLeft f.wanted) nothing (history schemeOf c f)
+      pub begun : (begin scheme_of c f.wanted f.key).verdict ≡ Accepted
+      pub refusals : Throughout Unchanged nothing (history scheme_of c f)
+      pub told : Throughout (Told scheme_of c f.wanted f.key (length f.answers)) nothing (history scheme_of c f)
+      pub answers-left : Throughout AnswerLeft nothing (history scheme_of c f)
+      pub metered : (server : ℕ) → Metered scheme_of c f server
+      pub verdicts : Throughout (RecoverVerdict f.wanted (length f.answers)) nothing (history scheme_of c f)
+      pub messages : Throughout (HonestTake f.wanted f.key) nothing (history scheme_of c f)
+          → Throughout (MessageLeft f.wanted) nothing (history scheme_of c f)

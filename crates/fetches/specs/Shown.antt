@@ -1,4 +1,4 @@
--- What a server is shown of fetches (`shown`), and the issues that two lists of fetches must agree on (`issuesTo`): document 01, 'Lists of fetches'.
+-- What a server is shown of fetches (`shown`), and the issues that two lists of fetches must agree on (`issues_to`): document 01, 'Lists of fetches'.
 use Rattle.std.specs.Prelude.{cond, List, [], ◌∷◌, ◌++◌, map, ℕ, eqb, length, take}
 use Rattle.lists.specs.Sums.{keep}
 use Rattle.refusal.specs.declared.Refusal.{Refusal}
@@ -23,46 +23,46 @@ pub record Issue : Type 0 where
   pub server : ℕ
   pub day : Day
   pub room : ℕ
-  pub answerDay : Day
-  pub answerRoom : ℕ
+  pub answer_day : Day
+  pub answer_room : ℕ
 
 abbrev pub issues : List Call → List Issue
 issues [] = []
-issues (issuing server day query answerDay answer ∷ calls) =
-    record { server = server; day = day; room = length query; answerDay = answerDay; answerRoom = length answer } ∷ issues calls
+issues (issuing server day query answer_day answer ∷ calls) =
+    record { server = server; day = day; room = length query; answer_day = answer_day; answer_room = length answer } ∷ issues calls
 issues (taking server answer ∷ calls) = issues calls
 issues (recovering message ∷ calls) = issues calls
 
 -- those of a list of fetches, fetch by fetch; and of them only those that name server n
-abbrev pub issuesOf : List Fetch → List (List Issue)
-issuesOf fs = map (λ (f : Fetch). issues f.calls) fs
+abbrev pub issues_of : List Fetch → List (List Issue)
+issues_of fs = map (λ (f : Fetch). issues f.calls) fs
 
-abbrev pub issuesTo : ℕ → List Fetch → List (List Issue)
-issuesTo n fs = map (keep (λ (i : Issue). eqb i.server n)) (issuesOf fs)
+abbrev pub issues_to : ℕ → List Fetch → List (List Issue)
+issues_to n fs = map (keep (λ (i : Issue). eqb i.server n)) (issues_of fs)
 
-module _ (schemeOf : Catalogue → Scheme) (c : Catalogue) (store : List ℕ) where
+module _ (scheme_of : Catalogue → Scheme) (c : Catalogue) (store : List ℕ) where
   -- a server is asked a query, and answers it on a day, from the store into a buffer
-  abbrev pub askedAnd : List ℕ → Answered → Shown
-  askedAnd query a = asked query a.outcome (written_by a.outcome a.buffer)
+  abbrev pub asked_and : List ℕ → Answered → Shown
+  asked_and query a = asked query a.outcome (written_by a.outcome a.buffer)
 
   abbrev pub asking : ℕ → List ℕ → Day → List ℕ → Shown
-  asking server query answerDay answer = askedAnd query (answering schemeOf c answerDay server store query answer)
+  asking server query answer_day answer = asked_and query (answering scheme_of c answer_day server store query answer)
 
   -- the query is what an issue wrote at the start of its buffer
   abbrev pub showing : ℕ → List ℕ → Day → List ℕ → Verdict → Shown
-  showing server left answerDay answer Accepted = asking server (take (schemeOf c).sizes.query left) answerDay answer
-  showing server left answerDay answer (Refused refusal) = refused refusal
+  showing server left answer_day answer Accepted = asking server (take (scheme_of c).sizes.query left) answer_day answer
+  showing server left answer_day answer (Refused refusal) = refused refusal
 
   -- what a call that was made shows server n: the issues that name it
-  abbrev pub shownBy : ℕ → Call → List ℕ → Verdict → List Shown
-  shownBy n (issuing server day query answerDay answer) left verdict = cond (eqb server n) (showing server left answerDay answer verdict ∷ []) []
-  shownBy n (taking server answer) left verdict = []
-  shownBy n (recovering message) left verdict = []
+  abbrev pub shown_by : ℕ → Call → List ℕ → Verdict → List Shown
+  shown_by n (issuing server day query answer_day answer) left verdict = cond (eqb server n) (showing server left answer_day answer verdict ∷ []) []
+  shown_by n (taking server answer) left verdict = []
+  shown_by n (recovering message) left verdict = []
 
-  abbrev pub shownTo : ℕ → List Made → List Shown
-  shownTo n [] = []
-  shownTo n (made ∷ rest) = shownBy n made.call made.left made.verdict ++ shownTo n rest
+  abbrev pub shown_to : ℕ → List Made → List Shown
+  shown_to n [] = []
+  shown_to n (made ∷ rest) = shown_by n made.call made.left made.verdict ++ shown_to n rest
 
   -- fetch by fetch and in order
   abbrev pub shown : ℕ → List Fetch → List (List Shown)
-  shown n fs = map (λ (f : Fetch). shownTo n (history schemeOf c f)) fs
+  shown n fs = map (λ (f : Fetch). shown_to n (history scheme_of c f)) fs

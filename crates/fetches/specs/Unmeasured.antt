@@ -23,11 +23,11 @@ with_lengths l c = record {
 }
 
 -- a fetch of a message in the catalogue, by a valid key
-pub record Begins (schemeOf : Catalogue → Scheme) (c : Catalogue) (f : Fetch) : Type 0 where
+pub record Begins (scheme_of : Catalogue → Scheme) (c : Catalogue) (f : Fetch) : Type 0 where
   pub inside : f.wanted < c.messages
-  pub valid : Valid (schemeOf c) f.key
+  pub valid : Valid (scheme_of c) f.key
 
 abbrev pub LengthsHidden : (Catalogue → Scheme) → Type 0
-LengthsHidden schemeOf =
+LengthsHidden scheme_of =
     (c : Catalogue) → Admitted c → (l : Lengths) → Admitted (with_lengths l c) → (store : List ℕ) (n : ℕ) → n < c.servers → (fs : List Fetch)
-    → All (Begins schemeOf c) fs → shown schemeOf (with_lengths l c) store n fs ≡ shown schemeOf c store n fs
+    → All (Begins scheme_of c) fs → shown scheme_of (with_lengths l c) store n fs ≡ shown scheme_of c store n fs

@@ -17,15 +17,15 @@ use Rattle.catalogue.proofs.Admitted.{admitted-small}
 use Rattle.catalogue_text.specs.declared.Reading.{Reading}
 use Rattle.catalogue_text.specs.Parsing.{read_of}
 use Rattle.catalogue_text.proofs.RoundTrip.{read-is-written}
-use Rattle.codes.specs.Codes.{schemeOf}
+use Rattle.codes.specs.Codes.{scheme_of}
 use Rattle.codes.proofs.Promises.{promises, scheme-sizes}
-use Rattle.server.specs.Answering.{Answered, DidAnswer, answerVerdict, answering}
+use Rattle.server.specs.Answering.{Answered, DidAnswer, answer_verdict, answering}
 use Rattle.server.proofs.Laws.{answer-passed, answer-by}
-use Rattle.gozimpe.specs.Host.{answeringText, longestAnswer}
+use Rattle.gozimpe.specs.Host.{answering_text, longest_answer}
 
 -- ---- lengths
 
-pub slot_small : (c : Catalogue) → Admitted c → (schemeOf c).sizes.slot < 2 ^ 32
+pub slot_small : (c : Catalogue) → Admitted c → (scheme_of c).sizes.slot < 2 ^ 32
 slot_small c a = rw (scheme-sizes c) (admitted-small c a).slot
 
 no_value : {A : Type 0} (refusal : Refusal) (size : ℕ) → NoValue refusal ≡ Value size → A
@@ -36,20 +36,20 @@ same-value a b e = cc
 
 -- the length that answering returns is at most a slot
 pub answer-small : (c : Catalogue) (day : Day) (server : ℕ) (store query buffer : List ℕ) (outcome : Outcome) (size : ℕ)
-    → outcome ≡ (answering schemeOf c day server store query buffer).outcome → outcome ≡ Value size → size < 2 ^ 32
-answer-small c day server store query buffer outcome size is e = go (answerVerdict schemeOf c day server (length store) query (length buffer)) refl
+    → outcome ≡ (answering scheme_of c day server store query buffer).outcome → outcome ≡ Value size → size < 2 ^ 32
+answer-small c day server store query buffer outcome size is e = go (answer_verdict scheme_of c day server (length store) query (length buffer)) refl
   where
-    given : (x : Answered) → answering schemeOf c day server store query buffer ≡ x → x.outcome ≡ Value size
+    given : (x : Answered) → answering scheme_of c day server store query buffer ≡ x → x.outcome ≡ Value size
     given x by = ap (λ (y : Answered). y.outcome) (sym by) ∙ sym is ∙ e
 
-    go : (v : Verdict) → v ≡ answerVerdict schemeOf c day server (length store) query (length buffer) → size < 2 ^ 32
+    go : (v : Verdict) → v ≡ answer_verdict scheme_of c day server (length store) query (length buffer) → size < 2 ^ 32
     go Accepted v =
-        let a = answer-passed schemeOf c day server (length store) query (length buffer) (sym v) in
+        let a = answer-passed scheme_of c day server (length store) query (length buffer) (sym v) in
         let fits = (promises c a.admitted).answer-fits server query a.admits in
-        let whole : (schemeOf c).answerLength query ≡ size =
-        same-value ((schemeOf c).answerLength query) size (given _ (answer-by schemeOf c day server store query buffer Accepted v)) in
+        let whole : (scheme_of c).answer_length query ≡ size =
+        same-value ((scheme_of c).answer_length query) size (given _ (answer-by scheme_of c day server store query buffer Accepted v)) in
         omega (arith, slot_small c a.admitted)
-    go (Refused refusal) v = no_value refusal size (given _ (answer-by schemeOf c day server store query buffer (Refused refusal) v))
+    go (Refused refusal) v = no_value refusal size (given _ (answer-by scheme_of c day server store query buffer (Refused refusal) v))
 
 -- ---- by the verdict on the text, as it was read
 
@@ -60,28 +60,28 @@ module _ (text : List ℕ) (reading : Reading) (read : reading ≡ read_of text)
   pub read-admitted : reading.verdict ≡ Accepted → Admitted reading.catalogue
   read-admitted e = rw read (read-is-written text (accepted Accepted e)).0
 
-  pub longest-refused : (refusal : Refusal) → reading.verdict ≡ Refused refusal → longestAnswer text ≡ NoValue refusal
-  unfolding longestAnswer
+  pub longest-refused : (refusal : Refusal) → reading.verdict ≡ Refused refusal → longest_answer text ≡ NoValue refusal
+  unfolding longest_answer
   longest-refused refusal e = rw (accepted (Refused refusal) e)
 
-  pub longest-given : reading.verdict ≡ Accepted → longestAnswer text ≡ Value (schemeOf reading.catalogue).sizes.slot
-  unfolding longestAnswer
+  pub longest-given : reading.verdict ≡ Accepted → longest_answer text ≡ Value (scheme_of reading.catalogue).sizes.slot
+  unfolding longest_answer
   longest-given e = rw (accepted Accepted e, read)
 
   module _ (day : Day) (server : ℕ) (store query buffer : List ℕ) where
     -- refused, it leaves the buffer as it was
     pub text-refused : (refusal : Refusal) → reading.verdict ≡ Refused refusal
-        → DidAnswer (answeringText text day server store query buffer) (NoValue refusal) buffer
-    unfolding answeringText
+        → DidAnswer (answering_text text day server store query buffer) (NoValue refusal) buffer
+    unfolding answering_text
     text-refused refusal e = rw (accepted (Refused refusal) e) (record { outcome = refl; buffer = refl })
 
     answers-text : reading.verdict ≡ Accepted
-        → answeringText text day server store query buffer ≡ answering schemeOf reading.catalogue day server store query buffer
-    unfolding answeringText
+        → answering_text text day server store query buffer ≡ answering scheme_of reading.catalogue day server store query buffer
+    unfolding answering_text
     answers-text e = rw (accepted Accepted e, read)
 
     -- else it does what the answering end does
     pub text-answered : reading.verdict ≡ Accepted → (outcome : Outcome) (after : List ℕ)
-        → DidAnswer (answering schemeOf reading.catalogue day server store query buffer) outcome after
-        → DidAnswer (answeringText text day server store query buffer) outcome after
+        → DidAnswer (answering scheme_of reading.catalogue day server store query buffer) outcome after
+        → DidAnswer (answering_text text day server store query buffer) outcome after
     text-answered e outcome after did = rw (answers-text e) did

@@ -1,41 +1,41 @@
 -- The calls of a correction from C (document 02, item 13): the catalogue is read from its text, the edit is four numbers, and then the call is the correction
--- (`correctingText`; `correctingAnswerText` for the saved answer alone).
+-- (`correcting_text`; `correcting_answer_text` for the saved answer alone).
 use Rattle.std.specs.Prelude.{List, ◌∷◌, ℕ, ℤ, pos, neg_ℤ}
 use Rattle.refusal.specs.declared.Verdict.{Verdict}
 use Rattle.refusal.specs.declared.Verdict.TheVariants.{Accepted, Refused}
 use Rattle.refusal.specs.Numbers.{number_of}
 use Rattle.refusal.specs.Foremost.{Fault}
 use Rattle.catalogue.specs.declared.Catalogue.{Catalogue}
-use Rattle.catalogue_text.specs.Parsing.{catalogueLines, lineFault, endFault, read_of}
+use Rattle.catalogue_text.specs.Parsing.{catalogue_lines, line_fault, end_fault, read_of}
 use Rattle.correction.specs.declared.Edit.{Edit}
-use Rattle.correction.specs.Calls.{Corrected, correctFaults, correcting, correctingAnswer}
+use Rattle.correction.specs.Calls.{Corrected, correct_faults, correcting, correcting_answer}
 
 -- a verdict as one number: 0, or minus the refusal's number
-abbrev pub signedVerdict : Verdict → ℤ
-signedVerdict Accepted = pos 0
-signedVerdict (Refused refusal) = neg_ℤ (pos (number_of refusal))
+abbrev pub signed_verdict : Verdict → ℤ
+signed_verdict Accepted = pos 0
+signed_verdict (Refused refusal) = neg_ℤ (pos (number_of refusal))
 
 -- the edit of four numbers
-abbrev pub editOf : ℕ → ℕ → ℕ → ℕ → Edit
-editOf pack piece byte value = record { message = pack; symbol = piece; byte = byte; value = value }
+abbrev pub edit_of : ℕ → ℕ → ℕ → ℕ → Edit
+edit_of pack piece byte value = record { message = pack; symbol = piece; byte = byte; value = value }
 
 -- a text that is refused ends the call, and nothing is written
-abbrev pub correctingBy : Verdict → Catalogue → (Catalogue → Corrected) → List ℕ → List ℕ → Corrected
-correctingBy Accepted c call store answer = call c
-correctingBy (Refused refusal) c call store answer = record { verdict = Refused refusal; store = store; answer = answer }
+abbrev pub correcting_by : Verdict → Catalogue → (Catalogue → Corrected) → List ℕ → List ℕ → Corrected
+correcting_by Accepted c call store answer = call c
+correcting_by (Refused refusal) c call store answer = record { verdict = Refused refusal; store = store; answer = answer }
 
 -- a correction under the catalogue whose text this is
-unfoldable pub correctingText : List ℕ → ℕ → List ℕ → List ℕ → Edit → List ℕ → Corrected
-correctingText text server store query e answer =
+unfoldable pub correcting_text : List ℕ → ℕ → List ℕ → List ℕ → Edit → List ℕ → Corrected
+correcting_text text server store query e answer =
     let reading = read_of text in
-    correctingBy reading.verdict reading.catalogue (λ c. correcting c server store query e answer) store answer
+    correcting_by reading.verdict reading.catalogue (λ c. correcting c server store query e answer) store answer
 
-unfoldable pub correctingAnswerText : List ℕ → ℕ → List ℕ → List ℕ → Edit → List ℕ → Corrected
-correctingAnswerText text server store query e answer =
+unfoldable pub correcting_answer_text : List ℕ → ℕ → List ℕ → List ℕ → Edit → List ℕ → Corrected
+correcting_answer_text text server store query e answer =
     let reading = read_of text in
-    correctingBy reading.verdict reading.catalogue (λ c. correctingAnswer c server store query e answer) store answer
+    correcting_by reading.verdict reading.catalogue (λ c. correcting_answer c server store query e answer) store answer
 
--- textFaults text server stored query edit saved: those of the text's form, then those of a correction under the catalogue of its lines
-abbrev pub textFaults : List ℕ → ℕ → ℕ → List ℕ → Edit → ℕ → List Fault
-textFaults text server stored query e saved =
-    lineFault text ∷ endFault text ∷ correctFaults (catalogueLines text).catalogue server stored query e saved
+-- text_faults text server stored query edit saved: those of the text's form, then those of a correction under the catalogue of its lines
+abbrev pub text_faults : List ℕ → ℕ → ℕ → List ℕ → Edit → ℕ → List Fault
+text_faults text server stored query e saved =
+    line_fault text ∷ end_fault text ∷ correct_faults (catalogue_lines text).catalogue server stored query e saved

@@ -1,14 +1,14 @@
 // One corrected byte, for the host program of a mirror (02, item 13). Beside the names of lib.rt, pack is the message and piece the symbol. A call gives 0, or
 // minus the refusal's number.
 ghost use Rattle.std.specs.Prelude.{◌≡◌};
-ghost use Rattle.gozimpe.specs.Correcting.{signedVerdict, editOf, correctingText, correctingAnswerText};
+ghost use Rattle.gozimpe.specs.Correcting.{signed_verdict, edit_of, correcting_text, correcting_answer_text};
 
 use correction::Edit;
 use refusal::Verdict;
 
 // A verdict as a number: 0, or minus the refusal's.
 fn told(verdict: Verdict) -> i64
-    ensures { result ≡ signedVerdict verdict }
+    ensures { result ≡ signed_verdict verdict }
 {
     match verdict {
         Verdict::Accepted => 0,
@@ -31,14 +31,14 @@ pub extern "C" fn gozimpe_correct(
     value: u8,
 ) -> i64
     ensures value { result
-        ≡ signedVerdict (correctingText catalogue.now mirror store.old request.now
-        (editOf pack piece byte value) answer.old).verdict }
+        ≡ signed_verdict (correcting_text catalogue.now mirror store.old request.now
+        (edit_of pack piece byte value) answer.old).verdict }
     ensures store_after { store.new
-        ≡ (correctingText catalogue.now mirror store.old request.now
-        (editOf pack piece byte value) answer.old).store }
+        ≡ (correcting_text catalogue.now mirror store.old request.now
+        (edit_of pack piece byte value) answer.old).store }
     ensures answer_after { answer.new
-        ≡ (correctingText catalogue.now mirror store.old request.now
-        (editOf pack piece byte value) answer.old).answer }
+        ≡ (correcting_text catalogue.now mirror store.old request.now
+        (edit_of pack piece byte value) answer.old).answer }
 {
     let reading = catalogue_text::read(catalogue);
     let verdict = reading.verdict;
@@ -70,11 +70,11 @@ pub extern "C" fn gozimpe_correct_answer(
     value: u8,
 ) -> i64
     ensures value { result
-        ≡ signedVerdict (correctingAnswerText catalogue.now mirror store.now request.now
-        (editOf pack piece byte value) answer.old).verdict }
+        ≡ signed_verdict (correcting_answer_text catalogue.now mirror store.now request.now
+        (edit_of pack piece byte value) answer.old).verdict }
     ensures answer_after { answer.new
-        ≡ (correctingAnswerText catalogue.now mirror store.now request.now
-        (editOf pack piece byte value) answer.old).answer }
+        ≡ (correcting_answer_text catalogue.now mirror store.now request.now
+        (edit_of pack piece byte value) answer.old).answer }
 {
     let reading = catalogue_text::read(catalogue);
     let verdict = reading.verdict;

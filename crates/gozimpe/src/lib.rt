@@ -3,7 +3,7 @@
 // The catalogue comes as its text; a refusal is its number with a minus sign. Each slice is a pointer and a length in C.
 ghost use Rattle.std.specs.Prelude.{◌≡◌, ◌^◌, ◌<◌, pos, neg_ℤ};
 ghost use Rattle.refusal.specs.Numbers.{number_of};
-ghost use Rattle.gozimpe.specs.Host.{signed, dayOf, answeringText, longestAnswer};
+ghost use Rattle.gozimpe.specs.Host.{signed, day_of, answering_text, longest_answer};
 
 use calendar::Day;
 use catalogue::Measured;
@@ -41,10 +41,10 @@ pub extern "C" fn gozimpe_answer(
     answer: &mut [u8],
 ) -> i64
     ensures value { result
-        ≡ signed (answeringText catalogue.now (dayOf year month day) mirror
+        ≡ signed (answering_text catalogue.now (day_of year month day) mirror
         store.now request.now answer.old).outcome }
     ensures answer_after { answer.new
-        ≡ (answeringText catalogue.now (dayOf year month day) mirror
+        ≡ (answering_text catalogue.now (day_of year month day) mirror
         store.now request.now answer.old).buffer }
 {
     let reading = catalogue_text::read(catalogue);
@@ -68,7 +68,7 @@ pub extern "C" fn gozimpe_answer(
 // The length of the longest answer under a catalogue, or minus the refusal's number.
 #[unsafe(no_mangle)]
 pub extern "C" fn gozimpe_longest_answer(catalogue: &[u8]) -> i64
-    ensures { result ≡ signed (longestAnswer catalogue.now) }
+    ensures { result ≡ signed (longest_answer catalogue.now) }
 {
     let reading = catalogue_text::read(catalogue);
     let verdict = reading.verdict;

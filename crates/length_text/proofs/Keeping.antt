@@ -11,9 +11,9 @@ use lib.ListN.{length, take, set, replicate, length-append, length-replicate}
 use lib.Seq.{length-take-le, take_all, take-append-le, append_snoc, set_at, set_out}
 use Rattle.lists.specs.Padded.{padded}
 use Rattle.text_lines.specs.declared.Line.TheVariants.{Value, Refused}
-use Rattle.text_lines.specs.Lines.{numberLine}
-use Rattle.lengths.specs.Lengths.{lengthPlaces, noLengths}
-use Rattle.length_text.specs.LengthLines.{lengthName, lengthDigits, kept, Numbers, numbers, none, inFront, numbersAt, lines, outOfForm, keptLines}
+use Rattle.text_lines.specs.Lines.{number_line}
+use Rattle.lengths.specs.Lengths.{length_places, no_lengths}
+use Rattle.length_text.specs.LengthLines.{length_name, length_digits, kept, Numbers, numbers, none, in_front, numbers_at, lines, out_of_form, kept_lines}
 
 -- ---- the places
 
@@ -48,11 +48,11 @@ place-more size ns n = go (ltb (length ns) size) refl
         ∙ ap (padded size) (sym (take-append-le size ns (n ∷ []) h))
 
 -- the mark says whether there are numbers
-pub kept-many : (ns : List ℕ) (count : ℕ) → length ns ≡ count → kept ns ≡ record { given = ltb 0 count; places = padded lengthPlaces (take lengthPlaces ns) }
-unfolding kept noLengths
+pub kept-many : (ns : List ℕ) (count : ℕ) → length ns ≡ count → kept ns ≡ record { given = ltb 0 count; places = padded length_places (take length_places ns) }
+unfolding kept no_lengths
 kept-many [] count e = rw (sym e)
 kept-many (n ∷ ns) count e =
-    ap (λ (t : Bool). record { given = t; places = padded lengthPlaces (take lengthPlaces (n ∷ ns)) }) (sym (lt-ltb 0 count (omega (arith, e))))
+    ap (λ (t : Bool). record { given = t; places = padded length_places (take length_places (n ∷ ns)) }) (sym (lt-ltb 0 count (omega (arith, e))))
 
 -- ---- line by line
 
@@ -65,7 +65,7 @@ ahead-nil : (found : Numbers) → ahead [] found ≡ found
 ahead-nil (numbers ms next) = refl
 ahead-nil none = refl
 
-ahead_more : (ns : List ℕ) (n : ℕ) (found : Numbers) → ahead ns (inFront n found) ≡ ahead (ns ++ (n ∷ [])) found
+ahead_more : (ns : List ℕ) (n : ℕ) (found : Numbers) → ahead ns (in_front n found) ≡ ahead (ns ++ (n ∷ [])) found
 ahead_more ns n (numbers ms next) = ap (λ (l : List ℕ). numbers l next) (sym (append_snoc ns n ms))
 ahead_more ns n none = refl
 
@@ -75,30 +75,30 @@ pub record Taken (count : ℕ) (text : List ℕ) (at i next : ℕ) (places : Lis
   pub left : ℕ
   pub many : length ns ≡ i
   pub together : i + left ≡ count
-  pub places-are : places ≡ padded lengthPlaces (take lengthPlaces ns)
-  pub rest : numbersAt count text at ≡ ahead ns (numbersAt left text next)
+  pub places-are : places ≡ padded length_places (take length_places ns)
+  pub rest : numbers_at count text at ≡ ahead ns (numbers_at left text next)
 
-pub taken-first : (count : ℕ) (text : List ℕ) (at : ℕ) → Taken count text at 0 at (replicate lengthPlaces 0)
+pub taken-first : (count : ℕ) (text : List ℕ) (at : ℕ) → Taken count text at 0 at (replicate length_places 0)
 taken-first count text at =
-    record { ns = []; left = count; many = refl; together = omega arith; places-are = refl; rest = sym (ahead-nil (numbersAt count text at)) }
+    record { ns = []; left = count; many = refl; together = omega arith; places-are = refl; rest = sym (ahead-nil (numbers_at count text at)) }
 
 module _ (count : ℕ) (text : List ℕ) (at i next : ℕ) (places : List ℕ) (taken : Taken count text at i next places) where
   -- there is a line that is not read yet
-  one_left : i < count → (left : ℕ) × (i + 1 + left ≡ count) × (numbersAt count text at ≡ ahead taken.ns (numbersAt (suc left) text next))
+  one_left : i < count → (left : ℕ) × (i + 1 + left ≡ count) × (numbers_at count text at ≡ ahead taken.ns (numbers_at (suc left) text next))
   one_left h = go taken.left taken.together taken.rest
     where
-      go : (left : ℕ) → i + left ≡ count → numbersAt count text at ≡ ahead taken.ns (numbersAt left text next)
-          → (left : ℕ) × (i + 1 + left ≡ count) × (numbersAt count text at ≡ ahead taken.ns (numbersAt (suc left) text next))
+      go : (left : ℕ) → i + left ≡ count → numbers_at count text at ≡ ahead taken.ns (numbers_at left text next)
+          → (left : ℕ) × (i + 1 + left ≡ count) × (numbers_at count text at ≡ ahead taken.ns (numbers_at (suc left) text next))
       go zero e f = absurd (let w : ⊥ = omega arith in w)
       go (suc left) e f = (left, omega arith, f)
 
-  pub taken_more : (n end : ℕ) → i < count → numberLine lengthDigits lengthName text next ≡ Value n end
+  pub taken_more : (n end : ℕ) → i < count → number_line length_digits length_name text next ≡ Value n end
       → Taken count text at (i + 1) end (set places i n)
-  unfolding numbersAt
+  unfolding numbers_at
   taken_more n end h line =
       let ns = taken.ns in
       let l = one_left h in
-      let first : numbersAt (suc l.0) text next ≡ inFront n (numbersAt l.0 text end) = rw line in
+      let first : numbers_at (suc l.0) text next ≡ in_front n (numbers_at l.0 text end) = rw line in
       record {
         ns = ns ++ (n ∷ []);
         left = l.0;
@@ -106,33 +106,33 @@ module _ (count : ℕ) (text : List ℕ) (at i next : ℕ) (places : List ℕ) (
         together = l.1;
         places-are =
             ap (λ (p : List ℕ). set p i n) taken.places-are
-            ∙ ap (λ (m : ℕ). set (padded lengthPlaces (take lengthPlaces ns)) m n) (sym taken.many)
-            ∙ place-more lengthPlaces ns n;
-        rest = l.2 ∙ ap (ahead ns) first ∙ ahead_more ns n (numbersAt l.0 text end);
+            ∙ ap (λ (m : ℕ). set (padded length_places (take length_places ns)) m n) (sym taken.many)
+            ∙ place-more length_places ns n;
+        rest = l.2 ∙ ap (ahead ns) first ∙ ahead_more ns n (numbers_at l.0 text end);
       }
 
   -- behind the places nothing changes
-  pub taken-past : (n : ℕ) → lengthPlaces ≤ i → set places i n ≡ places
+  pub taken-past : (n : ℕ) → length_places ≤ i → set places i n ≡ places
   taken-past n h =
-      let first = take lengthPlaces taken.ns in
-      let long = length-take-le lengthPlaces taken.ns (omega (arith, taken.many)) in
-      set_out places i n (omega (arith, ap length taken.places-are, padded-length lengthPlaces first (omega arith)))
+      let first = take length_places taken.ns in
+      let long = length-take-le length_places taken.ns (omega (arith, taken.many)) in
+      set_out places i n (omega (arith, ap length taken.places-are, padded-length length_places first (omega arith)))
 
-  pub taken_refused : i < count → numberLine lengthDigits lengthName text next ≡ Refused → keptLines (numbersAt count text at) ≡ outOfForm
-  unfolding numbersAt
+  pub taken_refused : i < count → number_line length_digits length_name text next ≡ Refused → kept_lines (numbers_at count text at) ≡ out_of_form
+  unfolding numbers_at
   taken_refused h line =
       let l = one_left h in
-      let first : numbersAt (suc l.0) text next ≡ none = rw line in
-      ap keptLines (l.2 ∙ ap (ahead taken.ns) first)
+      let first : numbers_at (suc l.0) text next ≡ none = rw line in
+      ap kept_lines (l.2 ∙ ap (ahead taken.ns) first)
 
-  pub taken-all : count ≤ i → keptLines (numbersAt count text at) ≡ lines (record { given = ltb 0 count; places = places }) next
-  unfolding numbersAt
+  pub taken-all : count ≤ i → kept_lines (numbers_at count text at) ≡ lines (record { given = ltb 0 count; places = places }) next
+  unfolding numbers_at
   taken-all h =
       let ns = taken.ns in
       let over : taken.left ≡ 0 = omega (arith, taken.together) in
-      let whole : numbersAt count text at ≡ numbers ns next =
-      taken.rest ∙ ap (λ (left : ℕ). ahead ns (numbersAt left text next)) over ∙ ap (λ (l : List ℕ). numbers l next) (append-nil ns) in
-      ap keptLines whole
+      let whole : numbers_at count text at ≡ numbers ns next =
+      taken.rest ∙ ap (λ (left : ℕ). ahead ns (numbers_at left text next)) over ∙ ap (λ (l : List ℕ). numbers l next) (append-nil ns) in
+      ap kept_lines whole
       ∙ ap (λ l. lines l next)
       (kept-many ns count (omega (arith, taken.many, taken.together))
       ∙ ap (λ (p : List ℕ). record { given = ltb 0 count; places = p }) (sym taken.places-are))

@@ -8,43 +8,43 @@ use native.Mathlib.Numerals.{add-one}
 use native.Mathlib.Omega.{arith}
 use lib.ListN.{length, get_or, take, drop, length-append, take-append-drop}
 use lib.Seq.{take-take, take-suc}
-use Rattle.text_lines.specs.Lines.{numberText}
+use Rattle.text_lines.specs.Lines.{number_text}
 use Rattle.lengths.specs.declared.Lengths.{Lengths}
-use Rattle.lengths.specs.Lengths.{numbersOf}
-use Rattle.length_text.specs.LengthLines.{lengthName, lengthText}
+use Rattle.lengths.specs.Lengths.{numbers_of}
+use Rattle.length_text.specs.LengthLines.{length_name, length_text}
 
-pub text-append : (ns ms : List ℕ) → lengthText (ns ++ ms) ≡ lengthText ns ++ lengthText ms
-unfolding lengthText
+pub text-append : (ns ms : List ℕ) → length_text (ns ++ ms) ≡ length_text ns ++ length_text ms
+unfolding length_text
 text-append [] ms = refl
 text-append (n ∷ ns) ms =
-    let line = numberText lengthName n in
-    ap (λ (l : List ℕ). line ++ l) (text-append ns ms) ∙ sym (append_assoc line (lengthText ns) (lengthText ms))
+    let line = number_text length_name n in
+    ap (λ (l : List ℕ). line ++ l) (text-append ns ms) ∙ sym (append_assoc line (length_text ns) (length_text ms))
 
-text-one : (n : ℕ) → lengthText (n ∷ []) ≡ numberText lengthName n
-unfolding lengthText
-text-one n = append-nil (numberText lengthName n)
+text-one : (n : ℕ) → length_text (n ∷ []) ≡ number_text length_name n
+unfolding length_text
+text-one n = append-nil (number_text length_name n)
 
 pub text-more : (ns : List ℕ) (i : ℕ) → i < length ns
-    → lengthText (take (i + 1) ns) ≡ lengthText (take i ns) ++ numberText lengthName (get_or ns i 0)
+    → length_text (take (i + 1) ns) ≡ length_text (take i ns) ++ number_text length_name (get_or ns i 0)
 text-more ns i h =
-    ap (λ (n : ℕ). lengthText (take n ns)) (add-one i)
-    ∙ ap lengthText (take-suc ns i 0 h)
+    ap (λ (n : ℕ). length_text (take n ns)) (add-one i)
+    ∙ ap length_text (take-suc ns i 0 h)
     ∙ text-append (take i ns) (get_or ns i 0 ∷ [])
-    ∙ ap (λ (l : List ℕ). lengthText (take i ns) ++ l) (text-one (get_or ns i 0))
+    ∙ ap (λ (l : List ℕ). length_text (take i ns) ++ l) (text-one (get_or ns i 0))
 
 pub length_more : (ns : List ℕ) (i : ℕ) → i < length ns
-    → length (lengthText (take (i + 1) ns)) ≡ length (lengthText (take i ns)) + length (numberText lengthName (get_or ns i 0))
-length_more ns i h = ap length (text-more ns i h) ∙ length-append (lengthText (take i ns)) (numberText lengthName (get_or ns i 0))
+    → length (length_text (take (i + 1) ns)) ≡ length (length_text (take i ns)) + length (number_text length_name (get_or ns i 0))
+length_more ns i h = ap length (text-more ns i h) ∙ length-append (length_text (take i ns)) (number_text length_name (get_or ns i 0))
 
 -- the first lines are no longer than all
-pub length-within : (ns : List ℕ) (i count : ℕ) → i ≤ count → length (lengthText (take i ns)) ≤ length (lengthText (take count ns))
+pub length-within : (ns : List ℕ) (i count : ℕ) → i ≤ count → length (length_text (take i ns)) ≤ length (length_text (take count ns))
 length-within ns i count h =
     let all = take count ns in
     let first : take i all ≡ take i ns = take-take i count ns h in
-    let split : lengthText all ≡ lengthText (take i ns) ++ lengthText (drop i all) =
-    ap lengthText (sym (take-append-drop i all)) ∙ text-append (take i all) (drop i all)
-    ∙ ap (λ (l : List ℕ). lengthText l ++ lengthText (drop i all)) first in
-    omega (arith, ap length split, length-append (lengthText (take i ns)) (lengthText (drop i all)))
+    let split : length_text all ≡ length_text (take i ns) ++ length_text (drop i all) =
+    ap length_text (sym (take-append-drop i all)) ∙ text-append (take i all) (drop i all)
+    ∙ ap (λ (l : List ℕ). length_text l ++ length_text (drop i all)) first in
+    omega (arith, ap length split, length-append (length_text (take i ns)) (length_text (drop i all)))
 
 -- ---- of a value
 
@@ -54,8 +54,8 @@ front-is (suc k) [] = refl
 front-is (suc k) (x ∷ places) = ap (λ (l : List ℕ). x ∷ l) (front-is k places)
 
 -- the numbers of its lines are those of its first places
-pub numbers-front : (K : ℕ) (l : Lengths) → numbersOf K l ≡ take (length (numbersOf K l)) l.places
-unfolding numbersOf
+pub numbers-front : (K : ℕ) (l : Lengths) → numbers_of K l ≡ take (length (numbers_of K l)) l.places
+unfolding numbers_of
 numbers-front K l = go l.given
   where
     go : (t : Bool) → cond t (take K l.places) [] ≡ take (length (cond t (take K l.places) [])) l.places

@@ -3,8 +3,8 @@
 ghost use Rattle.std.specs.Prelude.{◌≡◌, ◌+◌, ◌≤◌, length, drop};
 ghost use Rattle.lists.specs.Parts.{put};
 ghost use Rattle.text_lines.specs.Lines.{begins};
-ghost use Rattle.lengths.specs.Lengths.{numbersOf};
-ghost use Rattle.length_text.specs.LengthLines.{lengthName, lengthText, numbersAt, outOfForm, keptLines, lengthLines};
+ghost use Rattle.lengths.specs.Lengths.{numbers_of};
+ghost use Rattle.length_text.specs.LengthLines.{length_name, length_text, numbers_at, out_of_form, kept_lines, length_lines};
 
 use lengths::Lengths;
 use text_lines::Line;
@@ -19,7 +19,7 @@ pub struct LengthLines {
 
 // Lines out of form.
 fn out_of_form() -> LengthLines
-    ensures { result ≡ outOfForm }
+    ensures { result ≡ out_of_form }
 {
     LengthLines {
         formed: false,
@@ -30,7 +30,7 @@ fn out_of_form() -> LengthLines
 
 // Whether a line of a length begins at place `at`.
 fn line_begins(text: &[u8], at: usize) -> bool
-    ensures { result ≡ begins lengthName (drop at text.now) }
+    ensures { result ≡ begins length_name (drop at text.now) }
 {
     if text.len() < at {
         return false;
@@ -40,7 +40,7 @@ fn line_begins(text: &[u8], at: usize) -> bool
 
 // The numbers of `count` lines at place `at`, as far as there are places for them.
 fn counted(text: &[u8], at: usize, count: usize) -> LengthLines
-    ensures { result ≡ keptLines (numbersAt count text.now at) }
+    ensures { result ≡ kept_lines (numbers_at count text.now at) }
 {
     let mut places: [u32; 32] = [0; 32];
     let mut next = at;
@@ -68,7 +68,7 @@ fn counted(text: &[u8], at: usize, count: usize) -> LengthLines
 
 // The lengths at place `at` of a text with k messages: k lines, or none where no line of that name begins.
 pub fn length_lines(text: &[u8], at: usize, k: usize) -> LengthLines
-    ensures { result ≡ lengthLines k text.now at }
+    ensures { result ≡ length_lines k text.now at }
 {
     if !line_begins(text, at) {
         return LengthLines {
@@ -89,7 +89,7 @@ pub fn length_lines(text: &[u8], at: usize, k: usize) -> LengthLines
 
 // How many lines k messages have.
 fn line_count(l: Lengths, k: usize) -> usize
-    ensures value { result ≡ length (numbersOf k l) }
+    ensures value { result ≡ length (numbers_of k l) }
     ensures upper_bound { result ≤ 32 }
 {
     if !l.given {
@@ -103,9 +103,9 @@ fn line_count(l: Lengths, k: usize) -> usize
 
 // Writes the lines from place `at` on, none without lengths, and gives the place after them.
 pub fn put_lengths(out: &mut [u8], at: usize, l: Lengths, k: usize) -> usize
-    requires { at + length (lengthText (numbersOf k l)) ≤ length out.old }
-    ensures value { result ≡ at + length (lengthText (numbersOf k l)) }
-    ensures out_after { out.new ≡ put at (lengthText (numbersOf k l)) out.old }
+    requires { at + length (length_text (numbers_of k l)) ≤ length out.old }
+    ensures value { result ≡ at + length (length_text (numbers_of k l)) }
+    ensures out_after { out.new ≡ put at (length_text (numbers_of k l)) out.old }
 {
     let lines = line_count(l, k);
     let places = l.places;
@@ -120,7 +120,7 @@ pub fn put_lengths(out: &mut [u8], at: usize, l: Lengths, k: usize) -> usize
 
 // The bytes of the lines.
 pub fn lengths_length(l: Lengths, k: usize) -> usize
-    ensures value { result ≡ length (lengthText (numbersOf k l)) }
+    ensures value { result ≡ length (length_text (numbers_of k l)) }
     ensures upper_bound { result ≤ 576 }
 {
     let lines = line_count(l, k);

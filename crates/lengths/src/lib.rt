@@ -1,6 +1,6 @@
 // Where the messages of a catalogue end (document 02, item 6: `length=` lines): a length for each message, or none for any.
 ghost use Rattle.std.specs.Prelude.{◌≡◌};
-ghost use Rattle.lengths.specs.Lengths.{noLengths, filled, isLength, placeFits, lengthsFit, length_of};
+ghost use Rattle.lengths.specs.Lengths.{no_lengths, filled, is_length, place_fits, lengths_fit, length_of};
 
 #[derive(Drop)]
 pub struct Lengths {
@@ -12,7 +12,7 @@ pub struct Lengths {
 
 // Zeros, where there are no lines.
 pub fn none() -> Lengths
-    ensures { result ≡ noLengths }
+    ensures { result ≡ no_lengths }
 {
     Lengths {
         given: false,
@@ -32,7 +32,7 @@ fn is_filled(given: bool, k: usize, place: usize) -> bool
 
 // Whether n is the length of a message of at most `whole` bytes.
 fn is_length(whole: usize, n: u32) -> bool
-    ensures { result ≡ isLength whole n }
+    ensures { result ≡ is_length whole n }
 {
     if n < 1 {
         return false;
@@ -42,7 +42,7 @@ fn is_length(whole: usize, n: u32) -> bool
 
 // Whether a place may hold n, in a catalogue of k messages of `whole` bytes each.
 fn place_fits(given: bool, k: usize, whole: usize, place: usize, n: u32) -> bool
-    ensures { result ≡ placeFits given k whole place n }
+    ensures { result ≡ place_fits given k whole place n }
 {
     if is_filled(given, k, place) {
         return is_length(whole, n);
@@ -52,7 +52,7 @@ fn place_fits(given: bool, k: usize, whole: usize, place: usize, n: u32) -> bool
 
 // Whether a catalogue of k messages of `whole` bytes each may hold these lengths.
 pub fn fit(l: Lengths, k: usize, whole: usize) -> bool
-    ensures { result ≡ lengthsFit k whole l }
+    ensures { result ≡ lengths_fit k whole l }
 {
     let given = l.given;
     let places = l.places;

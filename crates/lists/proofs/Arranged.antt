@@ -12,10 +12,10 @@ use lib.ListN.{length, get_or, length-map}
 use lib.Seq.{ext_get_or}
 use Rattle.lists.specs.Arranged.{place_in, arranged, picked}
 use Rattle.lists.specs.Below.{all_below, Below}
-use Rattle.lists.specs.Distinct.{stands, distinct, isPermutation}
+use Rattle.lists.specs.Distinct.{stands, distinct, is_permutation}
 use Rattle.lists.specs.Ranges.{range}
 use Rattle.lists.specs.Sums.{bit, sum}
-use Rattle.lists.proofs.Below.{allBelow-below, below-allBelow}
+use Rattle.lists.proofs.Below.{all_below-below, below-all_below}
 use Rattle.lists.proofs.Bits.{bit-small, bit-one}
 use Rattle.lists.proofs.Both.{both_true}
 use Rattle.lists.proofs.Distinct.{place_of, distinct_apart, apart_distinct, stands-count}
@@ -29,15 +29,15 @@ pub record Permutation (size : ℕ) (l : List ℕ) : Type 0 where
   pub low : (i : ℕ) → i < size → get_or l i 0 < size
   pub apart : (i j : ℕ) → i < size → j < size → get_or l i 0 ≡ get_or l j 0 → i ≡ j
 
-pub permutation-facts : (size : ℕ) (l : List ℕ) → isPermutation size l ≡ true → Permutation size l
-unfolding isPermutation
+pub permutation-facts : (size : ℕ) (l : List ℕ) → is_permutation size l ≡ true → Permutation size l
+unfolding is_permutation
 permutation-facts size l e =
     let p = both_true (eqb (length l) size) (all_below size l && distinct l) e in
     let q = both_true (all_below size l) (distinct l) p.1 in
     let long : length l ≡ size = eqb-true (length l) size p.0 in
     record {
       long = long;
-      low = λ i h. allBelow-below size l q.0 i (omega arith);
+      low = λ i h. all_below-below size l q.0 i (omega arith);
       apart = λ i j h k. distinct_apart l q.1 i j (omega arith) (omega arith);
     }
 
@@ -45,11 +45,11 @@ pub permutation-tests : (size : ℕ) (l : List ℕ) → Permutation size l → B
 permutation-tests size l p =
     let long = p.long in (λ i h. p.low i (omega arith), apart_distinct l (λ i j h k. p.apart i j (omega arith) (omega arith)))
 
-pub facts-permutation : (size : ℕ) (l : List ℕ) → Permutation size l → isPermutation size l ≡ true
-unfolding isPermutation
+pub facts-permutation : (size : ℕ) (l : List ℕ) → Permutation size l → is_permutation size l ≡ true
+unfolding is_permutation
 facts-permutation size l p =
     let t = permutation-tests size l p in
-    rw (eq-eqb (length l) size p.long, below-allBelow size l t.0, t.1)
+    rw (eq-eqb (length l) size p.long, below-all_below size l t.0, t.1)
 
 -- the numbers in ascending order
 pub range-permutation : (size : ℕ) → Permutation size (range 0 size)
@@ -145,13 +145,13 @@ module _ (size : ℕ) (l places : List ℕ) (p : Permutation size l) (b : Below 
       (sym (picked-at l places i (omega arith)) ∙ q ∙ picked-at l places j (omega arith))))
 
 pub picked-permutation : (size : ℕ) (l places : List ℕ) → Permutation size l → Permutation size places → Permutation size (picked l places)
-unfolding isPermutation
+unfolding is_permutation
 picked-permutation size l places p q =
     let t = permutation-tests size places q in
     permutation-facts size (picked l places)
     (rw (
       eq-eqb (length (picked l places)) size (picked-length l places ∙ q.long),
-      below-allBelow size (picked l places) (picked-below size l places p t.0),
+      below-all_below size (picked l places) (picked-below size l places p t.0),
       picked-distinct size l places p t.0 t.1,
     ))
 
@@ -159,8 +159,8 @@ picked-permutation size l places p q =
 pub carried-back : (size : ℕ) (A B l : List ℕ) → Permutation size A → Permutation size B → length l ≡ size → arranged B (picked (arranged A (picked l B)) A) ≡ l
 carried-back size A B l a b long =
     sym (arranged-only size B (picked (arranged A (picked l B)) A) b l long (λ i h.
-    let longA = a.long in
-    let longB = b.long in
+    let long_a = a.long in
+    let long_b = b.long in
     sym (picked-at (arranged A (picked l B)) A i (omega arith) ∙ arranged-at size A (picked l B) a i h ∙ picked-at l B i (omega arith))))
 
 -- renamed by A and B, and by B and A again

@@ -1,4 +1,4 @@
--- The test `all_below` and the fact `Below` say the same (`allBelow-below`, `below-allBelow`). `Below` of parts and joined lists; and the
+-- The test `all_below` and the fact `Below` say the same (`all_below-below`, `below-all_below`). `Below` of parts and joined lists; and the
 -- test from place to place, where what is left of the list decides (`below_next`, `below-stops`).
 use mathlib.Core.Path.{◌≡◌, refl, ◌∙◌}
 use mathlib.Core.Bool.{Bool, true, false, cond, ◌&&◌}
@@ -19,18 +19,18 @@ step-and : (t u : Bool) → t && u ≡ cond t u false
 step-and true u = refl
 step-and false u = refl
 
-pub allBelow-below : (n : ℕ) (l : List ℕ) → all_below n l ≡ true → Below n l
+pub all_below-below : (n : ℕ) (l : List ℕ) → all_below n l ≡ true → Below n l
 unfolding all_below
-allBelow-below n [] e i h = absurd (not-suc-le-zero h)
-allBelow-below n (x ∷ l) e zero h = ltb-true x n (both_true (ltb x n) (all_below n l) (step-and (ltb x n) (all_below n l) ∙ e)).0
-allBelow-below n (x ∷ l) e (suc i) h = allBelow-below n l (both_true (ltb x n) (all_below n l) (step-and (ltb x n) (all_below n l) ∙ e)).1 i (le_of_suc-le-suc h)
+all_below-below n [] e i h = absurd (not-suc-le-zero h)
+all_below-below n (x ∷ l) e zero h = ltb-true x n (both_true (ltb x n) (all_below n l) (step-and (ltb x n) (all_below n l) ∙ e)).0
+all_below-below n (x ∷ l) e (suc i) h = all_below-below n l (both_true (ltb x n) (all_below n l) (step-and (ltb x n) (all_below n l) ∙ e)).1 i (le_of_suc-le-suc h)
 
-pub below-allBelow : (n : ℕ) (l : List ℕ) → Below n l → all_below n l ≡ true
+pub below-all_below : (n : ℕ) (l : List ℕ) → Below n l → all_below n l ≡ true
 unfolding all_below
-below-allBelow n [] b = refl
-below-allBelow n (x ∷ l) b =
+below-all_below n [] b = refl
+below-all_below n (x ∷ l) b =
     let h : x < n = b 0 (omega arith) in
-    simp (lt-ltb x n h) (below-allBelow n l (λ i k. b (suc i) (omega arith)))
+    simp (lt-ltb x n h) (below-all_below n l (λ i k. b (suc i) (omega arith)))
 
 pub below-cons : (n x : ℕ) (l : List ℕ) → x < n → Below n l → Below n (x ∷ l)
 below-cons n x l h b zero k = h

@@ -12,7 +12,7 @@ use lib.ListN.{length, get_or, length-append, get_or-append}
 use lib.Seq.{ext_get_or}
 use Rattle.lists.specs.Arranged.{place_in, arranged, picked, completed}
 use Rattle.lists.specs.Below.{Below}
-use Rattle.lists.specs.Distinct.{stands, distinct, isPermutation}
+use Rattle.lists.specs.Distinct.{stands, distinct, is_permutation}
 use Rattle.lists.specs.Ranges.{range}
 use Rattle.lists.specs.Sums.{bit, keep, sum}
 use Rattle.lists.proofs.Bits.{bit-small, bit-either}
@@ -77,7 +77,7 @@ module _ (size : ℕ) (xs : List ℕ) (b : Below size xs) (d : distinct xs ≡ t
           absurd (let w : ⊥ = omega (arith, b (place_in v xs) p.0, p.1, ltb-false v size high) in w)
 
   pub completed-permutation : Permutation size (completed size xs)
-  unfolding isPermutation
+  unfolding is_permutation
   completed-permutation =
       permutation-facts size (completed size xs)
       (rw (
@@ -112,7 +112,7 @@ module _ (size : ℕ) (A B : List ℕ) (p : Permutation size (completed size A))
   pub carried-shown : (l : List ℕ) → picked (arranged (completed size A) (picked l (completed size B))) A ≡ picked l B
   unfolding completed
   carried-shown l =
-      let leftA = keep (λ v. not (stands v A)) (range 0 size) in
+      let left_a = keep (λ v. not (stands v A)) (range 0 size) in
       let left_b = keep (λ v. not (stands v B)) (range 0 size) in
       ap (λ m. picked (arranged (completed size A) m) A) (picked-append l B left_b)
-      ∙ arranged-front size A leftA (picked l B) (picked l left_b) p (e ∙ sym (picked-length l B))
+      ∙ arranged-front size A left_a (picked l B) (picked l left_b) p (e ∙ sym (picked-length l B))

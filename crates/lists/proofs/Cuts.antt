@@ -1,5 +1,5 @@
 -- Parts that are read (`cut`): their length and elements, a part of a part, a part up to the end, and parts side by side: each is the part at its
--- own place, where they are of one size (`flatMap-cut`) and of any sizes (`flatMap-part`), and a list is its parts of one size joined (`joined-cuts`).
+-- own place, where they are of one size (`flat_map-cut`) and of any sizes (`flat_map-part`), and a list is its parts of one size joined (`joined-cuts`).
 use Prim.Native.Nat.{ℕ, zero, suc, ◌+◌, ◌-◌, ◌*◌, ◌≤◌, ◌<◌}
 use native.Mathlib.Nat.{mul-le-mul_right, suc-mul, zero-mul, not-suc-le-zero, le_of_eq}
 use native.Mathlib.Omega.{arith}
@@ -9,8 +9,8 @@ use lib.ListN.{length, get_or, take, drop, length-append, length-drop}
 use lib.Seq.{length-take-le, take_all, take_at, take-add, take-take, drop_at, drop-drop, drop-append-add, drop-append_seam, get_or-take, get_or-drop}
 use Rattle.lists.specs.Parts.{cut}
 use Rattle.lists.specs.Ranges.{range}
-use Rattle.lists.specs.Sums.{sum, All, allNil, allCons}
-use Rattle.lists.proofs.Joined.{flatMap-append}
+use Rattle.lists.specs.Sums.{sum, All, all_nil, all_cons}
+use Rattle.lists.proofs.Joined.{flat_map-append}
 use Rattle.lists.proofs.Ranges.{range-around, All-range}
 
 pub cut-length : (at size : ℕ) (buffer : List ℕ) → at + size ≤ length buffer → length (cut at size buffer) ≡ size
@@ -51,32 +51,32 @@ slot-end i j size h = omega (arith, mul-le-mul_right size h, suc-mul i size)
 
 -- lists of bytes of one size: each is its part of them joined
 module _ {A : Type 0} (f : A → List ℕ) (size : ℕ) where
-  pub flatMap-cut : (d : A) {xs : List A} → All (λ x. length (f x) ≡ size) xs → (i : ℕ) → i < length xs
+  pub flat_map-cut : (d : A) {xs : List A} → All (λ x. length (f x) ≡ size) xs → (i : ℕ) → i < length xs
       → cut (i * size) size (flat_map f xs) ≡ f (get_or xs i d)
   unfolding flat_map
-  flatMap-cut d allNil i h = absurd (not-suc-le-zero h)
-  flatMap-cut d (allCons {x = x} {xs = xs} e a) zero h =
+  flat_map-cut d all_nil i h = absurd (not-suc-le-zero h)
+  flat_map-cut d (all_cons {x = x} {xs = xs} e a) zero h =
       ap (λ (n : ℕ). cut n size (f x ++ flat_map f xs)) (zero-mul size) ∙ take_at (f x) (flat_map f xs) size e
-  flatMap-cut d (allCons {x = x} {xs = xs} e a) (suc i) h =
+  flat_map-cut d (all_cons {x = x} {xs = xs} e a) (suc i) h =
       ap (λ (n : ℕ). cut n size (f x ++ flat_map f xs)) (let s : suc i * size ≡ length (f x) + i * size = omega (arith, suc-mul i size) in s)
       ∙ ap (λ (l : List ℕ). cut 0 size l) (drop-append-add (f x) (flat_map f xs) (i * size))
-      ∙ flatMap-cut d a i (omega arith)
+      ∙ flat_map-cut d a i (omega arith)
 
 -- how long lists are together
-pub flatMap-lengths : {A B : Type 0} (g : A → List B) (w : A → ℕ) {xs : List A} → All (λ x. length (g x) ≡ w x) xs → length (flat_map g xs) ≡ sum w xs
+pub flat_map-lengths : {A B : Type 0} (g : A → List B) (w : A → ℕ) {xs : List A} → All (λ x. length (g x) ≡ w x) xs → length (flat_map g xs) ≡ sum w xs
 unfolding flat_map sum
-flatMap-lengths g w allNil = refl
-flatMap-lengths g w (allCons {x = x} {xs = xs} e a) = omega (arith, length-append (g x) (flat_map g xs), flatMap-lengths g w a)
+flat_map-lengths g w all_nil = refl
+flat_map-lengths g w (all_cons {x = x} {xs = xs} e a) = omega (arith, length-append (g x) (flat_map g xs), flat_map-lengths g w a)
 
 -- lists of bytes of any sizes: each is its part of them joined
-pub flatMap-part : (g : ℕ → List ℕ) (w : ℕ → ℕ) (n : ℕ) → ((i : ℕ) → i < n → length (g i) ≡ w i) → (i : ℕ) → i < n
+pub flat_map-part : (g : ℕ → List ℕ) (w : ℕ → ℕ) (n : ℕ) → ((i : ℕ) → i < n → length (g i) ≡ w i) → (i : ℕ) → i < n
     → cut (sum w (range 0 i)) (w i) (flat_map g (range 0 n)) ≡ g i
 unfolding flat_map
-flatMap-part g w n long i h =
+flat_map-part g w n long i h =
     let rest = flat_map g (range (suc i) (n - suc i)) in
     ap (λ l. cut (sum w (range 0 i)) (w i) (flat_map g l)) (range-around n i h)
-    ∙ ap (cut (sum w (range 0 i)) (w i)) (flatMap-append g (range 0 i) (i ∷ range (suc i) (n - suc i)))
-    ∙ ap (take (w i)) (drop_at (flat_map g (range 0 i)) (g i ++ rest) (sum w (range 0 i)) (flatMap-lengths g w (All-range i (λ j k. long j (omega arith)))))
+    ∙ ap (cut (sum w (range 0 i)) (w i)) (flat_map-append g (range 0 i) (i ∷ range (suc i) (n - suc i)))
+    ∙ ap (take (w i)) (drop_at (flat_map g (range 0 i)) (g i ++ rest) (sum w (range 0 i)) (flat_map-lengths g w (All-range i (λ j k. long j (omega arith)))))
     ∙ take_at (g i) rest (w i) (long i h)
 
 -- parts of one size, side by side, are one part

@@ -1,5 +1,5 @@
 -- Lists joined one after another (`flat_map`): over joined and mapped lists and ranges, when two are equal, how long they are, and what
--- stands at a place of one of them (`flatMap-at`, `placed_at`).
+-- stands at a place of one of them (`flat_map-at`, `placed_at`).
 use Prim.Native.Nat.{ℕ, zero, suc, ◌+◌, ◌*◌, ◌<◌}
 use native.Mathlib.Nat.{not-suc-le-zero, zero-add, zero-mul, suc-mul}
 use native.Mathlib.Omega.{arith}
@@ -8,60 +8,60 @@ use mathlib.Core.List.{List, [], ◌∷◌, ◌++◌, map, flat_map, append_asso
 use lib.ListN.{length, get_or, take, length-append, get_or-append}
 use lib.Seq.{take-suc, get_or-append-add}
 use Rattle.lists.specs.Ranges.{range}
-use Rattle.lists.specs.Sums.{sum, All, allNil, allCons}
+use Rattle.lists.specs.Sums.{sum, All, all_nil, all_cons}
 use Rattle.lists.proofs.Mapped.{map-append}
 use Rattle.lists.proofs.Ranges.{range-next}
 
 module _ {A B : Type 0} where
-  pub flatMap-append : (f : A → List B) (xs ys : List A) → flat_map f (xs ++ ys) ≡ flat_map f xs ++ flat_map f ys
+  pub flat_map-append : (f : A → List B) (xs ys : List A) → flat_map f (xs ++ ys) ≡ flat_map f xs ++ flat_map f ys
   unfolding flat_map
-  flatMap-append f [] ys = refl
-  flatMap-append f (x ∷ xs) ys = ap (λ l. f x ++ l) (flatMap-append f xs ys) ∙ sym (append_assoc (f x) (flat_map f xs) (flat_map f ys))
+  flat_map-append f [] ys = refl
+  flat_map-append f (x ∷ xs) ys = ap (λ l. f x ++ l) (flat_map-append f xs ys) ∙ sym (append_assoc (f x) (flat_map f xs) (flat_map f ys))
 
   -- with one more at the end
-  pub flatMap-last : (f : A → List B) (xs : List A) (x : A) → flat_map f (xs ++ (x ∷ [])) ≡ flat_map f xs ++ f x
+  pub flat_map-last : (f : A → List B) (xs : List A) (x : A) → flat_map f (xs ++ (x ∷ [])) ≡ flat_map f xs ++ f x
   unfolding flat_map
-  flatMap-last f xs x = flatMap-append f xs (x ∷ []) ∙ ap (λ l. flat_map f xs ++ l) (append-nil (f x))
+  flat_map-last f xs x = flat_map-append f xs (x ∷ []) ∙ ap (λ l. flat_map f xs ++ l) (append-nil (f x))
 
   -- over one element more of a list
-  pub flatMap-take : (f : A → List B) (xs : List A) (i : ℕ) (d : A) → i < length xs → flat_map f (take (suc i) xs) ≡ flat_map f (take i xs) ++ f (get_or xs i d)
-  flatMap-take f xs i d h = ap (flat_map f) (take-suc xs i d h) ∙ flatMap-last f (take i xs) (get_or xs i d)
+  pub flat_map-take : (f : A → List B) (xs : List A) (i : ℕ) (d : A) → i < length xs → flat_map f (take (suc i) xs) ≡ flat_map f (take i xs) ++ f (get_or xs i d)
+  flat_map-take f xs i d h = ap (flat_map f) (take-suc xs i d h) ∙ flat_map-last f (take i xs) (get_or xs i d)
 
-  pub flatMap-all : (f g : A → List B) {xs : List A} → All (λ x. f x ≡ g x) xs → flat_map f xs ≡ flat_map g xs
+  pub flat_map-all : (f g : A → List B) {xs : List A} → All (λ x. f x ≡ g x) xs → flat_map f xs ≡ flat_map g xs
   unfolding flat_map
-  flatMap-all f g allNil = refl
-  flatMap-all f g (allCons {x = x} {xs = xs} e a) = rw (e, flatMap-all f g a)
+  flat_map-all f g all_nil = refl
+  flat_map-all f g (all_cons {x = x} {xs = xs} e a) = rw (e, flat_map-all f g a)
 
-  pub flatMap-nothing : (g : A → List B) {xs : List A} → All (λ x. g x ≡ []) xs → flat_map g xs ≡ []
+  pub flat_map-nothing : (g : A → List B) {xs : List A} → All (λ x. g x ≡ []) xs → flat_map g xs ≡ []
   unfolding flat_map
-  flatMap-nothing g allNil = refl
-  flatMap-nothing g (allCons {x = x} {xs = xs} e a) = rw (e, flatMap-nothing g a)
+  flat_map-nothing g all_nil = refl
+  flat_map-nothing g (all_cons {x = x} {xs = xs} e a) = rw (e, flat_map-nothing g a)
 
   -- how long lists of one length are together
-  pub flatMap-size : (g : A → List B) (q : ℕ) {xs : List A} → All (λ x. length (g x) ≡ q) xs → length (flat_map g xs) ≡ length xs * q
+  pub flat_map-size : (g : A → List B) (q : ℕ) {xs : List A} → All (λ x. length (g x) ≡ q) xs → length (flat_map g xs) ≡ length xs * q
   unfolding flat_map
-  flatMap-size g q allNil = sym (zero-mul q)
-  flatMap-size g q (allCons {x = x} {xs = xs} f a) = length-append (g x) (flat_map g xs) ∙ omega (arith, flatMap-size g q a, suc-mul (length xs) q)
+  flat_map-size g q all_nil = sym (zero-mul q)
+  flat_map-size g q (all_cons {x = x} {xs = xs} f a) = length-append (g x) (flat_map g xs) ∙ omega (arith, flat_map-size g q a, suc-mul (length xs) q)
 
 module _ {A B C : Type 0} where
-  pub flatMap-map : (g : B → List C) (f : A → B) (xs : List A) → flat_map g (map f xs) ≡ flat_map (λ x. g (f x)) xs
+  pub flat_map-map : (g : B → List C) (f : A → B) (xs : List A) → flat_map g (map f xs) ≡ flat_map (λ x. g (f x)) xs
   unfolding flat_map
-  flatMap-map g f [] = refl
-  flatMap-map g f (x ∷ xs) = ap (λ l. g (f x) ++ l) (flatMap-map g f xs)
+  flat_map-map g f [] = refl
+  flat_map-map g f (x ∷ xs) = ap (λ l. g (f x) ++ l) (flat_map-map g f xs)
 
-  pub flatMap-flatMap : (g : B → List C) (f : A → List B) (xs : List A) → flat_map g (flat_map f xs) ≡ flat_map (λ x. flat_map g (f x)) xs
+  pub flat_map-flat_map : (g : B → List C) (f : A → List B) (xs : List A) → flat_map g (flat_map f xs) ≡ flat_map (λ x. flat_map g (f x)) xs
   unfolding flat_map
-  flatMap-flatMap g f [] = refl
-  flatMap-flatMap g f (x ∷ xs) = flatMap-append g (f x) (flat_map f xs) ∙ ap (λ l. flat_map g (f x) ++ l) (flatMap-flatMap g f xs)
+  flat_map-flat_map g f [] = refl
+  flat_map-flat_map g f (x ∷ xs) = flat_map-append g (f x) (flat_map f xs) ∙ ap (λ l. flat_map g (f x) ++ l) (flat_map-flat_map g f xs)
 
-  pub map-flatMap : (f : A → B) (g : C → List A) (xs : List C) → map f (flat_map g xs) ≡ flat_map (λ x. map f (g x)) xs
+  pub map-flat_map : (f : A → B) (g : C → List A) (xs : List C) → map f (flat_map g xs) ≡ flat_map (λ x. map f (g x)) xs
   unfolding flat_map
-  map-flatMap f g [] = refl
-  map-flatMap f g (x ∷ xs) = map-append f (g x) (flat_map g xs) ∙ ap (λ l. map f (g x) ++ l) (map-flatMap f g xs)
+  map-flat_map f g [] = refl
+  map-flat_map f g (x ∷ xs) = map-append f (g x) (flat_map g xs) ∙ ap (λ l. map f (g x) ++ l) (map-flat_map f g xs)
 
 -- over a range by one number more
-pub flatMap-next : {A : Type 0} (g : ℕ → List A) (n : ℕ) → flat_map g (range 0 (suc n)) ≡ flat_map g (range 0 n) ++ g n
-flatMap-next g n = ap (flat_map g) (range-next n) ∙ flatMap-last g (range 0 n) n
+pub flat_map-next : {A : Type 0} (g : ℕ → List A) (n : ℕ) → flat_map g (range 0 (suc n)) ≡ flat_map g (range 0 n) ++ g n
+flat_map-next g n = ap (flat_map g) (range-next n) ∙ flat_map-last g (range 0 n) n
 
 -- over two ranges of one length they are equal if they are place by place
 pub joined-equal : {A : Type 0} (f g : ℕ → List A) (from other count : ℕ) → ((i : ℕ) → i < count → f (i + from) ≡ g (i + other))
@@ -79,16 +79,16 @@ joined-equal {A} f g from other (suc count) e =
 
 -- lists of one length: what stands at j * q + r
 module _ {A B : Type 0} (g : B → List A) (q : ℕ) (d : A) (e : B) where
-  pub flatMap-at : {xs : List B} → All (λ x. length (g x) ≡ q) xs → (j r : ℕ) → j < length xs → r < q
+  pub flat_map-at : {xs : List B} → All (λ x. length (g x) ≡ q) xs → (j r : ℕ) → j < length xs → r < q
       → get_or (flat_map g xs) (j * q + r) d ≡ get_or (g (get_or xs j e)) r d
   unfolding flat_map
-  flatMap-at allNil j r h l = absurd (not-suc-le-zero h)
-  flatMap-at (allCons {x = x} {xs = xs} f a) zero r h l =
+  flat_map-at all_nil j r h l = absurd (not-suc-le-zero h)
+  flat_map-at (all_cons {x = x} {xs = xs} f a) zero r h l =
       ap (λ i. get_or (g x ++ flat_map g xs) i d) (omega (arith, zero-mul q)) ∙ get_or-append (g x) (flat_map g xs) d r (omega arith)
-  flatMap-at (allCons {x = x} {xs = xs} f a) (suc j) r h l =
+  flat_map-at (all_cons {x = x} {xs = xs} f a) (suc j) r h l =
       ap (λ i. get_or (g x ++ flat_map g xs) i d) (omega (arith, suc-mul j q))
       ∙ get_or-append-add (g x) (flat_map g xs) (j * q + r) d
-      ∙ flatMap-at a j r (omega arith) l
+      ∙ flat_map-at a j r (omega arith) l
 
 -- lists of different lengths; w: their lengths
 module _ {A B : Type 0} (g : A → List B) (w : A → ℕ) (e : A) (d : B) where
@@ -98,12 +98,12 @@ module _ {A B : Type 0} (g : A → List B) (w : A → ℕ) (e : A) (d : B) where
 
   pub placed_at : {xs : List A} → All (λ x. length (g x) ≡ w x) xs → (j o : ℕ) → j < length xs → o < w (get_or xs j e) → PlacedAt xs j o
   unfolding flat_map sum
-  placed_at allNil j o h l = absurd (not-suc-le-zero h)
-  placed_at (allCons {x = x} {xs = xs} f a) zero o h l = record {
+  placed_at all_nil j o h l = absurd (not-suc-le-zero h)
+  placed_at (all_cons {x = x} {xs = xs} f a) zero o h l = record {
     inside = omega (arith, length-append (g x) (flat_map g xs));
     same = ap (λ (i : ℕ). get_or (g x ++ flat_map g xs) i d) (zero-add o) ∙ get_or-append (g x) (flat_map g xs) d o (omega arith);
   }
-  placed_at (allCons {x = x} {xs = xs} f a) (suc j) o h l =
+  placed_at (all_cons {x = x} {xs = xs} f a) (suc j) o h l =
       let later = placed_at a j o (omega arith) l in
       let past : w x + sum w (take j xs) + o ≡ length (g x) + (sum w (take j xs) + o) = omega arith in
       record {

@@ -10,8 +10,8 @@ use native.Mathlib.Omega.{arith}
 use lib.ListN.{length, take, drop, replicate, length-append, length-take, length-drop, length-replicate, take-append-drop}
 use lib.Seq.{length-take-le, take-nil, take-append_seam, drop-append-le}
 use Rattle.lists.specs.Parts.{put, lay}
-use Rattle.lists.specs.Assembled.{Part, assembleBy, assemble, layAll}
-use Rattle.lists.specs.Sums.{All, allNil, allCons}
+use Rattle.lists.specs.Assembled.{Part, assemble_by, assemble, lay_all}
+use Rattle.lists.specs.Sums.{All, all_nil, all_cons}
 use Rattle.lists.proofs.Puts.{put-length, put-nil, put-put, put-part, rest-written}
 use Rattle.lists.proofs.Assembled.{PartWithin, Covers, still, assemble-length, assemble-anywhere}
 
@@ -81,21 +81,21 @@ lay-next base at a b buffer out e f =
 
 module _ (size : ℕ) where
   lay-all-take : (n : ℕ) {parts : List Part} → All (PartWithin size) parts → (buffer : List ℕ) → size ≤ length buffer
-      → layAll parts (take n buffer) ≡ take n (assemble parts buffer)
-  unfolding assembleBy
-  lay-all-take n allNil buffer l = refl
-  lay-all-take n (allCons {x = part} {xs = parts} h hs) buffer l =
-      ap (layAll parts) (lay-take n part.0 part.1 buffer (omega arith))
+      → lay_all parts (take n buffer) ≡ take n (assemble parts buffer)
+  unfolding assemble_by
+  lay-all-take n all_nil buffer l = refl
+  lay-all-take n (all_cons {x = part} {xs = parts} h hs) buffer l =
+      ap (lay_all parts) (lay-take n part.0 part.1 buffer (omega arith))
       ∙ lay-all-take n hs (put part.0 part.1 buffer) (still size part buffer h l)
 
   -- parts that cover a message are the message, whatever stood in the buffer, and wherever it ends
   pub lay-all : (parts : List Part) (fresh buffer : List ℕ) → All (PartWithin size) parts → Covers size parts → length fresh ≡ size
-      → layAll parts buffer ≡ lay 0 (assemble parts fresh) buffer
+      → lay_all parts buffer ≡ lay 0 (assemble parts fresh) buffer
   lay-all parts fresh buffer within covers e =
       let big = longer buffer size in
       let long = longer-length buffer size in
       let made = assemble-length size within fresh (omega arith) in
-      ap (layAll parts) (sym (front buffer size))
+      ap (lay_all parts) (sym (front buffer size))
       ∙ lay-all-take (length buffer) within big (omega arith)
       ∙ ap (take (length buffer)) (assemble-anywhere size parts fresh big within covers e (omega arith))
       ∙ sym (lay-front-of buffer size 0 (assemble parts fresh) (omega arith))

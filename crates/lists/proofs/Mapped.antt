@@ -7,7 +7,7 @@ use mathlib.Core.Path.{◌≡◌, refl, ap, ap₂, ◌∙◌}
 use mathlib.Core.List.{List, [], ◌∷◌, ◌++◌, map}
 use lib.ListN.{length, get_or, length-map}
 use Rattle.lists.specs.Ranges.{range}
-use Rattle.lists.specs.Sums.{All, allNil, allCons}
+use Rattle.lists.specs.Sums.{All, all_nil, all_cons}
 use Rattle.lists.proofs.Ranges.{range_length, range_at, All-from}
 
 module _ {A B : Type 0} where
@@ -21,8 +21,8 @@ module _ {A B : Type 0} where
   map_at f d e (x ∷ xs) (suc i) h = map_at f d e xs i (le_of_suc-le-suc h)
 
   pub map-all : (f g : A → B) {xs : List A} → All (λ x. f x ≡ g x) xs → map f xs ≡ map g xs
-  map-all f g allNil = refl
-  map-all f g (allCons e a) = ap₂ (λ (y : B) (ys : List B). y ∷ ys) e (map-all f g a)
+  map-all f g all_nil = refl
+  map-all f g (all_cons e a) = ap₂ (λ (y : B) (ys : List B). y ∷ ys) e (map-all f g a)
 
 module _ {A : Type 0} where
   pub mapped-length : (f : ℕ → A) (from count : ℕ) → length (map f (range from count)) ≡ count

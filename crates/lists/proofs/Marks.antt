@@ -9,7 +9,7 @@ use lib.Dec.{eqb}
 use lib.ListN.{length, get_or, set, replicate}
 use lib.Seq.{get_or-set_same, get_or-set_other}
 use Rattle.lists.specs.Distinct.{stands, distinct}
-use Rattle.lists.proofs.Replicate.{getD-replicate-same}
+use Rattle.lists.proofs.Replicate.{get_or-replicate-same}
 
 -- the numbers are distinct, and none is marked
 unfoldable pub unmarked : List Bool → List ℕ → Bool
@@ -19,7 +19,7 @@ unmarked marks (x ∷ xs) = not (get_or marks x false) && (not (stands x xs) && 
 pub unmarked-blank : (size : ℕ) (xs : List ℕ) → unmarked (replicate size false) xs ≡ distinct xs
 unfolding unmarked distinct
 unmarked-blank size [] = refl
-unmarked-blank size (x ∷ xs) = rw (getD-replicate-same size x false, unmarked-blank size xs)
+unmarked-blank size (x ∷ xs) = rw (get_or-replicate-same size x false, unmarked-blank size xs)
 
 pub unmarked-set : (marks : List Bool) (x : ℕ) (ys : List ℕ) → x < length marks → unmarked (set marks x true) ys ≡ not (stands x ys) && unmarked marks ys
 unfolding unmarked stands

@@ -9,14 +9,14 @@ use lib.Dec.{eqb}
 use lib.ListN.{length, drop}
 use Rattle.lists.specs.Below.{Below}
 use Rattle.lists.specs.Pairs.{under}
-use Rattle.lists.specs.Sums.{keep, keepIf, All, allNil, allCons}
+use Rattle.lists.specs.Sums.{keep, keep_if, All, all_nil, all_cons}
 use Rattle.lists.proofs.Each.{All-at, All-get, All-imp, All-keep, All-map, All-head, All-tail}
 
 pub under-cons : (p q x : ℕ) (cs : List (ℕ × ℕ)) → under p ((q, x) ∷ cs) ≡ cond (eqb q p) (x ∷ under p cs) (under p cs)
-unfolding under keep keepIf
+unfolding under keep keep_if
 under-cons p q x cs = go (eqb q p)
   where
-    go : (t : Bool) → map (λ (e : ℕ × ℕ). e.1) (keepIf t (q, x) (keep (λ e. eqb e.0 p) cs)) ≡ cond t (x ∷ under p cs) (under p cs)
+    go : (t : Bool) → map (λ (e : ℕ × ℕ). e.1) (keep_if t (q, x) (keep (λ e. eqb e.0 p) cs)) ≡ cond t (x ∷ under p cs) (under p cs)
     go true = refl
     go false = refl
 
@@ -64,10 +64,10 @@ module _ (f g : ℕ → ℕ → ℕ) (K : ℕ) where
 
   pub same-under : {cs : List (ℕ × ℕ)} (ds : List (ℕ × ℕ)) → All (λ c. c.0 < K) cs → map (λ c. c.0) cs ≡ map (λ d. d.0) ds
       → ((p : ℕ) → p < K → map (f p) (under p cs) ≡ map (g p) (under p ds)) → map (λ c. f c.0 c.1) cs ≡ map (λ d. g d.0 d.1) ds
-  same-under [] allNil e h = refl
-  same-under (d ∷ ds) allNil e h = absurd (nil≢cons e)
-  same-under [] (allCons low a) e h = absurd (cons≢nil e)
-  same-under ((r, y) ∷ ds) (allCons {x = (q, x)} {xs = cs} low a) e h =
+  same-under [] all_nil e h = refl
+  same-under (d ∷ ds) all_nil e h = absurd (nil≢cons e)
+  same-under [] (all_cons low a) e h = absurd (cons≢nil e)
+  same-under ((r, y) ∷ ds) (all_cons {x = (q, x)} {xs = cs} low a) e h =
       ap (λ v. v ∷ map (λ c. f c.0 c.1) cs) (here q x y cs ds (like q low) ∙ ap (λ s. g s y) (head-eq_of_cons-eq e))
       ∙ ap (λ l. g r y ∷ l) (same-under ds a (tail-eq_of_cons-eq e) (λ p l. step p q x y cs ds (like p l)))
     where
@@ -102,8 +102,8 @@ module _ {A B : Type 0} where
 
 -- what holds of the entries under each label holds of all entries
 pub under_all : {P : ℕ → Type 0} (K : ℕ) {cs : List (ℕ × ℕ)} → All (λ c. c.0 < K) cs → ((p : ℕ) → p < K → All P (under p cs)) → All (λ c. P c.1) cs
-under_all K allNil h = allNil
-under_all {P} K (allCons {x = (q, x)} {xs = cs} low a) h = allCons (first (h q low)) (under_all K a (λ p l. rest p (h p l)))
+under_all K all_nil h = all_nil
+under_all {P} K (all_cons {x = (q, x)} {xs = cs} low a) h = all_cons (first (h q low)) (under_all K a (λ p l. rest p (h p l)))
   where
     first : All P (under q ((q, x) ∷ cs)) → P x
     first b = All-head (rw (under-cons q q x cs, eq-eqb q q refl) at b)
@@ -121,9 +121,9 @@ unfolding under zip zip_with
 under-below n p xs ys b = All-get {P = λ y. y < n} 0 (All-map (λ e. e.1) (All-imp (λ e h. h.0) (All-keep (λ e. eqb e.0 p) (go xs (All-at 0 ys b)))))
   where
     go : (xs : List ℕ) {ys : List ℕ} → All (λ y. y < n) ys → All (λ e. e.1 < n) (zip xs ys)
-    go [] a = allNil
-    go (x ∷ xs) allNil = allNil
-    go (x ∷ xs) (allCons h a) = allCons h (go xs a)
+    go [] a = all_nil
+    go (x ∷ xs) all_nil = all_nil
+    go (x ∷ xs) (all_cons h a) = all_cons h (go xs a)
 
 module _ {A B C : Type 0} (f : A → B) (g : A → C) where
   pub zip-map : (l : List A) → zip (map f l) (map g l) ≡ map (λ x. (f x, g x)) l

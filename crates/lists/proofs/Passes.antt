@@ -10,7 +10,7 @@ use lib.Dec.{ltb}
 use lib.ListN.{length, get_or, set, drop, replicate}
 use lib.Seq.{drop-cons, drop-length}
 use Rattle.lists.specs.Below.{all_below}
-use Rattle.lists.specs.Distinct.{stands, isPermutation}
+use Rattle.lists.specs.Distinct.{stands, is_permutation}
 use Rattle.lists.proofs.Marks.{unmarked, unmarked-blank, unmarked-set}
 
 -- the numbers are below the size and distinct, and none is marked
@@ -46,6 +46,6 @@ pub passes-end : (size : ℕ) (marks : List Bool) (xs : List ℕ) (i : ℕ) → 
 unfolding passes all_below unmarked
 passes-end size marks xs i e = ap (passes size marks) (ap (λ (m : ℕ). drop m xs) e ∙ drop-length xs)
 
-pub permutation-passes : (size n : ℕ) (xs : List ℕ) → length xs ≡ size → isPermutation size xs ≡ passes size (replicate n false) xs
-unfolding isPermutation passes
+pub permutation-passes : (size n : ℕ) (xs : List ℕ) → length xs ≡ size → is_permutation size xs ≡ passes size (replicate n false) xs
+unfolding is_permutation passes
 permutation-passes size n xs e = rw (eq-eqb (length xs) size e, unmarked-blank n xs)

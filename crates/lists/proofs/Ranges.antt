@@ -7,7 +7,7 @@ use mathlib.Core.Path.{◌≡◌, refl, sym, ap, ◌∙◌}
 use mathlib.Core.List.{[], ◌∷◌, ◌++◌}
 use lib.ListN.{length, get_or}
 use Rattle.lists.specs.Ranges.{range}
-use Rattle.lists.specs.Sums.{All, allNil, allCons}
+use Rattle.lists.specs.Sums.{All, all_nil, all_cons}
 
 pub range_length : (a n : ℕ) → length (range a n) ≡ n
 unfolding range
@@ -42,8 +42,8 @@ range-around n i h =
 module _ {P : ℕ → Type 0} where
   pub All-from : (a n : ℕ) → ((i : ℕ) → a ≤ i → i < a + n → P i) → All P (range a n)
   unfolding range
-  All-from a zero h = allNil
-  All-from a (suc n) h = allCons (h a (omega arith) (omega arith)) (All-from (suc a) n (λ i l u. h i (omega arith) (omega arith)))
+  All-from a zero h = all_nil
+  All-from a (suc n) h = all_cons (h a (omega arith) (omega arith)) (All-from (suc a) n (λ i l u. h i (omega arith) (omega arith)))
 
   pub All-range : (n : ℕ) → ((i : ℕ) → i < n → P i) → All P (range 0 n)
   All-range n h = All-from 0 n (λ i l u. h i (omega arith))

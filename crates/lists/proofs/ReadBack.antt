@@ -42,17 +42,17 @@ module _ (at : ℕ) (bytes buffer : List ℕ) (fits : at + length bytes ≤ leng
       let e : from ≡ (at + length bytes) + d = omega arith in
       ap (take size) (rw (e, ← drop-drop d (at + length bytes) (put at bytes buffer), ← drop-drop d (at + length bytes) buffer, drop-end))
 
-  pub getD-put-inside : (i : ℕ) → i < length bytes → get_or (put at bytes buffer) (at + i) 0 ≡ get_or bytes i 0
-  getD-put-inside i h =
+  pub get_or-put-inside : (i : ℕ) → i < length bytes → get_or (put at bytes buffer) (at + i) 0 ≡ get_or bytes i 0
+  get_or-put-inside i h =
       ap (λ (n : ℕ). get_or (put at bytes buffer) (n + i) 0) (sym front_length)
       ∙ get_or-append-add (take at buffer) (bytes ++ rest) i 0
       ∙ get_or-append bytes rest 0 i h
 
-  pub getD-put-before : (i : ℕ) → i < at → get_or (put at bytes buffer) i 0 ≡ get_or buffer i 0
-  getD-put-before i h = get_or-append (take at buffer) (bytes ++ rest) 0 i (omega (arith, front_length)) ∙ get_or-take at buffer i 0 h
+  pub get_or-put-before : (i : ℕ) → i < at → get_or (put at bytes buffer) i 0 ≡ get_or buffer i 0
+  get_or-put-before i h = get_or-append (take at buffer) (bytes ++ rest) 0 i (omega (arith, front_length)) ∙ get_or-take at buffer i 0 h
 
-  pub getD-put-after : (i : ℕ) → get_or (put at bytes buffer) (at + length bytes + i) 0 ≡ get_or buffer (at + length bytes + i) 0
-  getD-put-after i =
+  pub get_or-put-after : (i : ℕ) → get_or (put at bytes buffer) (at + length bytes + i) 0 ≡ get_or buffer (at + length bytes + i) 0
+  get_or-put-after i =
       sym (get_or-drop (at + length bytes) (put at bytes buffer) i 0)
       ∙ ap (λ (l : List ℕ). get_or l i 0) drop-end
       ∙ get_or-drop (at + length bytes) buffer i 0

@@ -1,5 +1,5 @@
 -- A list of one element repeated: a part of it is another such list (`drop-replicate`), and every place holds the element
--- (`getD-replicate-same`).
+-- (`get_or-replicate-same`).
 use mathlib.Core.Path.{◌≡◌, refl, ◌∙◌}
 use Prim.Native.Nat.{ℕ, zero, suc, ◌-◌}
 use native.Mathlib.Nat.{sub-zero, zero-sub, suc-sub-suc}
@@ -12,7 +12,7 @@ module _ {A : Type 0} where
   drop-replicate (suc n) (suc count) a = drop-replicate n count a ∙ rw (suc-sub-suc count n)
 
   -- past the end too, where the element is the default
-  pub getD-replicate-same : (count i : ℕ) (a : A) → get_or (replicate count a) i a ≡ a
-  getD-replicate-same zero i a = refl
-  getD-replicate-same (suc count) zero a = refl
-  getD-replicate-same (suc count) (suc i) a = getD-replicate-same count i a
+  pub get_or-replicate-same : (count i : ℕ) (a : A) → get_or (replicate count a) i a ≡ a
+  get_or-replicate-same zero i a = refl
+  get_or-replicate-same (suc count) zero a = refl
+  get_or-replicate-same (suc count) (suc i) a = get_or-replicate-same count i a

@@ -1,4 +1,4 @@
--- Sums: over joined, mapped, repeated and kept lists (`sum-append`, `sum-flatMap`, `sum-keep`), of equal terms (`sum-all`), in two
+-- Sums: over joined, mapped, repeated and kept lists (`sum-append`, `sum-flat_map`, `sum-keep`), of equal terms (`sum-all`), in two
 -- orders (`sum-swap`), of bits, and over ranges (`sum-range`, `sum-most`, `sum-grows`).
 use Prim.Native.Nat.{ℕ, zero, suc, ◌+◌, ◌-◌, ◌*◌, ◌≤◌, ◌<◌}
 use native.Mathlib.Nat.{mul-add, mul-zero, mul-one, zero-mul, one-mul, suc-mul}
@@ -7,7 +7,7 @@ use mathlib.Core.Path.{◌≡◌, refl, sym, ap, ◌∙◌, fun_ext}
 use mathlib.Core.List.{List, [], ◌∷◌, ◌++◌, map, flat_map}
 use mathlib.Core.Bool.{Bool, true, false}
 use lib.ListN.{length, get_or, replicate}
-use Rattle.lists.specs.Sums.{All, allNil, allCons, bit, keep, keepIf, sum}
+use Rattle.lists.specs.Sums.{All, all_nil, all_cons, bit, keep, keep_if, sum}
 use Rattle.lists.specs.Ranges.{range}
 use Rattle.lists.proofs.Bits.{bit-zero}
 use Rattle.lists.proofs.Ranges.{range_length, range-next, range-around, All-range}
@@ -33,8 +33,8 @@ module _ {A : Type 0} where
 
   pub sum-all : (f g : A → ℕ) {xs : List A} → All (λ x. f x ≡ g x) xs → sum f xs ≡ sum g xs
   unfolding sum
-  sum-all f g allNil = refl
-  sum-all f g (allCons e a) = omega (arith, e, sum-all f g a)
+  sum-all f g all_nil = refl
+  sum-all f g (all_cons e a) = omega (arith, e, sum-all f g a)
 
   sum-const : (c : ℕ) (xs : List A) → sum (λ x. c) xs ≡ length xs * c
   unfolding sum
@@ -48,20 +48,20 @@ module _ {A : Type 0} where
   sum_one xs = sum-const 1 xs ∙ mul-one (length xs)
 
   pub sum-keep : (f : A → ℕ) (t : A → Bool) (xs : List A) → sum f (keep t xs) ≡ sum (λ x. bit (t x) * f x) xs
-  unfolding sum keep keepIf bit
+  unfolding sum keep keep_if bit
   sum-keep f t [] = refl
   sum-keep f t (x ∷ xs) = go (t x) (sum-keep f t xs)
     where
-      go : (b : Bool) → sum f (keep t xs) ≡ sum (λ y. bit (t y) * f y) xs → sum f (keepIf b x (keep t xs)) ≡ bit b * f x + sum (λ y. bit (t y) * f y) xs
+      go : (b : Bool) → sum f (keep t xs) ≡ sum (λ y. bit (t y) * f y) xs → sum f (keep_if b x (keep t xs)) ≡ bit b * f x + sum (λ y. bit (t y) * f y) xs
       go true e = omega (arith, one-mul (f x))
       go false e = omega (arith, zero-mul (f x))
 
   pub sum-keep-most : (f : A → ℕ) (t : A → Bool) (xs : List A) → sum f (keep t xs) ≤ sum f xs
-  unfolding keep keepIf sum
+  unfolding keep keep_if sum
   sum-keep-most f t [] = omega arith
   sum-keep-most f t (x ∷ xs) = go (t x) (sum-keep-most f t xs)
     where
-      go : (b : Bool) → sum f (keep t xs) ≤ sum f xs → sum f (keepIf b x (keep t xs)) ≤ sum f (x ∷ xs)
+      go : (b : Bool) → sum f (keep t xs) ≤ sum f xs → sum f (keep_if b x (keep t xs)) ≤ sum f (x ∷ xs)
       go true ih = omega arith
       go false ih = omega arith
 
@@ -73,14 +73,14 @@ module _ {A : Type 0} where
   -- where a sum of bits is 0, no test holds
   pub sum-none : (t : A → Bool) (xs : List A) → sum (λ x. bit (t x)) xs ≡ 0 → All (λ x. t x ≡ false) xs
   unfolding sum
-  sum-none t [] e = allNil
-  sum-none t (x ∷ xs) e = allCons (bit-zero (t x) (omega arith)) (sum-none t xs (omega arith))
+  sum-none t [] e = all_nil
+  sum-none t (x ∷ xs) e = all_cons (bit-zero (t x) (omega arith)) (sum-none t xs (omega arith))
 
 module _ {A B : Type 0} where
-  pub sum-flatMap : (f : A → ℕ) (g : B → List A) (xs : List B) → sum f (flat_map g xs) ≡ sum (λ x. sum f (g x)) xs
+  pub sum-flat_map : (f : A → ℕ) (g : B → List A) (xs : List B) → sum f (flat_map g xs) ≡ sum (λ x. sum f (g x)) xs
   unfolding sum flat_map
-  sum-flatMap f g [] = refl
-  sum-flatMap f g (x ∷ xs) = omega (arith, sum-append f (g x) (flat_map g xs), sum-flatMap f g xs)
+  sum-flat_map f g [] = refl
+  sum-flat_map f g (x ∷ xs) = omega (arith, sum-append f (g x) (flat_map g xs), sum-flat_map f g xs)
 
   pub sum-map : (f : A → ℕ) (g : B → A) (xs : List B) → sum f (map g xs) ≡ sum (λ x. f (g x)) xs
   unfolding sum

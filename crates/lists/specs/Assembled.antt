@@ -7,13 +7,13 @@ abbrev pub Part : Type 0
 Part = ℕ × List ℕ
 
 -- the buffer after all parts are written, each by `write`
-unfoldable pub assembleBy : (ℕ → List ℕ → List ℕ → List ℕ) → List Part → List ℕ → List ℕ
-assembleBy write [] buffer = buffer
-assembleBy write (part ∷ parts) buffer = assembleBy write parts (write part.0 part.1 buffer)
+unfoldable pub assemble_by : (ℕ → List ℕ → List ℕ → List ℕ) → List Part → List ℕ → List ℕ
+assemble_by write [] buffer = buffer
+assemble_by write (part ∷ parts) buffer = assemble_by write parts (write part.0 part.1 buffer)
 
 abbrev pub assemble : List Part → List ℕ → List ℕ
-assemble = assembleBy put
+assemble = assemble_by put
 
 -- as far as the buffer reaches
-abbrev pub layAll : List Part → List ℕ → List ℕ
-layAll = assembleBy lay
+abbrev pub lay_all : List Part → List ℕ → List ℕ
+lay_all = assemble_by lay

@@ -13,5 +13,5 @@ distinct [] = true
 distinct (x ∷ xs) = not (stands x xs) && distinct xs
 
 -- every number below `size` once
-unfoldable pub isPermutation : ℕ → List ℕ → Bool
-isPermutation size xs = eqb (length xs) size && (all_below size xs && distinct xs)
+unfoldable pub is_permutation : ℕ → List ℕ → Bool
+is_permutation size xs = eqb (length xs) size && (all_below size xs && distinct xs)

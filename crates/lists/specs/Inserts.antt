@@ -2,9 +2,9 @@
 use Rattle.std.specs.Prelude.{ℕ, suc, List, ◌∷◌, ◌++◌, take, drop}
 
 -- x inserted at place `at`; what stood there and after moves on by one place
-abbrev pub insertAt : ℕ → ℕ → List ℕ → List ℕ
-insertAt at x l = take at l ++ (x ∷ drop at l)
+abbrev pub insert_at : ℕ → ℕ → List ℕ → List ℕ
+insert_at at x l = take at l ++ (x ∷ drop at l)
 
 -- without what stands at place `at`
-abbrev pub removeAt : ℕ → List ℕ → List ℕ
-removeAt at l = take at l ++ drop (suc at) l
+abbrev pub remove_at : ℕ → List ℕ → List ℕ
+remove_at at l = take at l ++ drop (suc at) l

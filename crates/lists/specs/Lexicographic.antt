@@ -11,5 +11,5 @@ precedes (x ∷ xs) (y ∷ ys) = ltb x y || eqb x y && precedes xs ys
 
 -- each element has the relation to all later ones
 pub data Ordered {A : Type 0} (R : A → A → Type 0) : List A → Type 0 where
-  orderedNil : Ordered R []
-  orderedCons : {x : A} {xs : List A} → All (R x) xs → Ordered R xs → Ordered R (x ∷ xs)
+  ordered_nil : Ordered R []
+  ordered_cons : {x : A} {xs : List A} → All (R x) xs → Ordered R xs → Ordered R (x ∷ xs)

@@ -8,15 +8,15 @@ bit true = 1
 bit false = 0
 
 module _ {A : Type 0} where
-  unfoldable pub keepIf : Bool → A → List A → List A
-  keepIf true x r = x ∷ r
-  keepIf false x r = r
+  unfoldable pub keep_if : Bool → A → List A → List A
+  keep_if true x r = x ∷ r
+  keep_if false x r = r
 
   -- the elements that pass the test, in order
   unfoldable pub keep : (A → Bool) → List A → List A
-  unfolding keepIf
+  unfolding keep_if
   keep f [] = []
-  keep f (x ∷ xs) = keepIf (f x) x (keep f xs)
+  keep f (x ∷ xs) = keep_if (f x) x (keep f xs)
 
   -- the sum of a number for each element
   unfoldable pub sum : (A → ℕ) → List A → ℕ
@@ -25,5 +25,5 @@ module _ {A : Type 0} where
 
 -- each element has the property
 pub data All {A : Type 0} (P : A → Type 0) : List A → Type 0 where
-  allNil : All P []
-  allCons : {x : A} {xs : List A} → P x → All P xs → All P (x ∷ xs)
+  all_nil : All P []
+  all_cons : {x : A} {xs : List A} → P x → All P xs → All P (x ∷ xs)

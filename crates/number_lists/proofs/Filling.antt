@@ -8,33 +8,33 @@ use native.Mathlib.Omega.{arith}
 use lib.ListN.{length, drop, get_or, length-drop}
 use Rattle.text_lines.specs.declared.Line.TheVariants.{Value, Refused}
 use Rattle.text_lines.proofs.DigitTexts.{step}
-use Rattle.number_lists.specs.NumberLists.{numeralAt, numbersFrom, numbersAt, list_of}
+use Rattle.number_lists.specs.NumberLists.{numeral_at, numbers_from, numbers_at, list_of}
 use Rattle.number_lists.proofs.Reading.{First, some_left, first-number, numbers-some}
 
 -- after i of the numbers, the others are read from place `at` on
 abbrev pub LeftAt : List ℕ → List ℕ → ℕ → ℕ → Type 0
-LeftAt text numbers at i = i < length numbers → numbersFrom (length text - i) text at ≡ some (drop i numbers)
+LeftAt text numbers at i = i < length numbers → numbers_from (length text - i) text at ≡ some (drop i numbers)
 
-pub left-first : (text : List ℕ) (at : ℕ) → LeftAt text (list_of (numbersAt text at)) at 0
+pub left-first : (text : List ℕ) (at : ℕ) → LeftAt text (list_of (numbers_at text at)) at 0
 left-first text at h =
-    ap (λ (m : ℕ). numbersFrom m text at) (let e : length text - 0 ≡ length text = omega arith in e) ∙ numbers-some text at h
+    ap (λ (m : ℕ). numbers_from m text at) (let e : length text - 0 ≡ length text = omega arith in e) ∙ numbers-some text at h
 
 module _ (text numbers : List ℕ) (at i : ℕ) (left : LeftAt text numbers at i) (h : i < length numbers) where
   -- the next of them
   next : First (length text - (i + 1)) text at (get_or numbers i 0) (drop (i + 1) numbers)
   next =
-      let e : numbersFrom (length text - i) text at ≡ some (get_or numbers i 0 ∷ drop (i + 1) numbers) = left h ∙ ap some (step numbers i h) in
+      let e : numbers_from (length text - i) text at ≡ some (get_or numbers i 0 ∷ drop (i + 1) numbers) = left h ∙ ap some (step numbers i h) in
       let some_more = some_left (length text - i) text at (get_or numbers i 0 ∷ drop (i + 1) numbers) e in
       let one_less : suc (length text - (i + 1)) ≡ length text - i = omega arith in
-      first-number (length text - (i + 1)) text at (get_or numbers i 0) (drop (i + 1) numbers) (ap (λ (m : ℕ). numbersFrom m text at) one_less ∙ e)
+      first-number (length text - (i + 1)) text at (get_or numbers i 0) (drop (i + 1) numbers) (ap (λ (m : ℕ). numbers_from m text at) one_less ∙ e)
 
-  pub next-there : {A : Type 0} → numeralAt text at ≡ Refused → A
+  pub next-there : {A : Type 0} → numeral_at text at ≡ Refused → A
   next-there e = none (sym e ∙ next.found)
     where
       none : {A : Type 0} {n end : ℕ} → Refused ≡ Value n end → A
       none f = let z : ◌≡◌ {A = ℕ} 0 1 = cc in absurd (let w : ⊥ = omega arith in w)
 
-  module _ (n end : ℕ) (e : numeralAt text at ≡ Value n end) where
+  module _ (n end : ℕ) (e : numeral_at text at ≡ Value n end) where
     same : Value n end ≡ Value (get_or numbers i 0) next.end
     same = sym e ∙ next.found
 
@@ -45,4 +45,4 @@ module _ (text numbers : List ℕ) (at i : ℕ) (left : LeftAt text numbers at i
     next-left k =
         let s = same in
         let ends : end ≡ next.end = cc in
-        ap (λ (m : ℕ). numbersFrom (length text - (i + 1)) text (m + 1)) ends ∙ next.later (let l = length-drop (i + 1) numbers in omega arith)
+        ap (λ (m : ℕ). numbers_from (length text - (i + 1)) text (m + 1)) ends ∙ next.later (let l = length-drop (i + 1) numbers in omega arith)

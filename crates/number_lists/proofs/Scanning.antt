@@ -13,90 +13,90 @@ use Rattle.lists.specs.Below.{all_below}
 use Rattle.text_lines.specs.declared.Line.TheVariants.{Value, Refused as NoLine}
 use Rattle.number_lists.specs.declared.Scanned.{Scanned}
 use Rattle.number_lists.specs.declared.Scanned.TheVariants.{Of, Refused}
-use Rattle.number_lists.specs.NumberLists.{numeralAt, ends_at, before, numbersFrom, scanOf, list_of}
+use Rattle.number_lists.specs.NumberLists.{numeral_at, ends_at, before, numbers_from, scan_of, list_of}
 use Rattle.number_lists.proofs.Reading.{at_none, at_last, at_more, at_other}
 
 -- what a pass says that came by `count` numbers already, all bytes or not, if these are left
-abbrev scanAfter : ℕ → Bool → Option (List ℕ) → Scanned
-scanAfter count bytes none = Refused
-scanAfter count bytes (some numbers) = Of (count + length numbers) (bytes && all_below 256 numbers)
+abbrev scan_after : ℕ → Bool → Option (List ℕ) → Scanned
+scan_after count bytes none = Refused
+scan_after count bytes (some numbers) = Of (count + length numbers) (bytes && all_below 256 numbers)
 
 moved : (b t a : Bool) → b && cond t a false ≡ cond t b false && a
 moved b true a = refl
 moved b false a = and-false b
 
 after_more : (count : ℕ) (bytes : Bool) (n : ℕ) (o : Option (List ℕ))
-    → scanAfter count bytes (before n o) ≡ scanAfter (count + 1) (cond (ltb n 256) bytes false) o
+    → scan_after count bytes (before n o) ≡ scan_after (count + 1) (cond (ltb n 256) bytes false) o
 unfolding all_below
 after_more count bytes n none = refl
 after_more count bytes n (some numbers) =
     ap₂ Of (let e : count + suc (length numbers) ≡ count + 1 + length numbers = omega arith in e) (moved bytes (ltb n 256) (all_below 256 numbers))
 
-after_last : (count : ℕ) (bytes : Bool) (n : ℕ) → scanAfter count bytes (some (n ∷ [])) ≡ Of (count + 1) (cond (ltb n 256) bytes false)
+after_last : (count : ℕ) (bytes : Bool) (n : ℕ) → scan_after count bytes (some (n ∷ [])) ≡ Of (count + 1) (cond (ltb n 256) bytes false)
 unfolding all_below
 after_last count bytes n = ap (Of (count + 1)) (moved bytes (ltb n 256) true ∙ and-true (cond (ltb n 256) bytes false))
 
 -- ---- the pass from place to place
 
 -- what is said at place `at`, after `count` numbers
-abbrev pub scanLeft : List ℕ → ℕ → ℕ → Bool → Scanned
-scanLeft text at count bytes = scanAfter count bytes (numbersFrom (length text - count) text at)
+abbrev pub scan_left : List ℕ → ℕ → ℕ → Bool → Scanned
+scan_left text at count bytes = scan_after count bytes (numbers_from (length text - count) text at)
 
-starts : (o : Option (List ℕ)) → scanOf o ≡ scanAfter 0 true o
+starts : (o : Option (List ℕ)) → scan_of o ≡ scan_after 0 true o
 starts none = refl
 starts (some numbers) = ap (λ (n : ℕ). Of n (all_below 256 numbers)) (sym (zero-add (length numbers)))
 
-pub scan-starts : (text : List ℕ) (at : ℕ) → scanOf (numbersFrom (length text) text at) ≡ scanLeft text at 0 true
+pub scan-starts : (text : List ℕ) (at : ℕ) → scan_of (numbers_from (length text) text at) ≡ scan_left text at 0 true
 scan-starts text at =
-    starts (numbersFrom (length text) text at)
-    ∙ ap (λ (m : ℕ). scanAfter 0 true (numbersFrom m text at)) (let e : length text ≡ length text - 0 = omega arith in e)
+    starts (numbers_from (length text) text at)
+    ∙ ap (λ (m : ℕ). scan_after 0 true (numbers_from m text at)) (let e : length text ≡ length text - 0 = omega arith in e)
 
 module _ (text : List ℕ) (at count : ℕ) (bytes : Bool) where
-  pub scan-none : numeralAt text at ≡ NoLine → scanLeft text at count bytes ≡ Refused
-  scan-none e = ap (scanAfter count bytes) (at_none (length text - count) text at e)
+  pub scan-none : numeral_at text at ≡ NoLine → scan_left text at count bytes ≡ Refused
+  scan-none e = ap (scan_after count bytes) (at_none (length text - count) text at e)
 
-  module _ (n end : ℕ) (within : count < length text) (e : numeralAt text at ≡ Value n end) where
+  module _ (n end : ℕ) (within : count < length text) (e : numeral_at text at ≡ Value n end) where
     left : {A : Type 0} (f : ℕ → A) → f (length text - count) ≡ f (suc (length text - (count + 1)))
     left f = ap f (let s : length text - count ≡ suc (length text - (count + 1)) = omega arith in s)
 
     abbrev rest : ℕ
     rest = length text - (count + 1)
 
-    pub scan-last : ends_at text end ≡ true → scanLeft text at count bytes ≡ Of (count + 1) (cond (ltb n 256) bytes false)
+    pub scan-last : ends_at text end ≡ true → scan_left text at count bytes ≡ Of (count + 1) (cond (ltb n 256) bytes false)
     scan-last f =
-        left (λ m. scanAfter count bytes (numbersFrom m text at))
-        ∙ ap (scanAfter count bytes) (at_last rest text at n end e f) ∙ after_last count bytes n
+        left (λ m. scan_after count bytes (numbers_from m text at))
+        ∙ ap (scan_after count bytes) (at_last rest text at n end e f) ∙ after_last count bytes n
 
-    pub scan-other : ends_at text end ≡ false → eqb (get_or text end 0) 32 ≡ false → scanLeft text at count bytes ≡ Refused
-    scan-other f g = left (λ m. scanAfter count bytes (numbersFrom m text at)) ∙ ap (scanAfter count bytes) (at_other rest text at n end e f g)
+    pub scan-other : ends_at text end ≡ false → eqb (get_or text end 0) 32 ≡ false → scan_left text at count bytes ≡ Refused
+    scan-other f g = left (λ m. scan_after count bytes (numbers_from m text at)) ∙ ap (scan_after count bytes) (at_other rest text at n end e f g)
 
     -- no byte stands past the end
-    pub scan-past : length text ≤ end → scanLeft text at count bytes ≡ Refused
+    pub scan-past : length text ≤ end → scan_left text at count bytes ≡ Refused
     scan-past h = let past = get_or-eq_default text 0 {n = end} h in scan-other (simp past) (simp past)
 
     pub scan-more : ends_at text end ≡ false → eqb (get_or text end 0) 32 ≡ true
-        → scanLeft text at count bytes ≡ scanLeft text (end + 1) (count + 1) (cond (ltb n 256) bytes false)
+        → scan_left text at count bytes ≡ scan_left text (end + 1) (count + 1) (cond (ltb n 256) bytes false)
     scan-more f g =
-        left (λ m. scanAfter count bytes (numbersFrom m text at))
-        ∙ ap (scanAfter count bytes) (at_more rest text at n end e f g) ∙ after_more count bytes n (numbersFrom rest text (end + 1))
+        left (λ m. scan_after count bytes (numbers_from m text at))
+        ∙ ap (scan_after count bytes) (at_more rest text at n end e f g) ∙ after_more count bytes n (numbers_from rest text (end + 1))
 
 -- ---- what the pass says of the whole list
 
 module _ (o : Option (List ℕ)) (count : ℕ) (bytes : Bool) where
-  pub scanned-list : scanOf o ≡ Of count bytes → (length (list_of o) ≡ count) × (all_below 256 (list_of o) ≡ bytes)
+  pub scanned-list : scan_of o ≡ Of count bytes → (length (list_of o) ≡ count) × (all_below 256 (list_of o) ≡ bytes)
   scanned-list e = go o e
     where
-      go : (p : Option (List ℕ)) → scanOf p ≡ Of count bytes → (length (list_of p) ≡ count) × (all_below 256 (list_of p) ≡ bytes)
+      go : (p : Option (List ℕ)) → scan_of p ≡ Of count bytes → (length (list_of p) ≡ count) × (all_below 256 (list_of p) ≡ bytes)
       go none f = let z : ◌≡◌ {A = ℕ} 0 1 = cc in absurd (let w : ⊥ = omega arith in w)
       go (some numbers) f = (cc, cc)
 
-  pub scanned-some : scanOf o ≡ Of count bytes → o ≡ some (list_of o)
+  pub scanned-some : scan_of o ≡ Of count bytes → o ≡ some (list_of o)
   scanned-some e = go o e
     where
-      go : (p : Option (List ℕ)) → scanOf p ≡ Of count bytes → p ≡ some (list_of p)
+      go : (p : Option (List ℕ)) → scan_of p ≡ Of count bytes → p ≡ some (list_of p)
       go none f = let z : ◌≡◌ {A = ℕ} 0 1 = cc in absurd (let w : ⊥ = omega arith in w)
       go (some numbers) f = refl
 
-pub scan-refused : (o : Option (List ℕ)) → scanOf o ≡ Refused → o ≡ none
+pub scan-refused : (o : Option (List ℕ)) → scan_of o ≡ Refused → o ≡ none
 scan-refused none e = refl
 scan-refused (some numbers) e = let z : ◌≡◌ {A = ℕ} 0 1 = cc in absurd (let w : ⊥ = omega arith in w)

@@ -7,39 +7,39 @@ use Rattle.lists.specs.Ascii.{ascii}
 use Rattle.lists.specs.Below.{all_below}
 use Rattle.text_lines.specs.declared.Line.{Line}
 use Rattle.text_lines.specs.declared.Line.TheVariants.{Value, Refused}
-use Rattle.text_lines.specs.Decimal.{decimal, digitCount, valueFrom}
-use Rattle.text_lines.specs.Lines.{isNumeral}
+use Rattle.text_lines.specs.Decimal.{decimal, digit_count, value_from}
+use Rattle.text_lines.specs.Lines.{is_numeral}
 use Rattle.number_lists.specs.declared.Scanned.{Scanned}
 use Rattle.number_lists.specs.declared.Scanned.TheVariants.{Of, Refused as NotScanned}
 
 -- ---- written
 
-abbrev pub afterSpace : ℕ → List ℕ
-afterSpace n = ascii " " ++ decimal n
+abbrev pub after_space : ℕ → List ℕ
+after_space n = ascii " " ++ decimal n
 
 -- numbers, each after a space
-unfoldable pub afterSpaces : List ℕ → List ℕ
-afterSpaces numbers = flat_map afterSpace numbers
+unfoldable pub after_spaces : List ℕ → List ℕ
+after_spaces numbers = flat_map after_space numbers
 
 unfoldable pub spaced : List ℕ → List ℕ
 spaced [] = []
-spaced (n ∷ numbers) = decimal n ++ afterSpaces numbers
+spaced (n ∷ numbers) = decimal n ++ after_spaces numbers
 
 -- ---- read
 
 -- what is read at a place goes on with its value and the place after it, or ends the reading
-abbrev pub onNumber : {A : Type 0} → Line → (ℕ → ℕ → Option A) → Option A
-onNumber (Value value next) continue = continue value next
-onNumber Refused continue = none
+abbrev pub on_number : {A : Type 0} → Line → (ℕ → ℕ → Option A) → Option A
+on_number (Value value next) continue = continue value next
+on_number Refused continue = none
 
 -- a number at the start of a text, which begins at place `at`
-unfoldable pub numeralFrom : ℕ → List ℕ → Line
-numeralFrom at text =
-    let count = digitCount text in cond (isNumeral 5 count text) (Value (valueFrom 0 (take count text)) (at + count)) Refused
+unfoldable pub numeral_from : ℕ → List ℕ → Line
+numeral_from at text =
+    let count = digit_count text in cond (is_numeral 5 count text) (Value (value_from 0 (take count text)) (at + count)) Refused
 
 -- the number at place `at`
-abbrev pub numeralAt : List ℕ → ℕ → Line
-numeralAt text at = numeralFrom at (drop at text)
+abbrev pub numeral_at : List ℕ → ℕ → Line
+numeral_at text at = numeral_from at (drop at text)
 
 -- byte 10 stands at the place, and ends the text
 abbrev pub ends_at : List ℕ → ℕ → Bool
@@ -50,22 +50,22 @@ before n none = none
 before n (some numbers) = some (n ∷ numbers)
 
 -- the numbers from place `at` on, one or more, at most `most`
-unfoldable pub numbersFrom : ℕ → List ℕ → ℕ → Option (List ℕ)
-numbersFrom zero text at = none
-numbersFrom (suc most) text at =
-    onNumber (numeralAt text at) λ n end.
+unfoldable pub numbers_from : ℕ → List ℕ → ℕ → Option (List ℕ)
+numbers_from zero text at = none
+numbers_from (suc most) text at =
+    on_number (numeral_at text at) λ n end.
     cond (ends_at text end) (some (n ∷ []))
-    (cond (eqb (get_or text end 0) 32) (before n (numbersFrom most text (end + 1))) none)
+    (cond (eqb (get_or text end 0) 32) (before n (numbers_from most text (end + 1))) none)
 
 -- the numbers from place `at` on, or none of them; a text has fewer numbers than bytes
-unfoldable pub numbersAt : List ℕ → ℕ → Option (List ℕ)
-numbersAt text at = cond (ends_at text at) (some []) (numbersFrom (length text) text at)
+unfoldable pub numbers_at : List ℕ → ℕ → Option (List ℕ)
+numbers_at text at = cond (ends_at text at) (some []) (numbers_from (length text) text at)
 
 -- ---- what a first pass over the numbers says of them: how many they are, and whether each is a byte
 
-abbrev pub scanOf : Option (List ℕ) → Scanned
-scanOf none = NotScanned
-scanOf (some numbers) = Of (length numbers) (all_below 256 numbers)
+abbrev pub scan_of : Option (List ℕ) → Scanned
+scan_of none = NotScanned
+scan_of (some numbers) = Of (length numbers) (all_below 256 numbers)
 
 -- the numbers themselves
 abbrev pub list_of : Option (List ℕ) → List ℕ

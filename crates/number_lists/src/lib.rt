@@ -2,7 +2,7 @@
 ghost use Rattle.std.specs.Prelude.{◌≡◌, true, false, cond, ◌+◌, ◌*◌, ◌^◌, ◌≤◌, ◌<◌, ltb, length};
 ghost use Rattle.lists.specs.Parts.{put};
 ghost use Rattle.number_lists.specs.declared.Scanned.TheVariants.{Of};
-ghost use Rattle.number_lists.specs.NumberLists.{afterSpace, afterSpaces, spaced, numeralFrom, numeralAt, ends_at, numbersFrom, numbersAt, scanOf, list_of};
+ghost use Rattle.number_lists.specs.NumberLists.{after_space, after_spaces, spaced, numeral_from, numeral_at, ends_at, numbers_from, numbers_at, scan_of, list_of};
 
 use text_lines::Line;
 
@@ -17,7 +17,7 @@ pub enum Scanned {
 // The number at the start of the text, which begins at place `at`, and the place after it.
 fn numeral(text: &[u8], at: usize) -> Line
     requires { at + length text.now < 2 ^ 63 }
-    ensures { result ≡ numeralFrom at text.now }
+    ensures { result ≡ numeral_from at text.now }
 {
     let count = text_lines::digits(text);
     if !text_lines::is_numeral(5, count, text) {
@@ -32,7 +32,7 @@ fn numeral(text: &[u8], at: usize) -> Line
 
 // The number at place `at`, and the place after it.
 fn number_at(text: &[u8], at: usize) -> Line
-    ensures { result ≡ numeralAt text.now at }
+    ensures { result ≡ numeral_at text.now at }
 {
     if text.len() < at {
         return Line::Refused;
@@ -65,7 +65,7 @@ fn still_bytes(bytes: bool, number: usize) -> bool
 
 // How many numbers there are from place `start` on, one or more, and whether each is a byte.
 fn scan_some(text: &[u8], start: usize) -> Scanned
-    ensures { result ≡ scanOf (numbersFrom (length text.now) text.now start) }
+    ensures { result ≡ scan_of (numbers_from (length text.now) text.now start) }
 {
     let mut at = start;
     let mut count: usize = 0;
@@ -95,7 +95,7 @@ fn scan_some(text: &[u8], start: usize) -> Scanned
 
 // How many numbers there are from place `start` on, and whether each is a byte.
 pub fn scan(text: &[u8], start: usize) -> Scanned
-    ensures { result ≡ scanOf (numbersAt text.now start) }
+    ensures { result ≡ scan_of (numbers_at text.now start) }
 {
     if ends(text, start) {
         return Scanned::Of {
@@ -108,8 +108,8 @@ pub fn scan(text: &[u8], start: usize) -> Scanned
 
 // Writes the numbers from place `start` on, of which there are as many as the buffer has places, each a byte.
 pub fn put_numbers(text: &[u8], start: usize, out: &mut [u8])
-    requires { scanOf (numbersAt text.now start) ≡ Of (length out.old) true }
-    ensures { out.new ≡ list_of (numbersAt text.now start) }
+    requires { scan_of (numbers_at text.now start) ≡ Of (length out.old) true }
+    ensures { out.new ≡ list_of (numbers_at text.now start) }
 {
     let mut at = start;
     let mut i = 0;
@@ -126,8 +126,8 @@ pub fn put_numbers(text: &[u8], start: usize, out: &mut [u8])
 // Writes a space and the digits of n from place `at` on, and gives the place after them.
 fn put_after_space(out: &mut [u8], at: usize, n: u8) -> usize
     requires { at + 4 ≤ length out.old }
-    ensures value { result ≡ at + length (afterSpace n) }
-    ensures out_after { out.new ≡ put at (afterSpace n) out.old }
+    ensures value { result ≡ at + length (after_space n) }
+    ensures out_after { out.new ≡ put at (after_space n) out.old }
 {
     let digits = text_lines::put_bytes(out, at, b" ");
     text_lines::put_decimal(out, digits, n as usize)
@@ -136,9 +136,9 @@ fn put_after_space(out: &mut [u8], at: usize, n: u8) -> usize
 // Writes the numbers, each after a space, from place `start` on, and gives the place after them.
 fn put_after_spaces(out: &mut [u8], start: usize, numbers: &[u8]) -> usize
     requires { start + 4 * length numbers.now ≤ length out.old }
-    ensures value { result ≡ start + length (afterSpaces numbers.now) }
+    ensures value { result ≡ start + length (after_spaces numbers.now) }
     ensures upper_bound { result ≤ start + 4 * length numbers.now }
-    ensures out_after { out.new ≡ put start (afterSpaces numbers.now) out.old }
+    ensures out_after { out.new ≡ put start (after_spaces numbers.now) out.old }
 {
     let mut at = start;
     let mut i = 0;

@@ -8,8 +8,8 @@ use native.Mathlib.Omega.{arith}
 use borrow.Author.Tests.{leb-true, leb-false}
 use lib.Dec.{leb}
 use Rattle.lists.proofs.Both.{both_true}
-use Rattle.parameters.specs.Bounds.{serversFit, symbolFits, shortMessagesFit, evenMessagesFit, roundMessagesFit, blocks}
-use Rattle.parameters.specs.Bounds.{shortFits, evenFits, roundFits}
+use Rattle.parameters.specs.Bounds.{servers_fit, symbol_fits, short_messages_fit, even_messages_fit, round_messages_fit, blocks}
+use Rattle.parameters.specs.Bounds.{short_fits, even_fits, round_fits}
 
 pub record ShortBounds (N K S : ℕ) : Type 0 where
   pub servers-low : 2 ≤ N
@@ -41,11 +41,11 @@ pub record RoundBounds (N K S : ℕ) : Type 0 where
 within : (a n b : ℕ) → leb a n && leb n b ≡ true → (a ≤ n) × (n ≤ b)
 within a n b e = let p = both_true (leb a n) (leb n b) e in (leb-true a n p.0, leb-true n b p.1)
 
-pub short-bounds : (N K S : ℕ) → shortFits N K S ≡ true → ShortBounds N K S
-unfolding shortFits
+pub short-bounds : (N K S : ℕ) → short_fits N K S ≡ true → ShortBounds N K S
+unfolding short_fits
 short-bounds N K S e =
-    let p = both_true (serversFit N) (symbolFits S && shortMessagesFit K) e in
-    let q = both_true (symbolFits S) (shortMessagesFit K) p.1 in
+    let p = both_true (servers_fit N) (symbol_fits S && short_messages_fit K) e in
+    let q = both_true (symbol_fits S) (short_messages_fit K) p.1 in
     let n = within 2 N 16 p.0 in
     let s = within 1 S 4096 q.0 in
     let k = within 1 K 32 q.1 in
@@ -69,11 +69,11 @@ exponent-high N exponent most limit h above e = go (leb exponent most) refl
         let high : 2 ^ exponent ≤ N ^ exponent = pow-le-pow_left h exponent in
         absurd (let w : ⊥ = omega arith in w)
 
-pub even-bounds : (N K S : ℕ) → evenFits N K S ≡ true → EvenBounds N K S
-unfolding evenFits
+pub even-bounds : (N K S : ℕ) → even_fits N K S ≡ true → EvenBounds N K S
+unfolding even_fits
 even-bounds N K S e =
-    let p = both_true (serversFit N) (symbolFits S && evenMessagesFit N K) e in
-    let q = both_true (symbolFits S) (evenMessagesFit N K) p.1 in
+    let p = both_true (servers_fit N) (symbol_fits S && even_messages_fit N K) e in
+    let q = both_true (symbol_fits S) (even_messages_fit N K) p.1 in
     let n = within 2 N 16 p.0 in
     let s = within 1 S 4096 q.0 in
     let k = both_true (leb 1 K) (leb (N ^ K) 256) q.1 in
@@ -87,11 +87,11 @@ even-bounds N K S e =
       symbols-high = leb-true (N ^ K) 256 k.1;
     }
 
-pub round-bounds : (N K S : ℕ) → roundFits N K S ≡ true → RoundBounds N K S
-unfolding roundFits
+pub round-bounds : (N K S : ℕ) → round_fits N K S ≡ true → RoundBounds N K S
+unfolding round_fits
 round-bounds N K S e =
-    let p = both_true (serversFit N) (symbolFits S && roundMessagesFit N K) e in
-    let q = both_true (symbolFits S) (roundMessagesFit N K) p.1 in
+    let p = both_true (servers_fit N) (symbol_fits S && round_messages_fit N K) e in
+    let q = both_true (symbol_fits S) (round_messages_fit N K) p.1 in
     let n = within 2 N 16 p.0 in
     let s = within 1 S 4096 q.0 in
     let k = both_true (leb 1 K) (leb (blocks N K) 64) q.1 in

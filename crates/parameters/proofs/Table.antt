@@ -13,13 +13,13 @@ use Rattle.lists.specs.Ranges.{every}
 use Rattle.lists.proofs.Every.{every-at}
 use Rattle.lists.proofs.Both.{both_true}
 use Rattle.parameters.specs.Bounds.{blocks}
-use Rattle.parameters.specs.Table.{evenTable, roundTable, mostMessages, Most}
+use Rattle.parameters.specs.Table.{even_table, round_table, most_messages, Most}
 
 -- the rule of `Most`, as a test
-abbrev isMost : ℕ → (ℕ → ℕ) → ℕ → Bool
-isMost limit asked K = leb (asked K) limit && ltb limit (asked (K + 1))
+abbrev is_most : ℕ → (ℕ → ℕ) → ℕ → Bool
+is_most limit asked K = leb (asked K) limit && ltb limit (asked (K + 1))
 
-is-most : (limit : ℕ) (asked : ℕ → ℕ) (K : ℕ) → isMost limit asked K ≡ true → Most limit asked K
+is-most : (limit : ℕ) (asked : ℕ → ℕ) (K : ℕ) → is_most limit asked K ≡ true → Most limit asked K
 is-most limit asked K e =
     let p = both_true (leb (asked K) limit) (ltb limit (asked (K + 1))) e in
     record { within = leb-true (asked K) limit p.0; beyond = ltb-true limit (asked (K + 1)) p.1 }
@@ -41,29 +41,29 @@ most-decides limit asked K most grows m = go (leb K most) refl
         lt-leb (asked K) limit (omega arith)
 
 -- the rule at every entry of a table, as one test
-abbrev tableRight : ℕ → (ℕ → ℕ → ℕ) → List ℕ → Bool
-tableRight limit asked table = every 15 (λ i. isMost limit (asked (i + 2)) (get_or table i 0))
+abbrev table_right : ℕ → (ℕ → ℕ → ℕ) → List ℕ → Bool
+table_right limit asked table = every 15 (λ i. is_most limit (asked (i + 2)) (get_or table i 0))
 
-module _ (limit : ℕ) (asked : ℕ → ℕ → ℕ) (table : List ℕ) (right : tableRight limit asked table ≡ true) where
+module _ (limit : ℕ) (asked : ℕ → ℕ → ℕ) (table : List ℕ) (right : table_right limit asked table ≡ true) where
   -- the rule holds at N's entry
-  table-most : (N : ℕ) → 2 ≤ N → N ≤ 16 → Most limit (asked N) (mostMessages table N)
+  table-most : (N : ℕ) → 2 ≤ N → N ≤ 16 → Most limit (asked N) (most_messages table N)
   table-most N low high =
       let e : N - 2 + 2 ≡ N = omega arith in
-      is-most limit (asked N) (mostMessages table N)
-      (ap (λ (n : ℕ). isMost limit (asked n) (mostMessages table N)) (sym e)
-      ∙ every-at 15 (λ i. isMost limit (asked (i + 2)) (get_or table i 0)) right (N - 2) (omega arith))
+      is-most limit (asked N) (most_messages table N)
+      (ap (λ (n : ℕ). is_most limit (asked n) (most_messages table N)) (sym e)
+      ∙ every-at 15 (λ i. is_most limit (asked (i + 2)) (get_or table i 0)) right (N - 2) (omega arith))
 
 -- ---- The even code
 
-even-right : tableRight 256 (λ N K. N ^ K) evenTable ≡ true
+even-right : table_right 256 (λ N K. N ^ K) even_table ≡ true
 unfolding every
 even-right = refl
 
 -- K is within the even code's bound exactly if it is at most N's entry
-pub even-decides : (N K : ℕ) → 2 ≤ N → N ≤ 16 → leb (N ^ K) 256 ≡ leb K (mostMessages evenTable N)
+pub even-decides : (N K : ℕ) → 2 ≤ N → N ≤ 16 → leb (N ^ K) 256 ≡ leb K (most_messages even_table N)
 even-decides N K low high =
-    most-decides 256 (λ k. N ^ k) K (mostMessages evenTable N) (λ a b h. pow-le-pow_right {n = N} (omega arith) h)
-    (table-most 256 (λ n k. n ^ k) evenTable even-right N low high)
+    most-decides 256 (λ k. N ^ k) K (most_messages even_table N) (λ a b h. pow-le-pow_right {n = N} (omega arith) h)
+    (table-most 256 (λ n k. n ^ k) even_table even-right N low high)
 
 -- from N = 7 on the greatest K is 2
 pub from-seven : (N : ℕ) → 7 ≤ N → N ≤ 16 → Most 256 (λ K. N ^ K) 2
@@ -74,12 +74,12 @@ from-seven N low high =
 
 -- ---- The round code
 
-round-right : tableRight 64 blocks roundTable ≡ true
+round-right : table_right 64 blocks round_table ≡ true
 unfolding every
 round-right = refl
 
 -- K is within the round code's bound exactly if it is at most N's entry
-pub round-decides : (N K : ℕ) → 2 ≤ N → N ≤ 16 → leb (blocks N K) 64 ≡ leb K (mostMessages roundTable N)
+pub round-decides : (N K : ℕ) → 2 ≤ N → N ≤ 16 → leb (blocks N K) 64 ≡ leb K (most_messages round_table N)
 round-decides N K low high =
-    most-decides 64 (blocks N) K (mostMessages roundTable N) (λ a b h. pow-le-pow_right {n = N} (omega arith) (omega arith))
-    (table-most 64 blocks roundTable round-right N low high)
+    most-decides 64 (blocks N) K (most_messages round_table N) (λ a b h. pow-le-pow_right {n = N} (omega arith) (omega arith))
+    (table-most 64 blocks round_table round-right N low high)

@@ -1,7 +1,7 @@
 // The parameters of a code, N servers, K messages, symbols of S bytes: what they may be, and the sizes that follow from them.
 // Each code has a module: `fits` tests its bounds, unless it has another code's, `sizes` gives its sizes. Here is what the codes share.
 ghost use Rattle.std.specs.Prelude.{◌≡◌, ◌&&◌, ◌^◌, ◌<◌};
-ghost use Rattle.parameters.specs.Bounds.{serversFit, symbolFits};
+ghost use Rattle.parameters.specs.Bounds.{servers_fit, symbol_fits};
 
 pub mod even;
 pub mod round;
@@ -27,7 +27,7 @@ pub struct Sizes {
 
 // Whether N and S are within the bounds that the codes share.
 fn common_fits(n: usize, s: usize) -> bool
-    ensures { result ≡ serversFit n && symbolFits s }
+    ensures { result ≡ servers_fit n && symbol_fits s }
 {
     if n < 2 {
         return false;

@@ -1,8 +1,8 @@
 // The round code's bounds and sizes (02, item 8); the greatest K is looked up by N.
 ghost use Rattle.std.specs.Prelude.{◌≡◌, true, ◌≤◌};
-ghost use Rattle.parameters.specs.Bounds.{roundFits};
-ghost use Rattle.parameters.specs.Table.{roundTable, mostMessages};
-ghost use Rattle.parameters.specs.Measures.{roundSizes};
+ghost use Rattle.parameters.specs.Bounds.{round_fits};
+ghost use Rattle.parameters.specs.Table.{round_table, most_messages};
+ghost use Rattle.parameters.specs.Measures.{round_sizes};
 
 use crate::Sizes;
 
@@ -12,14 +12,14 @@ const MOST_MESSAGES: [usize; 15] = [7, 4, 4, 3, 3, 3, 3, 2, 2, 2, 2, 2, 2, 2, 2]
 // The greatest K of the round code, looked up by N.
 fn most_messages(n: usize) -> usize
     requires { (2 ≤ n) × (n ≤ 16) }
-    ensures { result ≡ mostMessages roundTable n }
+    ensures { result ≡ most_messages round_table n }
 {
     MOST_MESSAGES[n - 2]
 }
 
 // Whether N, K and S are within the bounds of the round code.
 pub fn fits(n: usize, k: usize, s: usize) -> bool
-    ensures { result ≡ roundFits n k s }
+    ensures { result ≡ round_fits n k s }
 {
     if !crate::common_fits(n, s) {
         return false;
@@ -32,8 +32,8 @@ pub fn fits(n: usize, k: usize, s: usize) -> bool
 
 // The sizes of the round code.
 pub fn sizes(n: usize, k: usize, s: usize) -> Sizes
-    requires { roundFits n k s ≡ true }
-    ensures { result ≡ roundSizes n k s }
+    requires { round_fits n k s ≡ true }
+    ensures { result ≡ round_sizes n k s }
 {
     let blocks = crate::power(n, k - 1);
     let message = blocks * ((n - 1) * s);

@@ -1,13 +1,13 @@
 // The short code's bounds and sizes.
 ghost use Rattle.std.specs.Prelude.{◌≡◌, true};
-ghost use Rattle.parameters.specs.Bounds.{shortFits};
-ghost use Rattle.parameters.specs.Measures.{shortSizes};
+ghost use Rattle.parameters.specs.Bounds.{short_fits};
+ghost use Rattle.parameters.specs.Measures.{short_sizes};
 
 use crate::Sizes;
 
 // Whether N, K and S are within the bounds of the short code.
 pub fn fits(n: usize, k: usize, s: usize) -> bool
-    ensures { result ≡ shortFits n k s }
+    ensures { result ≡ short_fits n k s }
 {
     if !crate::common_fits(n, s) {
         return false;
@@ -20,8 +20,8 @@ pub fn fits(n: usize, k: usize, s: usize) -> bool
 
 // The sizes of the short code.
 pub fn sizes(n: usize, k: usize, s: usize) -> Sizes
-    requires { shortFits n k s ≡ true }
-    ensures { result ≡ shortSizes n k s }
+    requires { short_fits n k s ≡ true }
+    ensures { result ≡ short_sizes n k s }
 {
     let symbols = n - 1;
     let message = symbols * s;

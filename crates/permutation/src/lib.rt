@@ -1,11 +1,11 @@
 // Permutations as bytes: whether a part of a key is one.
 ghost use Rattle.std.specs.Prelude.{◌≡◌, length};
-ghost use Rattle.lists.specs.Distinct.{isPermutation};
+ghost use Rattle.lists.specs.Distinct.{is_permutation};
 
 // Whether the bytes, as many as the size, are every number below it: one pass that marks each number.
 pub fn is_permutation(size: usize, bytes: &[u8]) -> bool
     requires { length bytes.now ≡ size }
-    ensures { result ≡ isPermutation size bytes.now }
+    ensures { result ≡ is_permutation size bytes.now }
 {
     let mut seen = [false; 256];
     let mut i = 0;

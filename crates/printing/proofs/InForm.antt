@@ -17,21 +17,21 @@ use Rattle.lists.proofs.Below.{below-cons}
 use Rattle.lists.proofs.Both.{both_true}
 use Rattle.text_lines.specs.declared.Line.{Line}
 use Rattle.text_lines.specs.declared.Line.TheVariants.{Value, Refused}
-use Rattle.text_lines.specs.Decimal.{decimal, digitCount, valueFrom}
-use Rattle.text_lines.specs.Lines.{numberText, begins, isNumeral, numberLine}
+use Rattle.text_lines.specs.Decimal.{decimal, digit_count, value_from}
+use Rattle.text_lines.specs.Lines.{number_text, begins, is_numeral, number_line}
 use Rattle.text_lines.proofs.Begins.{begins-split}
 use Rattle.text_lines.proofs.Numerals.{NumeralRead, numeral-read}
 use Rattle.text_lines.proofs.RoundTrip.{LineRead, line_read}
-use Rattle.catalogue_text.specs.Text.{textWith, Writable}
-use Rattle.catalogue_text.specs.Parsing.{catalogueLines}
+use Rattle.catalogue_text.specs.Text.{text_with, Writable}
+use Rattle.catalogue_text.specs.Parsing.{catalogue_lines}
 use Rattle.catalogue_text.proofs.CatalogueLines.{LinesRead, lines-cases}
-use Rattle.number_lists.specs.NumberLists.{afterSpaces, spaced, onNumber, numeralFrom, numeralAt, ends_at, before, numbersFrom, numbersAt}
-use Rattle.printing.specs.Input.{Asked, asked, wantedName, keyName, mostInput, keyLine, onKey, linesAsk, inputAsks, input_of}
+use Rattle.number_lists.specs.NumberLists.{after_spaces, spaced, on_number, numeral_from, numeral_at, ends_at, before, numbers_from, numbers_at}
+use Rattle.printing.specs.Input.{Asked, asked, wanted_name, key_name, most_input, key_line, on_key, lines_ask, input_asks, input_of}
 use Rattle.printing.proofs.RoundTrip.{input-reads-back}
 
 -- The text is what is written for this and these lengths, in at most five digits for each other number and with real dates or none, and not too long
 pub record InForm (text : List ℕ) (a : Asked) (ns : List ℕ) : Type 0 where
-  pub short : length text ≤ mostInput
+  pub short : length text ≤ most_input
   pub catalogue-writable : Writable a.catalogue ns
   pub wanted-digits : a.wanted < 100000
   pub key-digits : Below 100000 a.key
@@ -65,22 +65,22 @@ record NumeralAt (text : List ℕ) (at n end : ℕ) : Type 0 where
   below : n < 100000
   here : drop at text ≡ decimal n ++ drop end text
 
-numeral-at : (text : List ℕ) (at n end : ℕ) → numeralAt text at ≡ Value n end → NumeralAt text at n end
-unfolding numeralFrom
-numeral-at text at n end e = go (isNumeral 5 (digitCount rest) rest) refl e
+numeral-at : (text : List ℕ) (at n end : ℕ) → numeral_at text at ≡ Value n end → NumeralAt text at n end
+unfolding numeral_from
+numeral-at text at n end e = go (is_numeral 5 (digit_count rest) rest) refl e
   where
     rest : List ℕ
     rest = drop at text
 
-    go : (t : Bool) → isNumeral 5 (digitCount rest) rest ≡ t
-        → cond t (Value (valueFrom 0 (take (digitCount rest) rest)) (at + digitCount rest)) Refused ≡ Value n end → NumeralAt text at n end
+    go : (t : Bool) → is_numeral 5 (digit_count rest) rest ≡ t
+        → cond t (Value (value_from 0 (take (digit_count rest) rest)) (at + digit_count rest)) Refused ≡ Value n end → NumeralAt text at n end
     go true f g =
-        let value : valueFrom 0 (take (digitCount rest) rest) ≡ n = cc in
-        let place : at + digitCount rest ≡ end = cc in
+        let value : value_from 0 (take (digit_count rest) rest) ≡ n = cc in
+        let place : at + digit_count rest ≡ end = cc in
         let r : NumeralRead 5 rest n = rw value at (numeral-read 5 rest f) in
         record {
           below = r.below;
-          here = r.here ∙ ap (λ (l : List ℕ). decimal n ++ l) (drop-drop (digitCount rest) at text ∙ ap (λ (m : ℕ). drop m text) place);
+          here = r.here ∙ ap (λ (l : List ℕ). decimal n ++ l) (drop-drop (digit_count rest) at text ∙ ap (λ (m : ℕ). drop m text) place);
         }
     go false f g = let z : ◌≡◌ {A = ℕ} 0 1 = cc in absurd (let w : ⊥ = omega arith in w)
 
@@ -90,11 +90,11 @@ record SomeRead (text : List ℕ) (at : ℕ) (numbers : List ℕ) : Type 0 where
   rest : List ℕ
   numbers-are : numbers ≡ first ∷ rest
   below : Below 100000 numbers
-  here : drop at text ≡ decimal first ++ (afterSpaces rest ++ (10 ∷ []))
+  here : drop at text ≡ decimal first ++ (after_spaces rest ++ (10 ∷ []))
 
 module _ (text : List ℕ) (at : ℕ) (numbers : List ℕ) where
   last-read : (n end : ℕ) → NumeralAt text at n end → ends_at text end ≡ true → some (n ∷ []) ≡ some numbers → SomeRead text at numbers
-  unfolding afterSpaces flat_map
+  unfolding after_spaces flat_map
   last-read n end r ended e =
       let same : n ∷ [] ≡ numbers = cc in
       record {
@@ -107,12 +107,12 @@ module _ (text : List ℕ) (at : ℕ) (numbers : List ℕ) where
 
   more-read : (n end : ℕ) → NumeralAt text at n end → eqb (get_or text end 0) 32 ≡ true → (o : Option (List ℕ))
       → ((others : List ℕ) → o ≡ some others → SomeRead text (end + 1) others) → before n o ≡ some numbers → SomeRead text at numbers
-  unfolding afterSpaces flat_map
+  unfolding after_spaces flat_map
   more-read n end r space none later e = none-some e
   more-read n end r space (some others) later e =
       let same : n ∷ others ≡ numbers = cc in
       let s = later others refl in
-      let line : drop end text ≡ 32 ∷ (decimal s.first ++ (afterSpaces s.rest ++ (10 ∷ []))) =
+      let line : drop end text ≡ 32 ∷ (decimal s.first ++ (after_spaces s.rest ++ (10 ∷ []))) =
       byte-first text end 32 (omega arith) space ∙ ap (λ (l : List ℕ). 32 ∷ l) s.here in
       record {
         first = n;
@@ -122,26 +122,26 @@ module _ (text : List ℕ) (at : ℕ) (numbers : List ℕ) where
         here =
             r.here
             ∙ ap (λ (l : List ℕ). decimal n ++ l)
-            (line ∙ ap (λ (l : List ℕ). 32 ∷ l) (sym (append_assoc (decimal s.first) (afterSpaces s.rest) (10 ∷ [])))
-            ∙ ap (λ (l : List ℕ). afterSpaces l ++ (10 ∷ [])) (sym s.numbers-are));
+            (line ∙ ap (λ (l : List ℕ). 32 ∷ l) (sym (append_assoc (decimal s.first) (after_spaces s.rest) (10 ∷ [])))
+            ∙ ap (λ (l : List ℕ). after_spaces l ++ (10 ∷ [])) (sym s.numbers-are));
       }
 
-some_read : (most : ℕ) (text : List ℕ) (at : ℕ) (numbers : List ℕ) → numbersFrom most text at ≡ some numbers → SomeRead text at numbers
-unfolding numbersFrom
+some_read : (most : ℕ) (text : List ℕ) (at : ℕ) (numbers : List ℕ) → numbers_from most text at ≡ some numbers → SomeRead text at numbers
+unfolding numbers_from
 some_read zero text at numbers e = none-some e
-some_read (suc most) text at numbers e = go (numeralAt text at) refl (λ place others. some_read most text place others) e
+some_read (suc most) text at numbers e = go (numeral_at text at) refl (λ place others. some_read most text place others) e
   where
-    by_end : (n end : ℕ) → NumeralAt text at n end → ((place : ℕ) (others : List ℕ) → numbersFrom most text place ≡ some others → SomeRead text place others)
+    by_end : (n end : ℕ) → NumeralAt text at n end → ((place : ℕ) (others : List ℕ) → numbers_from most text place ≡ some others → SomeRead text place others)
         → (t u : Bool) → ends_at text end ≡ t → eqb (get_or text end 0) 32 ≡ u
-        → cond t (some (n ∷ [])) (cond u (before n (numbersFrom most text (end + 1))) none) ≡ some numbers → SomeRead text at numbers
+        → cond t (some (n ∷ [])) (cond u (before n (numbers_from most text (end + 1))) none) ≡ some numbers → SomeRead text at numbers
     by_end n end r later true u f g e = last-read text at numbers n end r f e
-    by_end n end r later false true f g e = more-read text at numbers n end r g (numbersFrom most text (end + 1)) (later (end + 1)) e
+    by_end n end r later false true f g e = more-read text at numbers n end r g (numbers_from most text (end + 1)) (later (end + 1)) e
     by_end n end r later false false f g e = none-some e
 
-    go : (line : Line) → numeralAt text at ≡ line
-        → ((place : ℕ) (others : List ℕ) → numbersFrom most text place ≡ some others → SomeRead text place others)
-        → onNumber line (λ n end. cond (ends_at text end) (some (n ∷ []))
-        (cond (eqb (get_or text end 0) 32) (before n (numbersFrom most text (end + 1))) none)) ≡ some numbers
+    go : (line : Line) → numeral_at text at ≡ line
+        → ((place : ℕ) (others : List ℕ) → numbers_from most text place ≡ some others → SomeRead text place others)
+        → on_number line (λ n end. cond (ends_at text end) (some (n ∷ []))
+        (cond (eqb (get_or text end 0) 32) (before n (numbers_from most text (end + 1))) none)) ≡ some numbers
         → SomeRead text at numbers
     go (Value n end) f later e = by_end n end (numeral-at text at n end f) later (ends_at text end) (eqb (get_or text end 0) 32) refl refl e
     go Refused f later e = none-some e
@@ -151,11 +151,11 @@ record ListRead (text : List ℕ) (at : ℕ) (numbers : List ℕ) : Type 0 where
   below : Below 100000 numbers
   here : drop at text ≡ spaced numbers ++ (10 ∷ [])
 
-list_read : (text : List ℕ) (at : ℕ) (numbers : List ℕ) → numbersAt text at ≡ some numbers → ListRead text at numbers
-unfolding numbersAt spaced
+list_read : (text : List ℕ) (at : ℕ) (numbers : List ℕ) → numbers_at text at ≡ some numbers → ListRead text at numbers
+unfolding numbers_at spaced
 list_read text at numbers e = go (ends_at text at) refl e
   where
-    go : (t : Bool) → ends_at text at ≡ t → cond t (some []) (numbersFrom (length text) text at) ≡ some numbers → ListRead text at numbers
+    go : (t : Bool) → ends_at text at ≡ t → cond t (some []) (numbers_from (length text) text at) ≡ some numbers → ListRead text at numbers
     go true f g =
         let same : [] ≡ numbers = cc in
         rw (← same) (record { below = λ i h. absurd (let w : ⊥ = omega arith in w); here = ends_is text at f })
@@ -164,67 +164,67 @@ list_read text at numbers e = go (ends_at text at) refl e
         record {
           below = s.below;
           here = s.here
-              ∙ sym (append_assoc (decimal s.first) (afterSpaces s.rest) (10 ∷ []))
+              ∙ sym (append_assoc (decimal s.first) (after_spaces s.rest) (10 ∷ []))
               ∙ ap (λ (l : List ℕ). spaced l ++ (10 ∷ [])) (sym s.numbers-are);
         }
 
 -- ---- the whole input
 
-module _ (text : List ℕ) (a : Asked) (short : length text ≤ mostInput) (ns : List ℕ) (r : LinesRead text (catalogueLines text) ns) where
-  key-read : (wanted next : ℕ) → LineRead 5 wantedName text (catalogueLines text).next wanted next → (o : Option (List ℕ)) → keyLine text next ≡ o
-      → onKey o (asked (catalogueLines text).catalogue wanted) ≡ some a → InForm text a ns
-  unfolding keyLine input_of
+module _ (text : List ℕ) (a : Asked) (short : length text ≤ most_input) (ns : List ℕ) (r : LinesRead text (catalogue_lines text) ns) where
+  key-read : (wanted next : ℕ) → LineRead 5 wanted_name text (catalogue_lines text).next wanted next → (o : Option (List ℕ)) → key_line text next ≡ o
+      → on_key o (asked (catalogue_lines text).catalogue wanted) ≡ some a → InForm text a ns
+  unfolding key_line input_of
   key-read wanted next w none f e = none-some e
-  key-read wanted next w (some key) f e = go (begins keyName (drop next text)) refl f
+  key-read wanted next w (some key) f e = go (begins key_name (drop next text)) refl f
     where
-      same : asked (catalogueLines text).catalogue wanted key ≡ a
+      same : asked (catalogue_lines text).catalogue wanted key ≡ a
       same = cc
 
-      go : (t : Bool) → begins keyName (drop next text) ≡ t → cond t (numbersAt text (next + length keyName)) none ≡ some key → InForm text a ns
+      go : (t : Bool) → begins key_name (drop next text) ≡ t → cond t (numbers_at text (next + length key_name)) none ≡ some key → InForm text a ns
       go true named g =
-          let k = list_read text (next + length keyName) key g in
-          let rest : drop next text ≡ keyName ++ (spaced key ++ (10 ∷ [])) =
-          begins-split keyName (drop next text) named ∙ ap (λ (l : List ℕ). keyName ++ l) (drop-drop (length keyName) next text ∙ k.here) in
+          let k = list_read text (next + length key_name) key g in
+          let rest : drop next text ≡ key_name ++ (spaced key ++ (10 ∷ [])) =
+          begins-split key_name (drop next text) named ∙ ap (λ (l : List ℕ). key_name ++ l) (drop-drop (length key_name) next text ∙ k.here) in
           rw (← same) (record {
             short = short;
             catalogue-writable = r.writable;
             wanted-digits = w.below;
             key-digits = k.below;
             text-is = r.here
-                ∙ ap (λ (l : List ℕ). textWith (catalogueLines text).catalogue ns ++ l)
-                (w.here ∙ ap (λ (l : List ℕ). numberText wantedName wanted ++ l) rest);
+                ∙ ap (λ (l : List ℕ). text_with (catalogue_lines text).catalogue ns ++ l)
+                (w.here ∙ ap (λ (l : List ℕ). number_text wanted_name wanted ++ l) rest);
           })
       go false named g = none-some g
 
-  wanted_read : (line : Line) → numberLine 5 wantedName text (catalogueLines text).next ≡ line
-      → onNumber line (λ wanted next. onKey (keyLine text next) (asked (catalogueLines text).catalogue wanted)) ≡ some a → InForm text a ns
+  wanted_read : (line : Line) → number_line 5 wanted_name text (catalogue_lines text).next ≡ line
+      → on_number line (λ wanted next. on_key (key_line text next) (asked (catalogue_lines text).catalogue wanted)) ≡ some a → InForm text a ns
   wanted_read (Value wanted next) f e =
-      key-read wanted next (line_read 5 wantedName text (catalogueLines text).next wanted next f) (keyLine text next) refl e
+      key-read wanted next (line_read 5 wanted_name text (catalogue_lines text).next wanted next f) (key_line text next) refl e
   wanted_read Refused f e = none-some e
 
-pub input-in-form : (text : List ℕ) (a : Asked) → inputAsks text ≡ some a → (ns : List ℕ) × InForm text a ns
-unfolding inputAsks linesAsk
-input-in-form text a e = go (ltb mostInput (length text)) refl e
+pub input-in-form : (text : List ℕ) (a : Asked) → input_asks text ≡ some a → (ns : List ℕ) × InForm text a ns
+unfolding input_asks lines_ask
+input-in-form text a e = go (ltb most_input (length text)) refl e
   where
-    lines : length text ≤ mostInput → linesAsk text ≡ some a → (ns : List ℕ) × InForm text a ns
+    lines : length text ≤ most_input → lines_ask text ≡ some a → (ns : List ℕ) × InForm text a ns
     lines short f =
         ⊎_elim (λ refused. none-some (rw refused at f))
-        (λ r. (r.0, wanted_read text a short r.0 r.1 (numberLine 5 wantedName text (catalogueLines text).next) refl (rw r.1.accepted at f)))
+        (λ r. (r.0, wanted_read text a short r.0 r.1 (number_line 5 wanted_name text (catalogue_lines text).next) refl (rw r.1.accepted at f)))
         (lines-cases text)
 
-    go : (t : Bool) → ltb mostInput (length text) ≡ t → cond t none (linesAsk text) ≡ some a → (ns : List ℕ) × InForm text a ns
+    go : (t : Bool) → ltb most_input (length text) ≡ t → cond t none (lines_ask text) ≡ some a → (ns : List ℕ) × InForm text a ns
     go true long f = none-some f
-    go false fits f = lines (ltb-false mostInput (length text) fits) f
+    go false fits f = lines (ltb-false most_input (length text) fits) f
 
 -- refused 1 exactly if the text is no input's
-pub refused-input : (text : List ℕ) → (inputAsks text ≡ none) ↔ ((a : Asked) (ns : List ℕ) → InForm text a ns → ⊥)
-refused-input text = (λ e a ns f. none-some (sym e ∙ read a ns f), λ never. go (inputAsks text) refl never)
+pub refused-input : (text : List ℕ) → (input_asks text ≡ none) ↔ ((a : Asked) (ns : List ℕ) → InForm text a ns → ⊥)
+refused-input text = (λ e a ns f. none-some (sym e ∙ read a ns f), λ never. go (input_asks text) refl never)
   where
-    read : (a : Asked) (ns : List ℕ) → InForm text a ns → inputAsks text ≡ some a
+    read : (a : Asked) (ns : List ℕ) → InForm text a ns → input_asks text ≡ some a
     read a ns f =
-        ap inputAsks f.text-is
+        ap input_asks f.text-is
         ∙ input-reads-back a ns f.catalogue-writable f.wanted-digits f.key-digits (rw f.text-is at f.short)
 
-    go : (o : Option Asked) → inputAsks text ≡ o → ((a : Asked) (ns : List ℕ) → InForm text a ns → ⊥) → inputAsks text ≡ none
+    go : (o : Option Asked) → input_asks text ≡ o → ((a : Asked) (ns : List ℕ) → InForm text a ns → ⊥) → input_asks text ≡ none
     go none e never = e
     go (some a) e never = let f = input-in-form text a e in absurd (never a f.0 f.1)

@@ -8,17 +8,17 @@ use lib.ListN.{length, drop, length-append, length-drop}
 use Rattle.text_lines.specs.Lines.{begins}
 use Rattle.text_lines.proofs.Begins.{begins-split}
 use Rattle.number_lists.specs.declared.Scanned.TheVariants.{Of}
-use Rattle.number_lists.specs.NumberLists.{numbersAt, scanOf}
-use Rattle.printing.specs.Input.{keyName, keyLine}
+use Rattle.number_lists.specs.NumberLists.{numbers_at, scan_of}
+use Rattle.printing.specs.Input.{key_name, key_line}
 
-pub key-line-read : (text : List ℕ) (at count : ℕ) (bytes : Bool) → scanOf (keyLine text at) ≡ Of count bytes
-    → (at ≤ length text) × (keyLine text at ≡ numbersAt text (at + length keyName))
-unfolding keyLine
-key-line-read text at count bytes e = go (begins keyName (drop at text)) refl
+pub key-line-read : (text : List ℕ) (at count : ℕ) (bytes : Bool) → scan_of (key_line text at) ≡ Of count bytes
+    → (at ≤ length text) × (key_line text at ≡ numbers_at text (at + length key_name))
+unfolding key_line
+key-line-read text at count bytes e = go (begins key_name (drop at text)) refl
   where
-    go : (t : Bool) → begins keyName (drop at text) ≡ t → (at ≤ length text) × (keyLine text at ≡ numbersAt text (at + length keyName))
+    go : (t : Bool) → begins key_name (drop at text) ≡ t → (at ≤ length text) × (key_line text at ≡ numbers_at text (at + length key_name))
     go true f =
-        let l = ap length (begins-split keyName (drop at text) f) ∙ length-append keyName (drop (length keyName) (drop at text)) in
+        let l = ap length (begins-split key_name (drop at text) f) ∙ length-append key_name (drop (length key_name) (drop at text)) in
         let d = length-drop at text in
         (omega arith, rw f)
     go false f = let z : ◌≡◌ {A = ℕ} 0 1 = cc (rw f at e) in absurd (let w : ⊥ = omega arith in w)

@@ -7,38 +7,38 @@ use Prim.Native.Nat.{ℕ}
 use Rattle.lists.specs.Distinct.{stands}
 use Rattle.refusal.specs.declared.Verdict.{Verdict}
 use Rattle.refusal.specs.declared.Verdict.TheVariants.{Accepted, Refused}
-use Rattle.refusal.specs.Numbers.{refusalOf}
+use Rattle.refusal.specs.Numbers.{refusal_of}
 use Rattle.refusal.specs.Within.{OneOf}
 use Rattle.refusal.proofs.Within.{faults-within}
 use Rattle.scheme.specs.Scheme.{Scheme}
 use Rattle.catalogue.specs.declared.Catalogue.{Catalogue}
-use Rattle.printing.specs.Input.{Asked, inputAsks}
-use Rattle.printing.specs.Output.{askedFaults, askedVerdict, outputBy, printed}
-use Rattle.printing.specs.Numbers.{printNumbers, PrintNumbers}
+use Rattle.printing.specs.Input.{Asked, input_asks}
+use Rattle.printing.specs.Output.{asked_faults, asked_verdict, output_by, printed}
+use Rattle.printing.specs.Numbers.{print_numbers, PrintNumbers}
 use Rattle.printing.proofs.Answers.{answer-by}
 
-module _ (schemeOf : Catalogue → Scheme) (input : List ℕ) where
-  printed-by : (found : Option Asked) → inputAsks input ≡ found → printed schemeOf input ≡ outputBy schemeOf found
+module _ (scheme_of : Catalogue → Scheme) (input : List ℕ) where
+  printed-by : (found : Option Asked) → input_asks input ≡ found → printed scheme_of input ≡ output_by scheme_of found
   unfolding printed
-  printed-by found e = ap (outputBy schemeOf) e
+  printed-by found e = ap (output_by scheme_of) e
 
-  text-named : OneOf printNumbers (refusalOf 1)
+  text-named : OneOf print_numbers (refusal_of 1)
   unfolding OneOf stands
   text-named = refl
 
-  pub print-numbers : PrintNumbers schemeOf input
-  unfolding stands askedVerdict
-  print-numbers = go (inputAsks input) refl
+  pub print-numbers : PrintNumbers scheme_of input
+  unfolding stands asked_verdict
+  print-numbers = go (input_asks input) refl
     where
-      by : (a : Asked) → inputAsks input ≡ some a → (v : Verdict) → askedVerdict schemeOf a ≡ v → PrintNumbers schemeOf input
-      by a e Accepted q = inl (record { asked = a; asks = e; accepted = q; output = printed-by (some a) e ∙ answer-by schemeOf a Accepted q })
+      by : (a : Asked) → input_asks input ≡ some a → (v : Verdict) → asked_verdict scheme_of a ≡ v → PrintNumbers scheme_of input
+      by a e Accepted q = inl (record { asked = a; asks = e; accepted = q; output = printed-by (some a) e ∙ answer-by scheme_of a Accepted q })
       by a e (Refused refusal) q =
           inr (record {
             refusal = refusal;
-            number = faults-within printNumbers (askedFaults schemeOf a) _ refl refl refusal q;
-            output = printed-by (some a) e ∙ answer-by schemeOf a (Refused refusal) q;
+            number = faults-within print_numbers (asked_faults scheme_of a) _ refl refl refusal q;
+            output = printed-by (some a) e ∙ answer-by scheme_of a (Refused refusal) q;
           })
 
-      go : (found : Option Asked) → inputAsks input ≡ found → PrintNumbers schemeOf input
-      go none e = inr (record { refusal = refusalOf 1; number = text-named; output = printed-by none e })
-      go (some a) e = by a e (askedVerdict schemeOf a) refl
+      go : (found : Option Asked) → input_asks input ≡ found → PrintNumbers scheme_of input
+      go none e = inr (record { refusal = refusal_of 1; number = text-named; output = printed-by none e })
+      go (some a) e = by a e (asked_verdict scheme_of a) refl

@@ -5,33 +5,33 @@ use Prim.Native.Nat.{ℕ, ◌+◌, ◌*◌, ◌≤◌}
 use native.Mathlib.Nat.{mul-add, mul_left_comm}
 use native.Mathlib.Omega.{arith}
 use lib.ListN.{length, length-replicate}
-use Rattle.parameters.specs.Measures.{keyPlaces}
+use Rattle.parameters.specs.Measures.{key_places}
 use Rattle.catalogue.specs.declared.Catalogue.{Catalogue}
 use Rattle.catalogue.specs.Catalogue.{Admitted}
 use Rattle.catalogue.proofs.Admitted.{admitted-numbers, admitted-small}
-use Rattle.codes.specs.Codes.{schemeOf}
+use Rattle.codes.specs.Codes.{scheme_of}
 use Rattle.codes.proofs.Promises.{scheme-sizes}
-use Rattle.printing.specs.Output.{pageBytes}
-use Rattle.printing.specs.Steps.{blankPlaces}
+use Rattle.printing.specs.Output.{page_bytes}
+use Rattle.printing.specs.Steps.{blank_places}
 
 spread : (N q : ℕ) → N * (19 + 4 * q) ≡ N * 19 + 4 * (N * q)
 spread N q = mul-add N 19 (4 * q) ∙ ap (λ (n : ℕ). N * 19 + n) (mul_left_comm N 4 q)
 
 -- so many lines of 19 bytes without their queries, and so many numbers of at most three digits and a space
-pub lines_fit : (c : Catalogue) → Admitted c → c.servers * (19 + 4 * (schemeOf c).sizes.query) ≤ pageBytes
+pub lines_fit : (c : Catalogue) → Admitted c → c.servers * (19 + 4 * (scheme_of c).sizes.query) ≤ page_bytes
 lines_fit c a =
     let n = admitted-numbers c a in
-    let q : c.servers * (schemeOf c).sizes.query ≤ keyPlaces = rw (scheme-sizes c) (admitted-small c a).queries in
-    let s = spread c.servers (schemeOf c).sizes.query in
+    let q : c.servers * (scheme_of c).sizes.query ≤ key_places = rw (scheme-sizes c) (admitted-small c a).queries in
+    let s = spread c.servers (scheme_of c).sizes.query in
     omega arith
 
 -- a key and a query fit into the blank places
-pub places-many : length blankPlaces ≡ keyPlaces
-unfolding blankPlaces
-places-many = length-replicate {A = ℕ} keyPlaces 0
+pub places-many : length blank_places ≡ key_places
+unfolding blank_places
+places-many = length-replicate {A = ℕ} key_places 0
 
-pub key_fits : (c : Catalogue) → Admitted c → (schemeOf c).sizes.key ≤ keyPlaces
+pub key_fits : (c : Catalogue) → Admitted c → (scheme_of c).sizes.key ≤ key_places
 key_fits c a = rw (scheme-sizes c) (admitted-small c a).key
 
-pub query-fits : (c : Catalogue) → Admitted c → (schemeOf c).sizes.query ≤ keyPlaces
+pub query-fits : (c : Catalogue) → Admitted c → (scheme_of c).sizes.query ≤ key_places
 query-fits c a = rw (scheme-sizes c) (admitted-small c a).query

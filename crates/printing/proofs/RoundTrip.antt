@@ -15,20 +15,20 @@ use Rattle.lists.specs.Below.{Below}
 use Rattle.lists.proofs.Each.{All-get}
 use Rattle.lists.proofs.Cuts.{drop-after}
 use Rattle.text_lines.specs.declared.Line.TheVariants.{Value}
-use Rattle.text_lines.specs.Decimal.{decimal, isDigit, digitCount}
-use Rattle.text_lines.specs.Lines.{numberText, begins, isNumeral}
+use Rattle.text_lines.specs.Decimal.{decimal, is_digit, digit_count}
+use Rattle.text_lines.specs.Lines.{number_text, begins, is_numeral}
 use Rattle.text_lines.proofs.Begins.{begins-joined}
 use Rattle.text_lines.proofs.DigitTexts.{below-digits, digit-range, count-digits}
 use Rattle.text_lines.proofs.Decimal.{length_most, some-digits, decimal-digits, value-decimal}
 use Rattle.text_lines.proofs.Numerals.{no-leading-zero}
 use Rattle.text_lines.proofs.RoundTrip.{line-written}
 use Rattle.catalogue.specs.declared.Catalogue.{Catalogue}
-use Rattle.season_text.specs.SeasonLines.{dateBegins}
-use Rattle.catalogue_text.specs.Text.{textWith, Ends, Writable}
+use Rattle.season_text.specs.SeasonLines.{date_begins}
+use Rattle.catalogue_text.specs.Text.{text_with, Ends, Writable}
 use Rattle.catalogue_text.proofs.Ends.{other-ends}
 use Rattle.catalogue_text.proofs.CatalogueLines.{lines-written}
-use Rattle.number_lists.specs.NumberLists.{afterSpaces, spaced, numeralFrom, numeralAt, ends_at, numbersFrom, numbersAt}
-use Rattle.printing.specs.Input.{Asked, wantedName, keyName, mostInput, keyLine, linesAsk, inputAsks, input_of}
+use Rattle.number_lists.specs.NumberLists.{after_spaces, spaced, numeral_from, numeral_at, ends_at, numbers_from, numbers_at}
+use Rattle.printing.specs.Input.{Asked, wanted_name, key_name, most_input, key_line, lines_ask, input_asks, input_of}
 use Rattle.number_lists.proofs.Reading.{at_last, at_more}
 
 -- ---- bytes of a text
@@ -47,11 +47,11 @@ ends_there text at e =
 
 -- ---- numbers
 
-numeral-written : (text rest : List ℕ) (at n y : ℕ) → n < 100000 → isDigit y ≡ false → drop at text ≡ decimal n ++ (y ∷ rest)
-    → numeralAt text at ≡ Value n (at + length (decimal n))
-unfolding numeralFrom isNumeral
+numeral-written : (text rest : List ℕ) (at n y : ℕ) → n < 100000 → is_digit y ≡ false → drop at text ≡ decimal n ++ (y ∷ rest)
+    → numeral_at text at ≡ Value n (at + length (decimal n))
+unfolding numeral_from is_numeral
 numeral-written text rest at n y h other e =
-    let count : digitCount (decimal n ++ (y ∷ rest)) ≡ length (decimal n) = count-digits (decimal-digits n) y rest other in
+    let count : digit_count (decimal n ++ (y ∷ rest)) ≡ length (decimal n) = count-digits (decimal-digits n) y rest other in
     simp (
       e,
       count,
@@ -63,8 +63,8 @@ numeral-written text rest at n y h other e =
     )
 
 numbers-written : (text : List ℕ) (most n : ℕ) (numbers : List ℕ) (at : ℕ) → n < 100000 → Below 100000 numbers → length numbers < most
-    → drop at text ≡ decimal n ++ (afterSpaces numbers ++ (10 ∷ [])) → numbersFrom most text at ≡ some (n ∷ numbers)
-unfolding afterSpaces flat_map
+    → drop at text ≡ decimal n ++ (after_spaces numbers ++ (10 ∷ [])) → numbers_from most text at ≡ some (n ∷ numbers)
+unfolding after_spaces flat_map
 numbers-written text zero n numbers at h b few e = absurd (not-suc-le-zero few)
 numbers-written text (suc most) n [] at h b few e =
     at_last most text at n (at + length (decimal n))
@@ -72,12 +72,12 @@ numbers-written text (suc most) n [] at h b few e =
     (ends_there text (at + length (decimal n)) (drop-after text (decimal n) (10 ∷ []) at e))
 numbers-written text (suc most) n (x ∷ numbers) at h b few e =
     let end = at + length (decimal n) in
-    let rest = decimal x ++ (afterSpaces numbers ++ (10 ∷ [])) in
+    let rest = decimal x ++ (after_spaces numbers ++ (10 ∷ [])) in
     let here : drop at text ≡ decimal n ++ (32 ∷ rest) =
-    e ∙ ap (λ (l : List ℕ). decimal n ++ (32 ∷ l)) (append_assoc (decimal x) (afterSpaces numbers) (10 ∷ [])) in
+    e ∙ ap (λ (l : List ℕ). decimal n ++ (32 ∷ l)) (append_assoc (decimal x) (after_spaces numbers) (10 ∷ [])) in
     let space : drop end text ≡ 32 ∷ rest = drop-after text (decimal n) (32 ∷ rest) at here in
     let byte = byte_at text rest end 32 space in
-    let others : numbersFrom most text (end + 1) ≡ some (x ∷ numbers) =
+    let others : numbers_from most text (end + 1) ≡ some (x ∷ numbers) =
     numbers-written text most x numbers (end + 1) (b 0 (omega arith)) (λ i k. b (suc i) (omega arith)) (omega arith)
     (drop-after text (32 ∷ []) rest end space) in
     at_more most text at n end
@@ -86,26 +86,26 @@ numbers-written text (suc most) n (x ∷ numbers) at h b few e =
     (eq-eqb (get_or text end 0) 32 byte)
     ∙ rw others
 
-after-long : (numbers : List ℕ) → length numbers ≤ length (afterSpaces numbers)
-unfolding afterSpaces flat_map
+after-long : (numbers : List ℕ) → length numbers ≤ length (after_spaces numbers)
+unfolding after_spaces flat_map
 after-long [] = omega arith
 after-long (n ∷ numbers) =
-    let l = length-append (decimal n) (afterSpaces numbers) in let h = after-long numbers in omega arith
+    let l = length-append (decimal n) (after_spaces numbers) in let h = after-long numbers in omega arith
 
 list_written : (text numbers : List ℕ) (at : ℕ) → Below 100000 numbers → drop at text ≡ spaced numbers ++ (10 ∷ [])
-    → numbersAt text at ≡ some numbers
-unfolding numbersAt spaced
+    → numbers_at text at ≡ some numbers
+unfolding numbers_at spaced
 list_written text [] at b e = simp (ends_there text at e)
 list_written text (n ∷ numbers) at b e =
-    let rest = afterSpaces numbers ++ (10 ∷ []) in
-    let here : drop at text ≡ decimal n ++ rest = e ∙ append_assoc (decimal n) (afterSpaces numbers) (10 ∷ []) in
+    let rest = after_spaces numbers ++ (10 ∷ []) in
+    let here : drop at text ≡ decimal n ++ rest = e ∙ append_assoc (decimal n) (after_spaces numbers) (10 ∷ []) in
     let first : get_or text at 0 ≡ get_or (decimal n) 0 0 =
     ap (λ (m : ℕ). get_or text m 0) (let z : at ≡ at + 0 = omega arith in z) ∙ sym (get_or-drop at text 0 0)
     ∙ ap (λ (l : List ℕ). get_or l 0 0) here ∙ get_or-append (decimal n) rest 0 0 (some-digits n) in
     let range = digit-range (get_or (decimal n) 0 0) (All-get 0 (decimal-digits n) 0 (some-digits n)) in
     let other : get_or text at 0 ≡ 10 → ⊥ = λ z. let w : ⊥ = omega arith in w in
     let l = sym (length-drop at text) ∙ ap length here ∙ length-append (decimal n) rest in
-    let m = length-append (afterSpaces numbers) (10 ∷ []) in
+    let m = length-append (after_spaces numbers) (10 ∷ []) in
     let long = after-long numbers in
     let some-digit = some-digits n in
     simp (ne_eqb (get_or text at 0) 10 other)
@@ -114,27 +114,27 @@ list_written text (n ∷ numbers) at b e =
 -- ---- the whole input
 
 -- the line of the wanted message goes on with no catalogue
-wanted-ends : (c : Catalogue) (ns : List ℕ) (wanted : ℕ) (rest : List ℕ) → Ends c ns (numberText wantedName wanted ++ rest)
-unfolding begins dateBegins
-wanted-ends c ns wanted rest = other-ends c ns (numberText wantedName wanted ++ rest) refl refl refl
+wanted-ends : (c : Catalogue) (ns : List ℕ) (wanted : ℕ) (rest : List ℕ) → Ends c ns (number_text wanted_name wanted ++ rest)
+unfolding begins date_begins
+wanted-ends c ns wanted rest = other-ends c ns (number_text wanted_name wanted ++ rest) refl refl refl
 
 pub input-reads-back : (a : Asked) (ns : List ℕ) → Writable a.catalogue ns → a.wanted < 100000 → Below 100000 a.key
-    → length (input_of a ns) ≤ mostInput → inputAsks (input_of a ns) ≡ some a
-unfolding inputAsks linesAsk keyLine input_of
+    → length (input_of a ns) ≤ most_input → input_asks (input_of a ns) ≡ some a
+unfolding input_asks lines_ask key_line input_of
 input-reads-back a ns small wanted-small key-small fits =
     let text = input_of a ns in
-    let c = textWith a.catalogue ns in
-    let w = numberText wantedName a.wanted in
+    let c = text_with a.catalogue ns in
+    let w = number_text wanted_name a.wanted in
     let k = spaced a.key ++ ascii "\n" in
-    let lines = lines-written a.catalogue ns (w ++ (keyName ++ k)) small (wanted-ends a.catalogue ns a.wanted (keyName ++ k)) in
-    let at-wanted : drop (length c) text ≡ w ++ (keyName ++ k) = drop-append_seam c (w ++ (keyName ++ k)) in
-    let at_key : drop (length c + length w) text ≡ keyName ++ k = drop-after text w (keyName ++ k) (length c) at-wanted in
-    let at-numbers : drop (length c + length w + length keyName) text ≡ k = drop-after text keyName k (length c + length w) at_key in
-    let starts : begins keyName (drop (length c + length w) text) ≡ true = ap (begins keyName) at_key ∙ begins-joined keyName k in
+    let lines = lines-written a.catalogue ns (w ++ (key_name ++ k)) small (wanted-ends a.catalogue ns a.wanted (key_name ++ k)) in
+    let at-wanted : drop (length c) text ≡ w ++ (key_name ++ k) = drop-append_seam c (w ++ (key_name ++ k)) in
+    let at_key : drop (length c + length w) text ≡ key_name ++ k = drop-after text w (key_name ++ k) (length c) at-wanted in
+    let at-numbers : drop (length c + length w + length key_name) text ≡ k = drop-after text key_name k (length c + length w) at_key in
+    let starts : begins key_name (drop (length c + length w) text) ≡ true = ap (begins key_name) at_key ∙ begins-joined key_name k in
     simp (
-      le-ltb mostInput (length text) fits,
+      le-ltb most_input (length text) fits,
       lines,
-      line-written 5 wantedName text (keyName ++ k) (length c) a.wanted (omega arith) wanted-small at-wanted,
+      line-written 5 wanted_name text (key_name ++ k) (length c) a.wanted (omega arith) wanted-small at-wanted,
       starts,
-      list_written text a.key (length c + length w + length keyName) key-small at-numbers,
+      list_written text a.key (length c + length w + length key_name) key-small at-numbers,
     )

@@ -12,9 +12,9 @@ use Rattle.text_lines.specs.Decimal.{decimal}
 use Rattle.refusal.specs.declared.Refusal.{Refusal}
 use Rattle.refusal.specs.Numbers.{number_of}
 use Rattle.refusal.proofs.Numbers.{at_each}
-use Rattle.printing.specs.Output.{queryHead}
+use Rattle.printing.specs.Output.{query_head}
 
-pub head-length : (server : ℕ) → length (queryHead server) ≡ 16 + length (decimal server)
+pub head-length : (server : ℕ) → length (query_head server) ≡ 16 + length (decimal server)
 head-length server =
     let e = length-append (ascii "mirror=") (decimal server ++ ascii " request=") in
     let f = length-append (decimal server) (ascii " request=") in

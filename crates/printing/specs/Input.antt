@@ -6,10 +6,10 @@ use Rattle.lists.specs.Ascii.{ascii}
 use Rattle.refusal.specs.declared.Verdict.{Verdict}
 use Rattle.refusal.specs.declared.Verdict.TheVariants.{Accepted, Refused}
 use Rattle.catalogue.specs.declared.Catalogue.{Catalogue}
-use Rattle.text_lines.specs.Lines.{begins, numberText, numberLine}
-use Rattle.catalogue_text.specs.Text.{textWith}
-use Rattle.catalogue_text.specs.Parsing.{catalogueLines}
-use Rattle.number_lists.specs.NumberLists.{onNumber, numbersAt, spaced}
+use Rattle.text_lines.specs.Lines.{begins, number_text, number_line}
+use Rattle.catalogue_text.specs.Text.{text_with}
+use Rattle.catalogue_text.specs.Parsing.{catalogue_lines}
+use Rattle.number_lists.specs.NumberLists.{on_number, numbers_at, spaced}
 
 -- What an input asks for. The numbers of the key are as they stand, above 255 too
 pub record Asked : Type 0 where
@@ -20,40 +20,40 @@ pub record Asked : Type 0 where
 abbrev pub asked : Catalogue → ℕ → List ℕ → Asked
 asked c wanted key = record { catalogue = c; wanted = wanted; key = key }
 
-abbrev pub wantedName : List ℕ
-wantedName = ascii "wanted="
+abbrev pub wanted_name : List ℕ
+wanted_name = ascii "wanted="
 
-abbrev pub keyName : List ℕ
-keyName = ascii "key="
+abbrev pub key_name : List ℕ
+key_name = ascii "key="
 
 -- the most bytes of an input
-abbrev pub mostInput : ℕ
-mostInput = 65536
+abbrev pub most_input : ℕ
+most_input = 65536
 
 -- the key's line at place `at`, which is the last
-unfoldable pub keyLine : List ℕ → ℕ → Option (List ℕ)
-keyLine text at = cond (begins keyName (drop at text)) (numbersAt text (at + length keyName)) none
+unfoldable pub key_line : List ℕ → ℕ → Option (List ℕ)
+key_line text at = cond (begins key_name (drop at text)) (numbers_at text (at + length key_name)) none
 
 -- a part that was read goes on, or ends the reading
-abbrev pub onCatalogue : Verdict → Option Asked → Option Asked
-onCatalogue Accepted rest = rest
-onCatalogue (Refused refusal) rest = none
+abbrev pub on_catalogue : Verdict → Option Asked → Option Asked
+on_catalogue Accepted rest = rest
+on_catalogue (Refused refusal) rest = none
 
-abbrev pub onKey : Option (List ℕ) → (List ℕ → Asked) → Option Asked
-onKey none found = none
-onKey (some key) found = some (found key)
+abbrev pub on_key : Option (List ℕ) → (List ℕ → Asked) → Option Asked
+on_key none found = none
+on_key (some key) found = some (found key)
 
 -- the catalogue's lines and the two behind them
-unfoldable pub linesAsk : List ℕ → Option Asked
-linesAsk text =
-    let found = catalogueLines text in
-    onCatalogue found.verdict
-    (onNumber (numberLine 5 wantedName text found.next) λ wanted next.
-    onKey (keyLine text next) (asked found.catalogue wanted))
+unfoldable pub lines_ask : List ℕ → Option Asked
+lines_ask text =
+    let found = catalogue_lines text in
+    on_catalogue found.verdict
+    (on_number (number_line 5 wanted_name text found.next) λ wanted next.
+    on_key (key_line text next) (asked found.catalogue wanted))
 
-unfoldable pub inputAsks : List ℕ → Option Asked
-inputAsks text = cond (ltb mostInput (length text)) none (linesAsk text)
+unfoldable pub input_asks : List ℕ → Option Asked
+input_asks text = cond (ltb most_input (length text)) none (lines_ask text)
 
 -- The input that asks for this, and says these lengths, of which the catalogue has what it can keep
 unfoldable pub input_of : Asked → List ℕ → List ℕ
-input_of a ns = textWith a.catalogue ns ++ (numberText wantedName a.wanted ++ (keyName ++ (spaced a.key ++ ascii "\n")))
+input_of a ns = text_with a.catalogue ns ++ (number_text wanted_name a.wanted ++ (key_name ++ (spaced a.key ++ ascii "\n")))

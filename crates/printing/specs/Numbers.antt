@@ -6,27 +6,27 @@ use Rattle.refusal.specs.declared.Verdict.TheVariants.{Accepted}
 use Rattle.refusal.specs.Within.{OneOf}
 use Rattle.scheme.specs.Scheme.{Scheme}
 use Rattle.catalogue.specs.declared.Catalogue.{Catalogue}
-use Rattle.catalogue.specs.Catalogue.{catalogueNumbers}
-use Rattle.printing.specs.Input.{Asked, inputAsks}
-use Rattle.printing.specs.Output.{refusalLine, askedVerdict, queryLines, printed}
+use Rattle.catalogue.specs.Catalogue.{catalogue_numbers}
+use Rattle.printing.specs.Input.{Asked, input_asks}
+use Rattle.printing.specs.Output.{refusal_line, asked_verdict, query_lines, printed}
 
 -- an input out of form, a catalogue's numbers, and those of begin
-abbrev pub printNumbers : List ℕ
-printNumbers = 1 ∷ (catalogueNumbers ++ (4 ∷ 5 ∷ 6 ∷ []))
+abbrev pub print_numbers : List ℕ
+print_numbers = 1 ∷ (catalogue_numbers ++ (4 ∷ 5 ∷ 6 ∷ []))
 
-module _ (schemeOf : Catalogue → Scheme) (input : List ℕ) where
+module _ (scheme_of : Catalogue → Scheme) (input : List ℕ) where
   -- the queries that the input asks for are printed
   pub record QueriesPrinted : Type 0 where
     pub asked : Asked
-    pub asks : inputAsks input ≡ some asked
-    pub accepted : askedVerdict schemeOf asked ≡ Accepted
-    pub output : printed schemeOf input ≡ queryLines schemeOf asked
+    pub asks : input_asks input ≡ some asked
+    pub accepted : asked_verdict scheme_of asked ≡ Accepted
+    pub output : printed scheme_of input ≡ query_lines scheme_of asked
 
   -- the line of a refusal is printed that has one of the numbers
   pub record RefusalPrinted (numbers : List ℕ) : Type 0 where
     pub refusal : Refusal
     pub number : OneOf numbers refusal
-    pub output : printed schemeOf input ≡ refusalLine refusal
+    pub output : printed scheme_of input ≡ refusal_line refusal
 
   abbrev pub PrintNumbers : Type 0
-  PrintNumbers = QueriesPrinted ⊎ RefusalPrinted printNumbers
+  PrintNumbers = QueriesPrinted ⊎ RefusalPrinted print_numbers

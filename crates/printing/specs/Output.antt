@@ -10,69 +10,69 @@ use Rattle.lists.specs.Ranges.{range}
 use Rattle.refusal.specs.declared.Refusal.{Refusal}
 use Rattle.refusal.specs.declared.Verdict.{Verdict}
 use Rattle.refusal.specs.declared.Verdict.TheVariants.{Accepted, Refused}
-use Rattle.refusal.specs.Numbers.{number_of, refusalOf}
+use Rattle.refusal.specs.Numbers.{number_of, refusal_of}
 use Rattle.refusal.specs.Foremost.{Fault, fault, foremost}
 use Rattle.scheme.specs.Scheme.{Scheme}
 use Rattle.catalogue.specs.declared.Catalogue.{Catalogue}
-use Rattle.session.specs.Calls.{beginFaults}
+use Rattle.session.specs.Calls.{begin_faults}
 use Rattle.text_lines.specs.Decimal.{decimal}
-use Rattle.text_lines.specs.Lines.{numberText}
+use Rattle.text_lines.specs.Lines.{number_text}
 use Rattle.printing.specs.declared.Page.{Page}
 use Rattle.number_lists.specs.NumberLists.{spaced}
-use Rattle.printing.specs.Input.{Asked, inputAsks}
+use Rattle.printing.specs.Input.{Asked, input_asks}
 
 -- what stands before a server's query
-abbrev pub queryHead : ℕ → List ℕ
-queryHead server = ascii "mirror=" ++ (decimal server ++ ascii " request=")
+abbrev pub query_head : ℕ → List ℕ
+query_head server = ascii "mirror=" ++ (decimal server ++ ascii " request=")
 
 -- the line of a server and its query
-unfoldable pub queryLine : ℕ → List ℕ → List ℕ
-queryLine server query = queryHead server ++ (spaced query ++ ascii "\n")
+unfoldable pub query_line : ℕ → List ℕ → List ℕ
+query_line server query = query_head server ++ (spaced query ++ ascii "\n")
 
 -- the line of a refusal
-unfoldable pub refusalLine : Refusal → List ℕ
-refusalLine refusal = numberText (ascii "refused=") (number_of refusal)
+unfoldable pub refusal_line : Refusal → List ℕ
+refusal_line refusal = number_text (ascii "refused=") (number_of refusal)
 
-module _ (schemeOf : Catalogue → Scheme) where
+module _ (scheme_of : Catalogue → Scheme) where
   -- as at begin; a number above 255 is no key's either
-  abbrev pub askedFaults : Asked → List Fault
-  askedFaults a = beginFaults schemeOf a.catalogue a.wanted a.key ++ (fault 6 (not (all_below 256 a.key)) ∷ [])
+  abbrev pub asked_faults : Asked → List Fault
+  asked_faults a = begin_faults scheme_of a.catalogue a.wanted a.key ++ (fault 6 (not (all_below 256 a.key)) ∷ [])
 
-  unfoldable pub askedVerdict : Asked → Verdict
-  askedVerdict a = foremost (askedFaults a)
+  unfoldable pub asked_verdict : Asked → Verdict
+  asked_verdict a = foremost (asked_faults a)
 
   -- the query that is asked for at a server
-  abbrev pub askedQuery : Asked → ℕ → List ℕ
-  askedQuery a server = (schemeOf a.catalogue).query a.wanted server a.key
+  abbrev pub asked_query : Asked → ℕ → List ℕ
+  asked_query a server = (scheme_of a.catalogue).query a.wanted server a.key
 
   -- a line for each server, in order
-  unfoldable pub queryLines : Asked → List ℕ
-  queryLines a = flat_map (λ server. queryLine server (askedQuery a server)) (range 0 a.catalogue.servers)
+  unfoldable pub query_lines : Asked → List ℕ
+  query_lines a = flat_map (λ server. query_line server (asked_query a server)) (range 0 a.catalogue.servers)
 
-  abbrev pub printBy : Verdict → Asked → List ℕ
-  printBy Accepted a = queryLines a
-  printBy (Refused refusal) a = refusalLine refusal
+  abbrev pub print_by : Verdict → Asked → List ℕ
+  print_by Accepted a = query_lines a
+  print_by (Refused refusal) a = refusal_line refusal
 
-  unfoldable pub answerTo : Asked → List ℕ
-  answerTo a = printBy (askedVerdict a) a
+  unfoldable pub answer_to : Asked → List ℕ
+  answer_to a = print_by (asked_verdict a) a
 
-  abbrev pub outputBy : Option Asked → List ℕ
-  outputBy none = refusalLine (refusalOf 1)
-  outputBy (some a) = answerTo a
+  abbrev pub output_by : Option Asked → List ℕ
+  output_by none = refusal_line (refusal_of 1)
+  output_by (some a) = answer_to a
 
   -- the whole output for an input
   unfoldable pub printed : List ℕ → List ℕ
-  printed input = outputBy (inputAsks input)
+  printed input = output_by (input_asks input)
 
 -- ---- the page that holds an output
 
 -- room for 16 lines of 19 bytes without their queries, and 2,048 numbers of three digits and a space
-abbrev pub pageBytes : ℕ
-pageBytes = 8496
+abbrev pub page_bytes : ℕ
+page_bytes = 8496
 
 unfoldable pub blank : List ℕ
-blank = replicate pageBytes 0
+blank = replicate page_bytes 0
 
 -- the output at the start, and zeros after it
 unfoldable pub page_of : List ℕ → Page
-page_of output = record { bytes = padded pageBytes output; length = length output }
+page_of output = record { bytes = padded page_bytes output; length = length output }

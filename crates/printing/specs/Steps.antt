@@ -6,26 +6,26 @@ use Rattle.refusal.specs.declared.Verdict.TheVariants.{Accepted, Refused}
 use Rattle.refusal.specs.declared.Outcome.{Outcome}
 use Rattle.refusal.specs.declared.Outcome.TheVariants.{Value, Refused as NoValue}
 use Rattle.refusal.specs.Foremost.{Fault, fault, foremost}
-use Rattle.parameters.specs.Measures.{keyPlaces}
+use Rattle.parameters.specs.Measures.{key_places}
 use Rattle.scheme.specs.Scheme.{Scheme}
 use Rattle.catalogue.specs.declared.Catalogue.{Catalogue}
-use Rattle.catalogue.specs.Catalogue.{catalogueFaults}
+use Rattle.catalogue.specs.Catalogue.{catalogue_faults}
 
--- keyFaults messages wanted due count bytes; a number above 255 is no key's
-abbrev pub keyFaults : ℕ → ℕ → ℕ → ℕ → Bool → List Fault
-keyFaults messages wanted due count bytes = fault 4 (leb messages wanted) ∷ fault 5 (not (eqb count due)) ∷ fault 6 (not bytes) ∷ []
+-- key_faults messages wanted due count bytes; a number above 255 is no key's
+abbrev pub key_faults : ℕ → ℕ → ℕ → ℕ → Bool → List Fault
+key_faults messages wanted due count bytes = fault 4 (leb messages wanted) ∷ fault 5 (not (eqb count due)) ∷ fault 6 (not bytes) ∷ []
 
-module _ (schemeOf : Catalogue → Scheme) where
-  abbrev pub checkFaults : Catalogue → ℕ → ℕ → Bool → List Fault
-  checkFaults c wanted count bytes = catalogueFaults c ++ keyFaults c.messages wanted (schemeOf c).sizes.key count bytes
+module _ (scheme_of : Catalogue → Scheme) where
+  abbrev pub check_faults : Catalogue → ℕ → ℕ → Bool → List Fault
+  check_faults c wanted count bytes = catalogue_faults c ++ key_faults c.messages wanted (scheme_of c).sizes.key count bytes
 
-  unfoldable pub checkVerdict : Catalogue → ℕ → ℕ → Bool → Verdict
-  checkVerdict c wanted count bytes = foremost (checkFaults c wanted count bytes)
+  unfoldable pub check_verdict : Catalogue → ℕ → ℕ → Bool → Verdict
+  check_verdict c wanted count bytes = foremost (check_faults c wanted count bytes)
 
-abbrev pub valueBy : Verdict → ℕ → Outcome
-valueBy Accepted value = Value value
-valueBy (Refused refusal) value = NoValue refusal
+abbrev pub value_by : Verdict → ℕ → Outcome
+value_by Accepted value = Value value
+value_by (Refused refusal) value = NoValue refusal
 
 -- room for every key and every query of an admitted catalogue, all zeros
-unfoldable pub blankPlaces : List ℕ
-blankPlaces = replicate keyPlaces 0
+unfoldable pub blank_places : List ℕ
+blank_places = replicate key_places 0

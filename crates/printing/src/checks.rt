@@ -1,10 +1,10 @@
 // What can be said of an input before its key's entries are read.
 ghost use Rattle.std.specs.Prelude.{◌≡◌};
 ghost use Rattle.refusal.specs.Chain.{chain};
-ghost use Rattle.codes.specs.Codes.{schemeOf};
-ghost use Rattle.number_lists.specs.NumberLists.{scanOf};
-ghost use Rattle.printing.specs.Input.{keyLine};
-ghost use Rattle.printing.specs.Steps.{keyFaults, checkVerdict, valueBy};
+ghost use Rattle.codes.specs.Codes.{scheme_of};
+ghost use Rattle.number_lists.specs.NumberLists.{scan_of};
+ghost use Rattle.printing.specs.Input.{key_line};
+ghost use Rattle.printing.specs.Steps.{key_faults, check_verdict, value_by};
 
 use catalogue::{Catalogue, Measured};
 use number_lists::Scanned;
@@ -12,7 +12,7 @@ use refusal::{Outcome, Refusal};
 
 // What the key's line at place `at` says, which is the last.
 pub fn scan_key(text: &[u8], at: usize) -> Scanned
-    ensures { result ≡ scanOf (keyLine text.now at) }
+    ensures { result ≡ scan_of (key_line text.now at) }
 {
     if text.len() < at {
         return Scanned::Refused;
@@ -33,7 +33,7 @@ fn check_key(
     bytes: bool,
     query: usize,
 ) -> Outcome
-    ensures { result ≡ valueBy (chain (keyFaults messages wanted due count bytes)) query }
+    ensures { result ≡ value_by (chain (key_faults messages wanted due count bytes)) query }
 {
     if messages <= wanted {
         return Outcome::Refused(Refusal::Wanted);
@@ -49,7 +49,7 @@ fn check_key(
 
 // What can be said of an input without the key's entries: a refusal, or the length of a query.
 pub fn check(c: Catalogue, wanted: usize, count: usize, bytes: bool) -> Outcome
-    ensures { result ≡ valueBy (checkVerdict schemeOf c wanted count bytes) (schemeOf c).sizes.query }
+    ensures { result ≡ value_by (check_verdict scheme_of c wanted count bytes) (scheme_of c).sizes.query }
 {
     let measured = catalogue::sizes(c);
     match measured {

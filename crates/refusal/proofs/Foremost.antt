@@ -1,5 +1,5 @@
 -- Faults that are listed in ascending rank are checked by a chain, first to last: `foremost-chain`; or the first of them by a verdict of their own,
--- and then the rest: `after_first`. What a test says of all listed refusals it says of the one that is given (`of-foremost`).
+-- and then the rest: `after_first_lem`. What a test says of all listed refusals it says of the one that is given (`of-foremost`).
 use mathlib.Core.Path.{◌≡◌, refl, sym, ap, ◌∙◌}
 use mathlib.Core.Bool.{Bool, true, false, cond, ◌&&◌}
 use mathlib.Core.List.{List, [], ◌∷◌, ◌++◌}
@@ -15,30 +15,30 @@ use Rattle.refusal.specs.Chain.{and_then, chain}
 use Rattle.refusal.proofs.Chain.{chain-after}
 
 module _ (test : Refusal → Bool) where
-  abbrev pub ofFaults : List Fault → Bool
-  ofFaults [] = true
-  ofFaults (f ∷ faults) = test f.refusal && ofFaults faults
+  abbrev pub of_faults : List Fault → Bool
+  of_faults [] = true
+  of_faults (f ∷ faults) = test f.refusal && of_faults faults
 
-  abbrev pub ofVerdict : Verdict → Bool
-  ofVerdict Accepted = true
-  ofVerdict (Refused refusal) = test refusal
+  abbrev pub of_verdict : Verdict → Bool
+  of_verdict Accepted = true
+  of_verdict (Refused refusal) = test refusal
 
-  of-earlier : (refusal : Refusal) (v : Verdict) → test refusal ≡ true → ofVerdict v ≡ true → ofVerdict (earlier refusal v) ≡ true
+  of-earlier : (refusal : Refusal) (v : Verdict) → test refusal ≡ true → of_verdict v ≡ true → of_verdict (earlier refusal v) ≡ true
   of-earlier refusal Accepted e f = e
   of-earlier refusal (Refused other) e f = go (leb (rank refusal) (rank other))
     where
-      go : (t : Bool) → ofVerdict (cond t (Refused refusal) (Refused other)) ≡ true
+      go : (t : Bool) → of_verdict (cond t (Refused refusal) (Refused other)) ≡ true
       go true = e
       go false = f
 
-  pub of-foremost : (faults : List Fault) → ofFaults faults ≡ true → ofVerdict (foremost faults) ≡ true
+  pub of-foremost : (faults : List Fault) → of_faults faults ≡ true → of_verdict (foremost faults) ≡ true
   unfolding foremost
   of-foremost [] e = refl
   of-foremost (f ∷ faults) e =
-      let p = both_true (test f.refusal) (ofFaults faults) e in go f.there p.0 (of-foremost faults p.1)
+      let p = both_true (test f.refusal) (of_faults faults) e in go f.there p.0 (of-foremost faults p.1)
     where
-      go : (t : Bool) → test f.refusal ≡ true → ofVerdict (foremost faults) ≡ true
-          → ofVerdict (cond t (earlier f.refusal (foremost faults)) (foremost faults)) ≡ true
+      go : (t : Bool) → test f.refusal ≡ true → of_verdict (foremost faults) ≡ true
+          → of_verdict (cond t (earlier f.refusal (foremost faults)) (foremost faults)) ≡ true
       go true own rest = of-earlier f.refusal (foremost faults) own rest
       go false own rest = rest
 
@@ -49,9 +49,9 @@ from n refusal = leb n (rank refusal)
 -- listed in ascending rank: no fault has a lower one than a fault before it
 abbrev pub ascending : List Fault → Bool
 ascending [] = true
-ascending (f ∷ faults) = ofFaults (from (rank f.refusal)) faults && ascending faults
+ascending (f ∷ faults) = of_faults (from (rank f.refusal)) faults && ascending faults
 
-earlier-is : (refusal : Refusal) (v : Verdict) → ofVerdict (from (rank refusal)) v ≡ true → earlier refusal v ≡ Refused refusal
+earlier-is : (refusal : Refusal) (v : Verdict) → of_verdict (from (rank refusal)) v ≡ true → earlier refusal v ≡ Refused refusal
 earlier-is refusal Accepted e = refl
 earlier-is refusal (Refused other) e = ap (λ (t : Bool). cond t (Refused refusal) (Refused other)) e
 
@@ -59,7 +59,7 @@ pub foremost-chain : (faults : List Fault) → ascending faults ≡ true → for
 unfolding foremost
 foremost-chain [] e = refl
 foremost-chain (f ∷ faults) e =
-    let p = both_true (ofFaults (from (rank f.refusal)) faults) (ascending faults) e in
+    let p = both_true (of_faults (from (rank f.refusal)) faults) (ascending faults) e in
     go f.there (earlier-is f.refusal (foremost faults) (of-foremost (from (rank f.refusal)) faults p.0)) (foremost-chain faults p.1)
   where
     go : (t : Bool) → earlier f.refusal (foremost faults) ≡ Refused f.refusal → foremost faults ≡ chain faults
@@ -68,7 +68,7 @@ foremost-chain (f ∷ faults) e =
     go false first rest = rest
 
 -- v is the verdict on the first faults, r that on all
-pub after_first : (faults rest : List Fault) → ascending faults ≡ true → ascending (faults ++ rest) ≡ true → (v r : Verdict)
+pub after_first_lem : (faults rest : List Fault) → ascending faults ≡ true → ascending (faults ++ rest) ≡ true → (v r : Verdict)
     → v ≡ foremost faults → r ≡ and_then v (chain rest) → r ≡ foremost (faults ++ rest)
-after_first faults rest a b v r e p =
+after_first_lem faults rest a b v r e p =
     chain-after faults rest v r (e ∙ foremost-chain faults a) p ∙ sym (foremost-chain (faults ++ rest) b)

@@ -8,8 +8,8 @@ use Prim.Native.Nat.{ℕ, ◌≤◌}
 use native.Mathlib.Omega.{arith}
 use lib.Dec.{leb}
 use borrow.Author.Tests.{leb-true, leb-false, le-leb}
-use Rattle.lists.specs.Any.{Any, anyHere, anyLater}
-use Rattle.lists.specs.Sums.{All, allNil, allCons}
+use Rattle.lists.specs.Any.{Any, any_here, any_later}
+use Rattle.lists.specs.Sums.{All, all_nil, all_cons}
 use Rattle.lists.proofs.Each.{All-imp}
 use Rattle.refusal.specs.declared.Refusal.{Refusal}
 use Rattle.refusal.specs.declared.Verdict.{Verdict}
@@ -36,15 +36,15 @@ not_there : {A : Type 0} {t : Bool} → t ≡ false → t ≡ true → A
 not_there {A} {t} e f = absurd (let z : ◌≡◌ {A = ℕ} 0 1 = cc in let w : ⊥ = omega arith in w)
 
 none_before : (refusal : Refusal) (faults : List Fault) → NoneThere faults → All (NotBefore refusal) faults
-none_before refusal [] n = allNil
-none_before refusal (f ∷ faults) n = allCons (λ e. not_there n.0 e) (none_before refusal faults n.1)
+none_before refusal [] n = all_nil
+none_before refusal (f ∷ faults) n = all_cons (λ e. not_there n.0 e) (none_before refusal faults n.1)
 
 -- a fault in front that is there
 module _ (f : Fault) (faults : List Fault) (there : f.there ≡ true) where
   own : (refusal : Refusal) → f.refusal ≡ refusal → All (NotBefore refusal) faults → Given refusal (f ∷ faults)
   own refusal e rest = record {
-    there = anyHere (there, e);
-    first = allCons {x = f} (λ h. let w : rank refusal ≤ rank f.refusal = rw e (omega arith) in w) rest;
+    there = any_here (there, e);
+    first = all_cons {x = f} (λ h. let w : rank refusal ≤ rank f.refusal = rw e (omega arith) in w) rest;
   }
 
   before : (v : Verdict) → foremost faults ≡ v → ((other : Refusal) → foremost faults ≡ Refused other → Given other faults) → (refusal : Refusal)
@@ -62,7 +62,7 @@ module _ (f : Fault) (faults : List Fault) (there : f.there ≡ true) where
       go false l g r =
           let same : other ≡ refusal = same-refusal g in
           let low : rank other ≤ rank f.refusal = let w = leb-false (rank f.refusal) (rank other) l in omega (arith, w) in
-          rw (← same) (record { there = anyLater r.there; first = allCons {x = f} (λ h. low) r.first })
+          rw (← same) (record { there = any_later r.there; first = all_cons {x = f} (λ h. low) r.first })
 
 pub foremost-given : (faults : List Fault) (refusal : Refusal) → foremost faults ≡ Refused refusal → Given refusal faults
 unfolding foremost
@@ -74,16 +74,16 @@ foremost-given (f ∷ faults) refusal e = go f.there refl e (foremost-given faul
     go true h g rest = before f faults h (foremost faults) refl rest refusal g
     go false h g rest =
         let r = rest refusal g in
-        record { there = anyLater r.there; first = allCons {x = f} (λ k. not_there h k) r.first }
+        record { there = any_later r.there; first = all_cons {x = f} (λ k. not_there h k) r.first }
 
 -- of two refusals, one that is first among the faults that are there and one of such a fault
 not_after : (first other : Refusal) {faults : List Fault} → All (NotBefore first) faults → Any (There other) faults → rank first ≤ rank other
-not_after first other (allCons here rest) (anyHere t) = rw t.1 at (here t.0)
-not_after first other (allCons here rest) (anyLater t) = not_after first other rest t
+not_after first other (all_cons here rest) (any_here t) = rw t.1 at (here t.0)
+not_after first other (all_cons here rest) (any_later t) = not_after first other rest t
 
 none-there : {A : Type 0} {refusal : Refusal} (faults : List Fault) → NoneThere faults → Any (There refusal) faults → A
-none-there (f ∷ faults) n (anyHere t) = not_there n.0 t.0
-none-there (f ∷ faults) n (anyLater t) = none-there faults n.1 t
+none-there (f ∷ faults) n (any_here t) = not_there n.0 t.0
+none-there (f ∷ faults) n (any_later t) = none-there faults n.1 t
 
 given-foremost : (faults : List Fault) (refusal : Refusal) → Given refusal faults → foremost faults ≡ Refused refusal
 given-foremost faults refusal g = go (foremost faults) refl

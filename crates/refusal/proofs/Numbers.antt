@@ -13,7 +13,7 @@ use Rattle.refusal.specs.declared.Refusal.{Refusal}
 use Rattle.refusal.specs.declared.Refusal.TheVariants.{Text, Bounds, Server, Wanted, KeyLength, KeyEntry}
 use Rattle.refusal.specs.declared.Refusal.TheVariants.{Query, StoreLength, Room, AnswerLength, History, Missing}
 use Rattle.refusal.specs.declared.Refusal.TheVariants.{UnrealDay, OutOfSeason, OddSymbol, MeterFull, OneMessage, Register, EditPlace}
-use Rattle.refusal.specs.Numbers.{number_of, refusals, refusalOf, order, rank}
+use Rattle.refusal.specs.Numbers.{number_of, refusals, refusal_of, order, rank}
 
 -- two functions that agree over the list of refusals agree at each refusal
 module _ {A : Type 0} (f g : Refusal → A) (same : map f refusals ≡ map g refusals) where
@@ -41,36 +41,36 @@ module _ {A : Type 0} (f g : Refusal → A) (same : map f refusals ≡ map g ref
   at_each Register = at_place 17
   at_each EditPlace = at_place 18
 
-pub refusal-kept : (refusal : Refusal) → refusalOf (number_of refusal) ≡ refusal
-refusal-kept = at_each (λ (r : Refusal). refusalOf (number_of r)) (λ (r : Refusal). r) refl
+pub refusal-kept : (refusal : Refusal) → refusal_of (number_of refusal) ≡ refusal
+refusal-kept = at_each (λ (r : Refusal). refusal_of (number_of r)) (λ (r : Refusal). r) refl
 
-pub number-kept : map (λ (n : ℕ). number_of (refusalOf n)) order ≡ order
+pub number-kept : map (λ (n : ℕ). number_of (refusal_of n)) order ≡ order
 number-kept = refl
 
 -- the refusal at a place of the order
-abbrev atRank : ℕ → Refusal
-atRank place = refusalOf (get_or order place 0)
+abbrev at_rank : ℕ → Refusal
+at_rank place = refusal_of (get_or order place 0)
 
-rank-kept : (refusal : Refusal) → atRank (rank refusal) ≡ refusal
-rank-kept = at_each (λ (r : Refusal). atRank (rank r)) (λ (r : Refusal). r) refl
+rank-kept : (refusal : Refusal) → at_rank (rank refusal) ≡ refusal
+rank-kept = at_each (λ (r : Refusal). at_rank (rank r)) (λ (r : Refusal). r) refl
 
 pub same_rank : (a b : Refusal) → rank a ≡ rank b → a ≡ b
-same_rank a b e = sym (rank-kept a) ∙ ap atRank e ∙ rank-kept b
+same_rank a b e = sym (rank-kept a) ∙ ap at_rank e ∙ rank-kept b
 
 -- both numbers are at most 12
-abbrev upTo12 : Refusal → Refusal → Bool
-upTo12 a b = leb (number_of a) 12 && leb (number_of b) 12
+abbrev up_to12 : Refusal → Refusal → Bool
+up_to12 a b = leb (number_of a) 12 && leb (number_of b) 12
 
-abbrev byRank : Refusal → Refusal → Bool
-byRank a b = cond (upTo12 a b) (leb (rank a) (rank b)) true
+abbrev by_rank : Refusal → Refusal → Bool
+by_rank a b = cond (up_to12 a b) (leb (rank a) (rank b)) true
 
-abbrev byNumber : Refusal → Refusal → Bool
-byNumber a b = cond (upTo12 a b) (leb (number_of a) (number_of b)) true
+abbrev by_number : Refusal → Refusal → Bool
+by_number a b = cond (up_to12 a b) (leb (number_of a) (number_of b)) true
 
 pub rank-by-number : (a b : Refusal) → number_of a ≤ 12 → number_of b ≤ 12 → leb (rank a) (rank b) ≡ leb (number_of a) (number_of b)
 rank-by-number a b low high =
-    let table = at_each (λ (x : Refusal). map (byRank x) refusals) (λ (x : Refusal). map (byNumber x) refusals) refl in
-    let pair : byRank a b ≡ byNumber a b = at_each (byRank a) (byNumber a) (table a) b in
+    let table = at_each (λ (x : Refusal). map (by_rank x) refusals) (λ (x : Refusal). map (by_number x) refusals) refl in
+    let pair : by_rank a b ≡ by_number a b = at_each (by_rank a) (by_number a) (table a) b in
     rw (le-leb (number_of a) 12 low, le-leb (number_of b) 12 high) at pair
 
 -- a full meter is given last of all (document 02, item 5)

@@ -13,7 +13,7 @@ use Rattle.refusal.specs.declared.Outcome.TheVariants.{Value, Refused as NoValue
 use Rattle.refusal.specs.Numbers.{number_of}
 use Rattle.refusal.specs.Foremost.{Fault, foremost}
 use Rattle.refusal.specs.Within.{OneOf, Within, ValueWithin}
-use Rattle.refusal.proofs.Foremost.{ofFaults, ofVerdict, of-foremost}
+use Rattle.refusal.proofs.Foremost.{of_faults, of_verdict, of-foremost}
 
 not-value : {A : Type 0} {size : ℕ} {refusal : Refusal} → Value size ≡ NoValue refusal → A
 not-value {A} {size} {refusal} e = let z : ◌≡◌ {A = ℕ} 0 1 = cc in absurd (let w : ⊥ = omega arith in w)
@@ -26,12 +26,12 @@ module _ (numbers : List ℕ) where
   named refusal = stands (number_of refusal) numbers
 
   -- every fault has one of the numbers
-  abbrev pub faultsNamed : List Fault → Bool
-  faultsNamed = ofFaults named
+  abbrev pub faults_named : List Fault → Bool
+  faults_named = of_faults named
 
-  pub faults-within : (faults : List Fault) (v : Verdict) → faultsNamed faults ≡ true → v ≡ foremost faults → Within numbers v
+  pub faults-within : (faults : List Fault) (v : Verdict) → faults_named faults ≡ true → v ≡ foremost faults → Within numbers v
   unfolding OneOf
-  faults-within faults v e s refusal r = ap (ofVerdict named) (sym r ∙ s) ∙ of-foremost named faults e
+  faults-within faults v e s refusal r = ap (of_verdict named) (sym r ∙ s) ∙ of-foremost named faults e
 
   pub refused-within : (other : Refusal) → Within numbers (Refused other) → ValueWithin numbers (NoValue other)
   refused-within other w refusal e = w refusal (ap Refused (same-refusal e))

@@ -2,16 +2,16 @@
 use Rattle.std.specs.Prelude.{ℕ, Bool, true, false, cond, List, [], ◌∷◌}
 use Rattle.refusal.specs.declared.Verdict.{Verdict}
 use Rattle.refusal.specs.declared.Verdict.TheVariants.{Accepted, Refused}
-use Rattle.refusal.specs.Numbers.{refusalOf}
+use Rattle.refusal.specs.Numbers.{refusal_of}
 use Rattle.refusal.specs.Foremost.{Fault}
 
 -- refused with a number of the table
 abbrev pub refused : ℕ → Verdict
-refused number = Refused (refusalOf number)
+refused number = Refused (refusal_of number)
 
 -- a link: refused with this number if the fault is there, else as the rest of the chain says
-abbrev pub refuseIf : Bool → ℕ → Verdict → Verdict
-refuseIf there number rest = cond there (refused number) rest
+abbrev pub refuse_if : Bool → ℕ → Verdict → Verdict
+refuse_if there number rest = cond there (refused number) rest
 
 -- whether a verdict refuses
 abbrev pub refuses : Verdict → Bool

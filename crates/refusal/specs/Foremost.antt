@@ -4,7 +4,7 @@ use Rattle.std.specs.Prelude.{ℕ, Bool, cond, List, [], ◌∷◌, leb}
 use Rattle.refusal.specs.declared.Refusal.{Refusal}
 use Rattle.refusal.specs.declared.Verdict.{Verdict}
 use Rattle.refusal.specs.declared.Verdict.TheVariants.{Accepted, Refused}
-use Rattle.refusal.specs.Numbers.{refusalOf, rank}
+use Rattle.refusal.specs.Numbers.{refusal_of, rank}
 
 -- A line of the table of numbers: whether its condition holds, and what is refused then
 pub record Fault : Type 0 where
@@ -13,7 +13,7 @@ pub record Fault : Type 0 where
 
 -- a number, and whether its condition holds
 abbrev pub fault : ℕ → Bool → Fault
-fault number there = record { there = there; refusal = refusalOf number }
+fault number there = record { there = there; refusal = refusal_of number }
 
 -- of a refusal and a verdict, the one of lower rank
 abbrev pub earlier : Refusal → Verdict → Verdict

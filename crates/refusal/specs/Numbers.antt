@@ -38,18 +38,18 @@ with_number n [] = Missing
 with_number n (refusal ∷ rest) = cond (eqb n (number_of refusal)) refusal (with_number n rest)
 
 -- The refusal that has a number of the table; definitions name refusals by their numbers
-abbrev pub refusalOf : ℕ → Refusal
-refusalOf n = with_number n refusals
+abbrev pub refusal_of : ℕ → Refusal
+refusal_of n = with_number n refusals
 
 -- Which is given first: the numbers, from the first that is given to the last. 18 comes before all others (02, item 12); after 2 come 17, 15, 13 and 14,
 -- before the rest (items 1, 2, 9); 19 comes directly after 8 (item 13), and 16 last of all (item 5)
 abbrev pub order : List ℕ
 order = 18 ∷ 1 ∷ 2 ∷ 17 ∷ 15 ∷ 13 ∷ 14 ∷ 3 ∷ 4 ∷ 5 ∷ 6 ∷ 7 ∷ 8 ∷ 19 ∷ 9 ∷ 10 ∷ 11 ∷ 12 ∷ 16 ∷ []
 
-abbrev rankIn : List ℕ → ℕ → ℕ
-rankIn [] n = 0
-rankIn (m ∷ numbers) n = cond (eqb n m) 0 (1 + rankIn numbers n)
+abbrev rank_in : List ℕ → ℕ → ℕ
+rank_in [] n = 0
+rank_in (m ∷ numbers) n = cond (eqb n m) 0 (1 + rank_in numbers n)
 
 -- a refusal's place in the order
 abbrev pub rank : Refusal → ℕ
-rank refusal = rankIn order (number_of refusal)
+rank refusal = rank_in order (number_of refusal)

@@ -6,13 +6,13 @@ use mathlib.Core.List.{List}
 use Prim.Native.Nat.{ℕ, ◌-◌, ◌*◌, ◌^◌, ◌≤◌, ◌<◌}
 use native.Mathlib.Nat.{one-le-pow, mul-le-mul}
 use native.Mathlib.Omega.{arith}
-use Rattle.parameters.specs.Bounds.{blocks, roundFits}
+use Rattle.parameters.specs.Bounds.{blocks, round_fits}
 use Rattle.parameters.proofs.Bounds.{round-bounds}
-use Rattle.round_scheme.specs.Round.{roundAdmits}
+use Rattle.round_scheme.specs.Round.{round_admits}
 use Rattle.round_scheme.proofs.Queries.{admits-facts, admitted-rows}
 use Rattle.round_code.specs.Steps.{RoundNumbers, DigitRows}
 
-pub fits-numbers : (N K S : ℕ) → roundFits N K S ≡ true → RoundNumbers N K
+pub fits-numbers : (N K S : ℕ) → round_fits N K S ≡ true → RoundNumbers N K
 fits-numbers N K S fits =
     let b = round-bounds N K S fits in
     record {
@@ -24,7 +24,7 @@ fits-numbers N K S fits =
     }
 
 -- a query that a server admits can be answered
-pub admitted-digits : (N K server : ℕ) (query : List ℕ) → roundAdmits N K server query ≡ true → DigitRows N K query
+pub admitted-digits : (N K server : ℕ) (query : List ℕ) → round_admits N K server query ≡ true → DigitRows N K query
 admitted-digits N K server query admits = record {
   long = (admits-facts N K server query admits).long;
   rows = admitted-rows N K server query admits;

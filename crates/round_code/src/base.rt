@@ -3,13 +3,13 @@ ghost use Rattle.std.specs.Prelude.{◌≡◌, true, ◌^◌, ◌≤◌, ◌<◌
 ghost use Rattle.lists.specs.Below.{all_below};
 ghost use Rattle.lists.specs.Padded.{padded};
 ghost use Rattle.round_scheme.specs.Round.{digits, number};
-ghost use Rattle.round_code.specs.Steps.{mostDigits};
+ghost use Rattle.round_code.specs.Steps.{most_digits};
 
 // The number's digits, `count` of them, and zeros behind them.
 pub fn digits_of(n: usize, count: usize, value: usize) -> [u8; 6]
     requires le_n { (2 ≤ n) × (n ≤ 16) }
-    requires count_le_most_digits { (count ≤ mostDigits) × (value < n ^ count) }
-    ensures { result ≡ padded mostDigits (digits n count value) }
+    requires count_le_most_digits { (count ≤ most_digits) × (value < n ^ count) }
+    ensures { result ≡ padded most_digits (digits n count value) }
 {
     let mut out = [0; 6];
     let mut rest = value;

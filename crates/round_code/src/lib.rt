@@ -3,14 +3,14 @@
 // goes once over what it reads and writes.
 ghost use Rattle.std.specs.Prelude.{◌≡◌, true, ◌-◌, ◌*◌, ◌≤◌, ◌<◌, length};
 ghost use Rattle.lists.specs.Parts.{put, lay};
-ghost use Rattle.lists.specs.Distinct.{isPermutation};
-ghost use Rattle.parameters.specs.Bounds.{blocks, roundFits};
-ghost use Rattle.parameters.specs.Measures.{roundSizes};
+ghost use Rattle.lists.specs.Distinct.{is_permutation};
+ghost use Rattle.parameters.specs.Bounds.{blocks, round_fits};
+ghost use Rattle.parameters.specs.Measures.{round_sizes};
 ghost use Rattle.symbol.specs.Operations.{sum_of};
-ghost use Rattle.scheme.specs.Scheme.{Valid, recoverIn};
-ghost use Rattle.scheme.specs.Asked.{placeNaming};
-ghost use Rattle.round_scheme.specs.Round.{roundQuery, roundAdmits, lengthBefore, roundAnswer, roundScheme};
-ghost use Rattle.round_scheme.specs.Asked.{blockRows};
+ghost use Rattle.scheme.specs.Scheme.{Valid, recover_in};
+ghost use Rattle.scheme.specs.Asked.{place_naming};
+ghost use Rattle.round_scheme.specs.Round.{round_query, round_admits, length_before, round_answer, round_scheme};
+ghost use Rattle.round_scheme.specs.Asked.{block_rows};
 ghost use Rattle.round_code.specs.Steps.{RoundNumbers, DigitRows};
 
 use scheme::Place;
@@ -23,9 +23,9 @@ mod rows;
 pub fn query(n: usize, k: usize, wanted: usize, server: usize, key: &[u8], out: &mut [u8])
     requires round_numbers { RoundNumbers n k }
     requires wanted_lt_k { (wanted < k) × (server < n) }
-    requires key_value { isPermutation (blocks n k) key.now ≡ true }
+    requires key_value { is_permutation (blocks n k) key.now ≡ true }
     requires k_in_bounds { blocks n k * k ≤ length out.old }
-    ensures { out.new ≡ put 0 (roundQuery n k wanted server key.now) out.old }
+    ensures { out.new ≡ put 0 (round_query n k wanted server key.now) out.old }
 {
     let mut i = 0;
     while i < key.len() {
@@ -41,7 +41,7 @@ fn rows_fresh(n: usize, k: usize, server: usize, query: &[u8], v: usize) -> bool
     requires round_numbers { RoundNumbers n k }
     requires v_value { v ≡ blocks n k }
     requires query_len { length query.now ≡ v * k }
-    ensures { result ≡ roundAdmits n k server query.now }
+    ensures { result ≡ round_admits n k server query.now }
 {
     let mut seen = [false; 64];
     let mut i = 0;
@@ -64,7 +64,7 @@ fn rows_fresh(n: usize, k: usize, server: usize, query: &[u8], v: usize) -> bool
 // Whether the server admits the query.
 pub fn admits(n: usize, k: usize, server: usize, query: &[u8]) -> bool
     requires { RoundNumbers n k }
-    ensures { result ≡ roundAdmits n k server query.now }
+    ensures { result ≡ round_admits n k server query.now }
 {
     let v = parameters::power(n, k - 1);
     if query.len() != v * k {
@@ -76,7 +76,7 @@ pub fn admits(n: usize, k: usize, server: usize, query: &[u8]) -> bool
 // The bytes that the first `count` rows of a query, of any bytes and length, call for together.
 fn length_before(k: usize, s: usize, query: &[u8], count: usize) -> usize
     requires { (k ≤ 7) × (s ≤ 4096) × (count ≤ 64) }
-    ensures { result ≡ lengthBefore k s query.now count }
+    ensures { result ≡ length_before k s query.now count }
 {
     let mut total = 0;
     let mut i = 0;
@@ -89,8 +89,8 @@ fn length_before(k: usize, s: usize, query: &[u8], count: usize) -> usize
 
 // The bytes that the query, of any bytes and length, calls for.
 pub fn answer_length(n: usize, k: usize, s: usize, query: &[u8]) -> usize
-    requires { roundFits n k s ≡ true }
-    ensures { result ≡ lengthBefore k s query.now (blocks n k) }
+    requires { round_fits n k s ≡ true }
+    ensures { result ≡ length_before k s query.now (blocks n k) }
 {
     let v = parameters::power(n, k - 1);
     length_before(k, s, query, v)
@@ -99,10 +99,10 @@ pub fn answer_length(n: usize, k: usize, s: usize, query: &[u8]) -> usize
 // Where the query names a symbol of a message: behind the answers to the rows before that of the symbol's block, if the message's digit there names it. One
 // digit is looked at, and the rows before it are gone over once.
 pub fn locate(n: usize, k: usize, s: usize, query: &[u8], message: usize, symbol: usize) -> Place
-    requires s_value { roundFits n k s ≡ true }
+    requires s_value { round_fits n k s ≡ true }
     requires digit_rows { DigitRows n k query.now }
     requires message_lt_k { (message < k) × (symbol < blocks n k * (n - 1)) }
-    ensures { result ≡ placeNaming s message symbol (blockRows n k query.now) }
+    ensures { result ≡ place_naming s message symbol (block_rows n k query.now) }
 {
     let block = symbol / (n - 1);
     let digit = query[block * k + message] as usize;
@@ -122,10 +122,10 @@ pub fn expected_length(
     server: usize,
     key: &[u8],
 ) -> usize
-    requires s_value { roundFits n k s ≡ true }
+    requires s_value { round_fits n k s ≡ true }
     requires wanted_lt_k { (wanted < k) × (server < n) }
-    requires key_value { isPermutation (blocks n k) key.now ≡ true }
-    ensures { result ≡ lengthBefore k s (roundQuery n k wanted server key.now) (blocks n k) }
+    requires key_value { is_permutation (blocks n k) key.now ≡ true }
+    ensures { result ≡ length_before k s (round_query n k wanted server key.now) (blocks n k) }
 {
     if server == 0 {
         return (key.len() - 1) * s;
@@ -143,11 +143,11 @@ pub fn answer(
     query: &[u8],
     out: &mut [u8],
 )
-    requires s_value { roundFits n k s ≡ true }
-    requires store_len { length store.now ≡ (roundSizes n k s).store }
+    requires s_value { round_fits n k s ≡ true }
+    requires store_len { length store.now ≡ (round_sizes n k s).store }
     requires digit_rows { DigitRows n k query.now }
-    requires k_in_bounds { lengthBefore k s query.now (blocks n k) ≤ length out.old }
-    ensures { out.new ≡ put 0 (roundAnswer (sum_of op) n k s store.now query.now) out.old }
+    requires k_in_bounds { length_before k s query.now (blocks n k) ≤ length out.old }
+    ensures { out.new ≡ put 0 (round_answer (sum_of op) n k s store.now query.now) out.old }
 {
     let v = parameters::power(n, k - 1);
     let stride = v * (n - 1);
@@ -174,12 +174,12 @@ pub fn recover(
     answers: &[u8],
     message: &mut [u8],
 )
-    requires s_value { roundFits n k s ≡ true }
+    requires s_value { round_fits n k s ≡ true }
     requires wanted_lt_k { wanted < k }
-    requires valid { Valid (roundScheme (sum_of op) n k s) key.now }
-    requires s_in_bounds { n * (roundSizes n k s).slot ≤ length answers.now }
+    requires valid { Valid (round_scheme (sum_of op) n k s) key.now }
+    requires s_in_bounds { n * (round_sizes n k s).slot ≤ length answers.now }
     ensures { message.new
-        ≡ lay 0 (recoverIn (roundScheme (sum_of op) n k s) n wanted key.now answers.now) message.old }
+        ≡ lay 0 (recover_in (round_scheme (sum_of op) n k s) n wanted key.now answers.now) message.old }
 {
     let slot = key.len() * s;
     let block = (n - 1) * s;

@@ -3,10 +3,10 @@ ghost use Rattle.std.specs.Prelude.{◌≡◌, cond, ◌+◌, ◌-◌, ◌*◌, 
 ghost use Rattle.lists.specs.Parts.{put, lay};
 ghost use Rattle.parameters.specs.Bounds.{blocks};
 ghost use Rattle.symbol.specs.Operations.{sum_of};
-ghost use Rattle.short_scheme.specs.Short.{keySum, shortQuery, shortAnswerLength, stridedAnswer};
+ghost use Rattle.short_scheme.specs.Short.{key_sum, short_query, short_answer_length, strided_answer};
 ghost use Rattle.short_scheme.specs.Rows.{RowStored};
-ghost use Rattle.round_scheme.specs.Round.{digits, rowLength};
-ghost use Rattle.round_code.specs.Steps.{RoundNumbers, rowStarts, blockFrom};
+ghost use Rattle.round_scheme.specs.Round.{digits, row_length};
+ghost use Rattle.round_code.specs.Steps.{RoundNumbers, row_starts, block_from};
 
 use crate::base;
 use short_rows::{answering, digits, recovering};
@@ -18,7 +18,7 @@ pub fn write_row(n: usize, k: usize, wanted: usize, server: usize, entry: usize,
     requires wanted_lt_k { (wanted < k) × (server < n) }
     requires bound { entry < blocks n k }
     requires out_len { length out.old ≡ k }
-    ensures { out.new ≡ shortQuery n wanted server (digits n (k - 1) entry) }
+    ensures { out.new ≡ short_query n wanted server (digits n (k - 1) entry) }
 {
     let last = k - 1;
     let short = base::digits_of(n, last, entry);
@@ -28,7 +28,7 @@ pub fn write_row(n: usize, k: usize, wanted: usize, server: usize, entry: usize,
 // The bytes that row i calls for, of a query of any length.
 pub fn row_length(k: usize, s: usize, query: &[u8], i: usize) -> usize
     requires { i * k + k < 2 ^ 64 }
-    ensures { result ≡ rowLength k s query.now i }
+    ensures { result ≡ row_length k s query.now i }
 {
     let from = i * k;
     if query.len() <= from {
@@ -55,9 +55,9 @@ pub fn answer_row(
 ) -> usize
     requires s_nonzero { 0 < s }
     requires row_stored { RowStored first stride s store.now row.now }
-    requires row_in_bounds { at + shortAnswerLength s row.now ≤ length out.old }
-    ensures value { result ≡ at + shortAnswerLength s row.now }
-    ensures out_after { out.new ≡ put at (stridedAnswer (sum_of op) first stride s store.now row.now) out.old }
+    requires row_in_bounds { at + short_answer_length s row.now ≤ length out.old }
+    ensures value { result ≡ at + short_answer_length s row.now }
+    ensures out_after { out.new ≡ put at (strided_answer (sum_of op) first stride s store.now row.now) out.old }
 {
     let written = answering::answer(op, first, stride, s, store, row, &mut out[at..]);
     at + written
@@ -67,7 +67,7 @@ pub fn answer_row(
 fn asked_none(n: usize, k: usize, entry: usize) -> usize
     requires round_numbers { RoundNumbers n k }
     requires bound { entry < blocks n k }
-    ensures { result ≡ keySum n (digits n (k - 1) entry) }
+    ensures { result ≡ key_sum n (digits n (k - 1) entry) }
 {
     let last = k - 1;
     let short = base::digits_of(n, last, entry);
@@ -87,7 +87,7 @@ pub fn first_length(s: usize, entry: usize) -> usize
 // Where the answers of 16 servers to one row begin.
 fn row_starts(slot: usize, before: usize, behind: usize) -> [usize; 16]
     requires { (slot ≤ 1048576) × (behind ≤ 1048576) }
-    ensures { result ≡ rowStarts slot before behind }
+    ensures { result ≡ row_starts slot before behind }
 {
     let mut starts = [before; 16];
     let mut m = 1;
@@ -117,7 +117,7 @@ pub fn recover_block(
     requires s_nonzero { (0 < s) × (s ≤ slot) × (slot ≤ 1048576) }
     requires s_bound { (before + s ≤ slot) × (behind + s ≤ slot) × (n * slot ≤ length answers.now) }
     ensures { message.new
-        ≡ lay at (blockFrom (sum_of op) n k s entry (rowStarts slot before behind) answers.now) message.old }
+        ≡ lay at (block_from (sum_of op) n k s entry (row_starts slot before behind) answers.now) message.old }
 {
     if message.len() <= at {
         return;

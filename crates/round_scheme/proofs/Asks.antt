@@ -10,69 +10,69 @@ use lib.ListN.{length}
 use Rattle.lists.specs.Below.{Below}
 use Rattle.lists.specs.Ranges.{range}
 use Rattle.lists.specs.Sums.{sum, All}
-use Rattle.lists.proofs.Below.{allBelow-below}
-use Rattle.lists.proofs.Cuts.{slot-end, flatMap-lengths}
+use Rattle.lists.proofs.Below.{all_below-below}
+use Rattle.lists.proofs.Cuts.{slot-end, flat_map-lengths}
 use Rattle.lists.proofs.Each.{All-flatMap, All-every}
-use Rattle.lists.proofs.Joined.{flatMap-all, flatMap-flatMap}
+use Rattle.lists.proofs.Joined.{flat_map-all, flat_map-flat_map}
 use Rattle.lists.proofs.Ranges.{All-range}
-use Rattle.lists.proofs.Sums.{sum-ext, sum-flatMap, sum-mul, sum-next}
+use Rattle.lists.proofs.Sums.{sum-ext, sum-flat_map, sum-mul, sum-next}
 use Rattle.parameters.specs.Bounds.{blocks}
-use Rattle.parameters.specs.Measures.{roundSizes}
+use Rattle.parameters.specs.Measures.{round_sizes}
 use Rattle.symbol.specs.Sum.{Sum, total}
 use Rattle.short_scheme.specs.Rows.{DigitRow}
-use Rattle.round_scheme.specs.Round.{row, rowLength, lengthBefore, rowAnswer, roundAnswer, roundScheme}
+use Rattle.round_scheme.specs.Round.{row, row_length, length_before, row_answer, round_answer, round_scheme}
 use Rattle.round_scheme.proofs.Queries.{admitted-rows}
-use Rattle.scheme.specs.Asked.{Cell, cellSymbol, rowsTotal, rowsAnswer, timesIn}
-use Rattle.short_scheme.specs.Asked.{digitRows}
-use Rattle.round_scheme.specs.Asked.{blockRows}
+use Rattle.scheme.specs.Asked.{Cell, cell_symbol, rows_total, rows_answer, times_in}
+use Rattle.short_scheme.specs.Asked.{digit_rows}
+use Rattle.round_scheme.specs.Asked.{block_rows}
 use Rattle.scheme.specs.Asks.{CellIn, Asks}
 use Rattle.short_scheme.proofs.Cells.{row-answered, row-length, rows_inside, rows-once, rows-block}
 
 lengths-joined : {A : Type 0} (g : ℕ → List A) (xs : List ℕ) → length (flat_map g xs) ≡ sum (λ i. length (g i)) xs
-lengths-joined g xs = flatMap-lengths g (λ i. length (g i)) (All-every (λ i. refl) xs)
+lengths-joined g xs = flat_map-lengths g (λ i. length (g i)) (All-every (λ i. refl) xs)
 
 module _ (N K : ℕ) where
   abbrev pub symbols : ℕ
   symbols = blocks N K * (N - 1)
 
-  abbrev pub rowsIn : List ℕ → ℕ → List (List Cell)
-  rowsIn query i = digitRows (i * (N - 1)) (row K query i)
+  abbrev pub rows_in : List ℕ → ℕ → List (List Cell)
+  rows_in query i = digit_rows (i * (N - 1)) (row K query i)
 
-  round-answered : (by : Sum) (S : ℕ) (store query : List ℕ) → roundAnswer by N K S store query ≡ rowsAnswer by symbols S store (blockRows N K query)
-  unfolding roundAnswer rowAnswer blockRows rowsTotal
+  round-answered : (by : Sum) (S : ℕ) (store query : List ℕ) → round_answer by N K S store query ≡ rows_answer by symbols S store (block_rows N K query)
+  unfolding round_answer row_answer block_rows rows_total
   round-answered by S store query =
-      flatMap-all (rowAnswer by N K S store query) (λ i. rowsAnswer by symbols S store (rowsIn query i))
+      flat_map-all (row_answer by N K S store query) (λ i. rows_answer by symbols S store (rows_in query i))
       (All-every (λ i. row-answered by symbols S store (i * (N - 1)) (row K query i)) (range 0 (blocks N K)))
-      ∙ sym (flatMap-flatMap (λ cells. total by S (map (cellSymbol symbols S store) cells)) (rowsIn query) (range 0 (blocks N K)))
+      ∙ sym (flat_map-flat_map (λ cells. total by S (map (cell_symbol symbols S store) cells)) (rows_in query) (range 0 (blocks N K)))
 
   -- the answers to the rows of the first blocks
-  pub first-length : (S : ℕ) (query : List ℕ) (count : ℕ) → lengthBefore K S query count ≡ length (flat_map (rowsIn query) (range 0 count)) * S
-  unfolding lengthBefore rowLength
+  pub first-length : (S : ℕ) (query : List ℕ) (count : ℕ) → length_before K S query count ≡ length (flat_map (rows_in query) (range 0 count)) * S
+  unfolding length_before row_length
   first-length S query count =
-      sum-ext (rowLength K S query) (λ i. S * length (rowsIn query i))
-      (λ i. row-length S (i * (N - 1)) (row K query i) ∙ mul_comm (length (rowsIn query i)) S) (range 0 count)
-      ∙ sum-mul S (λ i. length (rowsIn query i)) (range 0 count)
-      ∙ ap (λ (n : ℕ). S * n) (sym (lengths-joined (rowsIn query) (range 0 count)))
-      ∙ mul_comm S (length (flat_map (rowsIn query) (range 0 count)))
+      sum-ext (row_length K S query) (λ i. S * length (rows_in query i))
+      (λ i. row-length S (i * (N - 1)) (row K query i) ∙ mul_comm (length (rows_in query i)) S) (range 0 count)
+      ∙ sum-mul S (λ i. length (rows_in query i)) (range 0 count)
+      ∙ ap (λ (n : ℕ). S * n) (sym (lengths-joined (rows_in query) (range 0 count)))
+      ∙ mul_comm S (length (flat_map (rows_in query) (range 0 count)))
 
-  round-length : (S : ℕ) (query : List ℕ) → lengthBefore K S query (blocks N K) ≡ length (blockRows N K query) * S
-  unfolding blockRows
+  round-length : (S : ℕ) (query : List ℕ) → length_before K S query (blocks N K) ≡ length (block_rows N K query) * S
+  unfolding block_rows
   round-length S query = first-length S query (blocks N K)
 
   module _ (query : List ℕ) (rows : (i : ℕ) → i < blocks N K → DigitRow N K (row K query i)) where
     digits_low : (i : ℕ) → i < blocks N K → Below N (row K query i)
-    digits_low i h = allBelow-below N (row K query i) (rows i h).digits
+    digits_low i h = all_below-below N (row K query i) (rows i h).digits
 
-    round-inside : All (All (CellIn K symbols)) (blockRows N K query)
-    unfolding blockRows
+    round-inside : All (All (CellIn K symbols)) (block_rows N K query)
+    unfolding block_rows
     round-inside =
-        All-flatMap (rowsIn query) (All-range (blocks N K) (λ i h.
+        All-flatMap (rows_in query) (All-range (blocks N K) (λ i h.
         rows_inside N K symbols (i * (N - 1)) (row K query i) (omega (arith, (rows i h).long)) (slot-end i (blocks N K) (N - 1) h) (digits_low i h)))
 
     -- the rows of the first blocks: none names a symbol of a later block
     module _ (wide : 0 < N) (p s : ℕ) where
       abbrev pub times : ℕ → ℕ
-      times i = sum (timesIn p s) (rowsIn query i)
+      times i = sum (times_in p s) (rows_in query i)
 
       one_less : suc (N - 1) ≡ N
       one_less = omega arith
@@ -99,13 +99,13 @@ module _ (N K : ℕ) where
                     omega (arith, sum-next times n, before, none),
               )
 
-      round-once : sum (timesIn p s) (blockRows N K query) ≤ 1
-      unfolding blockRows
+      round-once : sum (times_in p s) (block_rows N K query) ≤ 1
+      unfolding block_rows
       round-once =
-          omega (arith, sum-flatMap (timesIn p s) (rowsIn query) (range 0 (blocks N K)), (first-blocks (blocks N K) (omega arith)).0)
+          omega (arith, sum-flat_map (times_in p s) (rows_in query) (range 0 (blocks N K)), (first-blocks (blocks N K) (omega arith)).0)
 
-pub round-asks : (by : Sum) (N K S : ℕ) → 0 < N → Asks by K S (roundScheme by N K S) (blockRows N K)
-unfolding roundSizes
+pub round-asks : (by : Sum) (N K S : ℕ) → 0 < N → Asks by K S (round_scheme by N K S) (block_rows N K)
+unfolding round_sizes
 round-asks by N K S wide = record {
   store-whole = ap (λ (n : ℕ). K * n) (sym (mul_assoc (blocks N K) (N - 1) S)) ∙ sym (mul_assoc K (blocks N K * (N - 1)) S);
   answers = round-answered N K by S;

@@ -6,7 +6,7 @@ use native.Mathlib.Nat.{mul_assoc, mul-le-mul_right, le_of_eq, le_trans}
 use native.Mathlib.Omega.{arith}
 use lib.ListN.{length, get_or}
 use Rattle.lists.specs.Below.{Below}
-use Rattle.lists.proofs.Below.{allBelow-below}
+use Rattle.lists.proofs.Below.{all_below-below}
 use Rattle.lists.proofs.Cuts.{slot-end}
 use Rattle.parameters.specs.Bounds.{blocks}
 use Rattle.short_scheme.specs.Rows.{DigitRow, RowStored}
@@ -28,4 +28,4 @@ module _ (N K S : ℕ) (store : List ℕ) (whole : length store ≡ K * (blocks 
   }
 
   pub row-stored : (row : List ℕ) → DigitRow N K row → RowStored (i * (N - 1)) (blocks N K * (N - 1)) S store row
-  row-stored row r = digits-in-block row (omega (arith, r.long)) (allBelow-below N row r.digits)
+  row-stored row r = digits-in-block row (omega (arith, r.long)) (all_below-below N row r.digits)

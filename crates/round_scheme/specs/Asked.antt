@@ -4,9 +4,9 @@ use mathlib.Core.List.{List, flat_map}
 use Rattle.lists.specs.Ranges.{range}
 use Rattle.parameters.specs.Bounds.{blocks}
 use Rattle.scheme.specs.Asked.{Cell}
-use Rattle.short_scheme.specs.Asked.{digitRows}
+use Rattle.short_scheme.specs.Asked.{digit_rows}
 use Rattle.round_scheme.specs.Round.{row}
 
 -- row i names symbols of block i only, and the row of zeros takes no bytes
-unfoldable pub blockRows : ℕ → ℕ → List ℕ → List (List Cell)
-blockRows N K query = flat_map (λ i. digitRows (i * (N - 1)) (row K query i)) (range 0 (blocks N K))
+unfoldable pub block_rows : ℕ → ℕ → List ℕ → List (List Cell)
+block_rows N K query = flat_map (λ i. digit_rows (i * (N - 1)) (row K query i)) (range 0 (blocks N K))

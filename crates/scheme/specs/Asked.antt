@@ -1,6 +1,6 @@
 -- What a query asks for, in every code in one and the same shape (document 02, item 13: whether a request names a piece): rows in the order of their
 -- answers, each a list of cells, a message and one of its symbols. A row that is answered with no bytes is none of them. The answer is the cells'
--- symbols combined, row by row (`rowsAnswer`). Each code says in its own crate which rows a query has: `digitRows`, `blockRows`, `layoutRows`.
+-- symbols combined, row by row (`rows_answer`). Each code says in its own crate which rows a query has: `digit_rows`, `block_rows`, `layout_rows`.
 use Rattle.std.specs.Prelude.{ℕ, ◌+◌, ◌*◌, Bool, not, cond, ◌&&◌, eqb}
 use mathlib.Core.List.{List, [], ◌∷◌, map, flat_map}
 use Rattle.lists.specs.Sums.{bit, sum}
@@ -13,29 +13,29 @@ abbrev pub Cell : Type 0
 Cell = ℕ × ℕ
 
 -- the symbol of a cell in a store whose messages have `symbols` symbols of S bytes
-abbrev pub cellSymbol : ℕ → ℕ → List ℕ → Cell → List ℕ
-cellSymbol symbols S store cell = symbol_at S store (cell.0 * symbols + cell.1)
+abbrev pub cell_symbol : ℕ → ℕ → List ℕ → Cell → List ℕ
+cell_symbol symbols S store cell = symbol_at S store (cell.0 * symbols + cell.1)
 
 -- of each row the cells' symbols combined, one row after another
-unfoldable pub rowsTotal : Sum → ℕ → (Cell → List ℕ) → List (List Cell) → List ℕ
-rowsTotal by S symbol_of rows = flat_map (λ cells. total by S (map symbol_of cells)) rows
+unfoldable pub rows_total : Sum → ℕ → (Cell → List ℕ) → List (List Cell) → List ℕ
+rows_total by S symbol_of rows = flat_map (λ cells. total by S (map symbol_of cells)) rows
 
-abbrev pub rowsAnswer : Sum → ℕ → ℕ → List ℕ → List (List Cell) → List ℕ
-rowsAnswer by symbols S store rows = rowsTotal by S (cellSymbol symbols S store) rows
+abbrev pub rows_answer : Sum → ℕ → ℕ → List ℕ → List (List Cell) → List ℕ
+rows_answer by symbols S store rows = rows_total by S (cell_symbol symbols S store) rows
 
 -- ---- Which row names a symbol
 
 -- the cell is symbol i of message p
-abbrev pub isCell : ℕ → ℕ → Cell → Bool
-isCell p i cell = eqb cell.0 p && eqb cell.1 i
+abbrev pub is_cell : ℕ → ℕ → Cell → Bool
+is_cell p i cell = eqb cell.0 p && eqb cell.1 i
 
 -- how often a row names it
-unfoldable pub timesIn : ℕ → ℕ → List Cell → ℕ
-timesIn p i cells = sum (λ cell. bit (isCell p i cell)) cells
+unfoldable pub times_in : ℕ → ℕ → List Cell → ℕ
+times_in p i cells = sum (λ cell. bit (is_cell p i cell)) cells
 
 -- a row names it
 abbrev pub named_in : ℕ → ℕ → List Cell → Bool
-named_in p i cells = not (eqb (timesIn p i cells) 0)
+named_in p i cells = not (eqb (times_in p i cells) 0)
 
 -- so many bytes later, if anywhere
 abbrev pub later : ℕ → Place → Place
@@ -43,6 +43,6 @@ later S Nowhere = Nowhere
 later S (At at) = At (S + at)
 
 -- where the answer to the first row that names it begins, if a row does
-unfoldable pub placeNaming : ℕ → ℕ → ℕ → List (List Cell) → Place
-placeNaming S p i [] = Nowhere
-placeNaming S p i (cells ∷ rows) = cond (named_in p i cells) (At 0) (later S (placeNaming S p i rows))
+unfoldable pub place_naming : ℕ → ℕ → ℕ → List (List Cell) → Place
+place_naming S p i [] = Nowhere
+place_naming S p i (cells ∷ rows) = cond (named_in p i cells) (At 0) (later S (place_naming S p i rows))

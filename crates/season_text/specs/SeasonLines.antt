@@ -3,43 +3,43 @@ use Rattle.std.specs.Prelude.{ℕ, Bool, cond, ◌&&◌, ◌||◌, List, [], ◌
 use Rattle.lists.specs.Ascii.{ascii}
 use Rattle.text_lines.specs.Lines.{begins}
 use Rattle.calendar.specs.declared.Day.{Day}
-use Rattle.calendar.specs.Calendar.{realDay, noDay, undated}
+use Rattle.calendar.specs.Calendar.{real_day, no_day, undated}
 use Rattle.season_text.specs.declared.DayLine.{DayLine}
 use Rattle.season_text.specs.declared.DayLine.TheVariants.{Value, Refused}
 use Rattle.season_text.specs.declared.Season.{Season}
 use Rattle.season_text.specs.declared.Season.TheVariants.{Of, Refused as NoSeason}
-use Rattle.season_text.specs.DayLines.{dayLineText, dayLine}
+use Rattle.season_text.specs.DayLines.{day_line_text, day_line}
 
-abbrev pub openName : List ℕ
-openName = ascii "open="
+abbrev pub open_name : List ℕ
+open_name = ascii "open="
 
-abbrev pub closeName : List ℕ
-closeName = ascii "close="
+abbrev pub close_name : List ℕ
+close_name = ascii "close="
 
 -- days that a text can hold: none, or two real ones, in any order
-unfoldable pub inForm : Day → Day → Bool
-inForm opening closing = undated opening closing || realDay opening && realDay closing
+unfoldable pub in_form : Day → Day → Bool
+in_form opening closing = undated opening closing || real_day opening && real_day closing
 
 -- the two lines; without dates, none
-unfoldable pub seasonText : Day → Day → List ℕ
-seasonText opening closing = cond (undated opening closing) [] (dayLineText openName opening ++ dayLineText closeName closing)
+unfoldable pub season_text : Day → Day → List ℕ
+season_text opening closing = cond (undated opening closing) [] (day_line_text open_name opening ++ day_line_text close_name closing)
 
 -- a line of one of the two names begins here
-unfoldable pub dateBegins : List ℕ → Bool
-dateBegins rest = begins openName rest || begins closeName rest
+unfoldable pub date_begins : List ℕ → Bool
+date_begins rest = begins open_name rest || begins close_name rest
 
 -- a line's day and the next place go on, or the reading ends
-abbrev pub onDay : DayLine → (Day → ℕ → Season) → Season
-onDay (Value day next) continue = continue day next
-onDay Refused continue = NoSeason
+abbrev pub on_day : DayLine → (Day → ℕ → Season) → Season
+on_day (Value day next) continue = continue day next
+on_day Refused continue = NoSeason
 
 -- The two lines at place `at`. Where a line of neither name begins, there are none; a lone line, or the second before the first, is out of form
-unfoldable pub seasonLines : List ℕ → ℕ → Season
-seasonLines text at =
-    cond (dateBegins (drop at text))
-    (onDay (dayLine openName text at) λ opening a. onDay (dayLine closeName text a) λ closing b. Of opening closing b)
-    (Of noDay noDay at)
+unfoldable pub season_lines : List ℕ → ℕ → Season
+season_lines text at =
+    cond (date_begins (drop at text))
+    (on_day (day_line open_name text at) λ opening a. on_day (day_line close_name text a) λ closing b. Of opening closing b)
+    (Of no_day no_day at)
 
 -- what stands behind the lines of two dates goes on with them: there are none, and one begins
-abbrev pub datesGoOn : Day → Day → List ℕ → Bool
-datesGoOn opening closing rest = undated opening closing && dateBegins rest
+abbrev pub dates_go_on : Day → Day → List ℕ → Bool
+dates_go_on opening closing rest = undated opening closing && date_begins rest

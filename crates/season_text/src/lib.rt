@@ -2,9 +2,9 @@
 // written at a place of a buffer.
 ghost use Rattle.std.specs.Prelude.{◌≡◌, ◌+◌, ◌-◌, ◌^◌, ◌≤◌, ◌<◌, length, take, drop};
 ghost use Rattle.lists.specs.Parts.{put};
-ghost use Rattle.text_lines.specs.Decimal.{valueFrom};
-ghost use Rattle.season_text.specs.DayLines.{lastDigit, dayText, dayLineText, dayIn, dayAt, dayLine};
-ghost use Rattle.season_text.specs.SeasonLines.{seasonText, dateBegins, seasonLines};
+ghost use Rattle.text_lines.specs.Decimal.{value_from};
+ghost use Rattle.season_text.specs.DayLines.{last_digit, day_text, day_line_text, day_in, day_at, day_line};
+ghost use Rattle.season_text.specs.SeasonLines.{season_text, date_begins, season_lines};
 
 use calendar::Day;
 
@@ -31,14 +31,14 @@ pub enum Season {
 
 // The byte of the last digit of n.
 fn last_digit(n: u32) -> u8
-    ensures { result ≡ lastDigit n }
+    ensures { result ≡ last_digit n }
 {
     48 + (n % 10) as u8
 }
 
 // The ten characters of a day, and byte 10.
 fn day_text(d: Day) -> [u8; 11]
-    ensures { result ≡ dayText d }
+    ensures { result ≡ day_text d }
 {
     [
         last_digit(d.year / 1000),
@@ -69,7 +69,7 @@ fn digit_value(byte: u8) -> u32
 // The number of the two digits at place i.
 fn pair_in(text: &[u8], i: usize) -> u32
     requires { i + 2 ≤ length text.now }
-    ensures value { result ≡ valueFrom 0 (take 2 (drop i text.now)) }
+    ensures value { result ≡ value_from 0 (take 2 (drop i text.now)) }
     ensures upper_bound { result ≤ 2277 }
 {
     digit_value(text[i]) * 10 + digit_value(text[i + 1])
@@ -78,7 +78,7 @@ fn pair_in(text: &[u8], i: usize) -> u32
 // The numbers that stand where a day's digits stand.
 fn day_in(text: &[u8]) -> Day
     requires { 11 ≤ length text.now }
-    ensures { result ≡ dayIn text.now }
+    ensures { result ≡ day_in text.now }
 {
     Day {
         year: pair_in(text, 0) * 100 + pair_in(text, 2),
@@ -90,7 +90,7 @@ fn day_in(text: &[u8]) -> Day
 // A real day and byte 10 at the start of the text, which begins at place `at`: written, the numbers there are what stands there.
 fn day(text: &[u8], at: usize) -> DayLine
     requires { at + length text.now < 2 ^ 63 }
-    ensures { result ≡ dayAt at text.now }
+    ensures { result ≡ day_at at text.now }
 {
     if text.len() < 11 {
         return DayLine::Refused;
@@ -112,7 +112,7 @@ fn day(text: &[u8], at: usize) -> DayLine
 
 // The line at place `at`: the name, a real day, and byte 10.
 pub fn day_line(name: &[u8], text: &[u8], at: usize) -> DayLine
-    ensures { result ≡ dayLine name.now text.now at }
+    ensures { result ≡ day_line name.now text.now at }
 {
     if text.len() < at {
         return DayLine::Refused;
@@ -126,7 +126,7 @@ pub fn day_line(name: &[u8], text: &[u8], at: usize) -> DayLine
 
 // Whether the text begins with one of the two names.
 fn date_begins(text: &[u8]) -> bool
-    ensures { result ≡ dateBegins text.now }
+    ensures { result ≡ date_begins text.now }
 {
     if text_lines::starts(b"open=", text) {
         return true;
@@ -136,7 +136,7 @@ fn date_begins(text: &[u8]) -> bool
 
 // The dates at place `at`: two lines, or none where no line of the two names begins.
 pub fn season_lines(text: &[u8], at: usize) -> Season
-    ensures { result ≡ seasonLines text.now at }
+    ensures { result ≡ season_lines text.now at }
 {
     let none = calendar::none();
     if text.len() < at {
@@ -176,9 +176,9 @@ pub fn season_lines(text: &[u8], at: usize) -> Season
 
 // Writes the line of a name and a day from place `at` on, and gives the place after it.
 pub fn put_day_line(out: &mut [u8], at: usize, name: &[u8], d: Day) -> usize
-    requires { at + length (dayLineText name.now d) ≤ length out.old }
-    ensures value { result ≡ at + length (dayLineText name.now d) }
-    ensures out_after { out.new ≡ put at (dayLineText name.now d) out.old }
+    requires { at + length (day_line_text name.now d) ≤ length out.old }
+    ensures value { result ≡ at + length (day_line_text name.now d) }
+    ensures out_after { out.new ≡ put at (day_line_text name.now d) out.old }
 {
     let text = day_text(d);
     let start = text_lines::put_bytes(out, at, name);
@@ -187,9 +187,9 @@ pub fn put_day_line(out: &mut [u8], at: usize, name: &[u8], d: Day) -> usize
 
 // Writes the two lines from place `at` on, none without dates, and gives the place after them.
 pub fn put_season(out: &mut [u8], at: usize, opening: Day, closing: Day) -> usize
-    requires { at + length (seasonText opening closing) ≤ length out.old }
-    ensures value { result ≡ at + length (seasonText opening closing) }
-    ensures out_after { out.new ≡ put at (seasonText opening closing) out.old }
+    requires { at + length (season_text opening closing) ≤ length out.old }
+    ensures value { result ≡ at + length (season_text opening closing) }
+    ensures out_after { out.new ≡ put at (season_text opening closing) out.old }
 {
     if calendar::are_none(opening, closing) {
         return at;
@@ -200,7 +200,7 @@ pub fn put_season(out: &mut [u8], at: usize, opening: Day, closing: Day) -> usiz
 
 // The bytes of the two lines.
 pub fn season_length(opening: Day, closing: Day) -> usize
-    ensures { result ≡ length (seasonText opening closing) }
+    ensures { result ≡ length (season_text opening closing) }
 {
     if calendar::are_none(opening, closing) {
         return 0;

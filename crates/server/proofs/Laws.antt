@@ -20,21 +20,21 @@ use Rattle.catalogue.specs.declared.Catalogue.{Catalogue}
 use Rattle.catalogue.specs.Catalogue.{Admitted}
 use Rattle.catalogue.specs.Days.{Served}
 use Rattle.catalogue.proofs.Faults.{day-passed, day-accepted}
-use Rattle.server.specs.Answering.{Answered, DidAnswer, written_by, answerVerdict, answerBy, answering}
+use Rattle.server.specs.Answering.{Answered, DidAnswer, written_by, answer_verdict, answer_by, answering}
 
-module _ (schemeOf : Catalogue → Scheme) where
+module _ (scheme_of : Catalogue → Scheme) where
   -- what an accepted verdict says
   pub record Answers (c : Catalogue) (day : Day) (server stored : ℕ) (query : List ℕ) (room : ℕ) : Type 0 where
     pub admitted : Admitted c
     pub served : Served c day
     pub below : server < c.servers
-    pub admits : (schemeOf c).admits server query ≡ true
-    pub store_long : stored ≡ (schemeOf c).sizes.store
-    pub roomy : (schemeOf c).answerLength query ≤ room
+    pub admits : (scheme_of c).admits server query ≡ true
+    pub store_long : stored ≡ (scheme_of c).sizes.store
+    pub roomy : (scheme_of c).answer_length query ≤ room
 
   pub answer-passed : (c : Catalogue) (day : Day) (server stored : ℕ) (query : List ℕ) (room : ℕ)
-      → answerVerdict schemeOf c day server stored query room ≡ Accepted → Answers c day server stored query room
-  unfolding answerVerdict
+      → answer_verdict scheme_of c day server stored query room ≡ Accepted → Answers c day server stored query room
+  unfolding answer_verdict
   answer-passed c day server stored query room e =
       let p = day-passed c day _ e in
       let n = p.2 in
@@ -43,22 +43,22 @@ module _ (schemeOf : Catalogue → Scheme) where
         served = p.1;
         below = leb-false c.servers server n.0;
         admits = not-false _ n.1.0;
-        store_long = eqb-true stored (schemeOf c).sizes.store (not-false _ n.1.1.0);
-        roomy = ltb-false room ((schemeOf c).answerLength query) n.1.1.1.0;
+        store_long = eqb-true stored (scheme_of c).sizes.store (not-false _ n.1.1.0);
+        roomy = ltb-false room ((scheme_of c).answer_length query) n.1.1.1.0;
       }
 
   pub answer-accepted : (c : Catalogue) (day : Day) (server stored : ℕ) (query : List ℕ) (room : ℕ)
-      → Answers c day server stored query room → answerVerdict schemeOf c day server stored query room ≡ Accepted
-  unfolding answerVerdict
+      → Answers c day server stored query room → answer_verdict scheme_of c day server stored query room ≡ Accepted
+  unfolding answer_verdict
   answer-accepted c day server stored query room a =
       day-accepted c day _ a.admitted a.served (
         lt-leb c.servers server a.below,
         (
           ap not a.admits,
           (
-            ap not (eq-eqb stored (schemeOf c).sizes.store a.store_long),
+            ap not (eq-eqb stored (scheme_of c).sizes.store a.store_long),
             (
-              le-ltb room ((schemeOf c).answerLength query) a.roomy,
+              le-ltb room ((scheme_of c).answer_length query) a.roomy,
               tt,
             ),
           ),
@@ -66,47 +66,47 @@ module _ (schemeOf : Catalogue → Scheme) where
       )
 
   -- an empty answer needs no room
-  pub answer-empty : (c : Catalogue) (day : Day) (server stored : ℕ) (query : List ℕ) (room : ℕ) → (schemeOf c).answerLength query ≡ 0
-      → answerVerdict schemeOf c day server stored query room ≡ answerVerdict schemeOf c day server stored query 0
-  unfolding answerVerdict
+  pub answer-empty : (c : Catalogue) (day : Day) (server stored : ℕ) (query : List ℕ) (room : ℕ) → (scheme_of c).answer_length query ≡ 0
+      → answer_verdict scheme_of c day server stored query room ≡ answer_verdict scheme_of c day server stored query 0
+  unfolding answer_verdict
   answer-empty c day server stored query room e = rw (e, le-ltb room 0 (omega arith))
 
   module _ (c : Catalogue) (day : Day) (server : ℕ) (store query buffer : List ℕ) where
     -- answering goes by its verdict
-    pub answer-by : (v : Verdict) → v ≡ answerVerdict schemeOf c day server (length store) query (length buffer)
-        → answering schemeOf c day server store query buffer ≡ answerBy schemeOf c store query buffer v
+    pub answer-by : (v : Verdict) → v ≡ answer_verdict scheme_of c day server (length store) query (length buffer)
+        → answering scheme_of c day server store query buffer ≡ answer_by scheme_of c store query buffer v
     unfolding answering
-    answer-by v e = ap (answerBy schemeOf c store query buffer) (sym e)
+    answer-by v e = ap (answer_by scheme_of c store query buffer) (sym e)
 
     -- refused, it leaves the buffer as it was
-    pub answer-refused : (v : Verdict) (refusal : Refusal) → v ≡ answerVerdict schemeOf c day server (length store) query (length buffer) → v ≡ Refused refusal
-        → DidAnswer (answering schemeOf c day server store query buffer) (NoValue refusal) buffer
+    pub answer-refused : (v : Verdict) (refusal : Refusal) → v ≡ answer_verdict scheme_of c day server (length store) query (length buffer) → v ≡ Refused refusal
+        → DidAnswer (answering scheme_of c day server store query buffer) (NoValue refusal) buffer
     answer-refused v refusal e p = rw (answer-by v e, p) (record { outcome = refl; buffer = refl })
 
-    pub answer-done : (v : Verdict) (size : ℕ) (after : List ℕ) → v ≡ answerVerdict schemeOf c day server (length store) query (length buffer) → v ≡ Accepted
-        → size ≡ (schemeOf c).answerLength query → after ≡ put 0 ((schemeOf c).answer store query) buffer
-        → DidAnswer (answering schemeOf c day server store query buffer) (Value size) after
+    pub answer-done : (v : Verdict) (size : ℕ) (after : List ℕ) → v ≡ answer_verdict scheme_of c day server (length store) query (length buffer) → v ≡ Accepted
+        → size ≡ (scheme_of c).answer_length query → after ≡ put 0 ((scheme_of c).answer store query) buffer
+        → DidAnswer (answering scheme_of c day server store query buffer) (Value size) after
     answer-done v size after e p q a = rw (answer-by v e, p, q) (record { outcome = refl; buffer = a })
 
   -- Of a code that keeps its promises: the bytes that answering wrote are the answer, and the rest of the buffer is as it was
-  module _ (c : Catalogue) (laws : Laws c.servers c.messages (schemeOf c)) (day : Day) (server : ℕ) (store query buffer : List ℕ) where
+  module _ (c : Catalogue) (laws : Laws c.servers c.messages (scheme_of c)) (day : Day) (server : ℕ) (store query buffer : List ℕ) where
     whole-answer : Answers c day server (length store) query (length buffer)
-        → take ((schemeOf c).answerLength query) (put 0 ((schemeOf c).answer store query) buffer) ≡ (schemeOf c).answer store query
-    whole-answer a = take_at ((schemeOf c).answer store query) (drop (length ((schemeOf c).answer store query)) buffer) ((schemeOf c).answerLength query)
+        → take ((scheme_of c).answer_length query) (put 0 ((scheme_of c).answer store query) buffer) ≡ (scheme_of c).answer store query
+    whole-answer a = take_at ((scheme_of c).answer store query) (drop (length ((scheme_of c).answer store query)) buffer) ((scheme_of c).answer_length query)
         (laws.answer-length server store query a.store_long a.admits)
 
     abbrev did : Answered
-    did = answering schemeOf c day server store query buffer
+    did = answering scheme_of c day server store query buffer
 
-    pub writes-answer : answerVerdict schemeOf c day server (length store) query (length buffer) ≡ Accepted
-        → written_by did.outcome did.buffer ≡ (schemeOf c).answer store query
+    pub writes-answer : answer_verdict scheme_of c day server (length store) query (length buffer) ≡ Accepted
+        → written_by did.outcome did.buffer ≡ (scheme_of c).answer store query
     writes-answer e =
         rw (answer-by c day server store query buffer Accepted (sym e)) (whole-answer (answer-passed c day server (length store) query (length buffer) e))
 
     pub writes-only : did.buffer ≡ put 0 (written_by did.outcome did.buffer) buffer
-    writes-only = go (answerVerdict schemeOf c day server (length store) query (length buffer)) refl
+    writes-only = go (answer_verdict scheme_of c day server (length store) query (length buffer)) refl
       where
-        go : (v : Verdict) → v ≡ answerVerdict schemeOf c day server (length store) query (length buffer)
+        go : (v : Verdict) → v ≡ answer_verdict scheme_of c day server (length store) query (length buffer)
             → did.buffer ≡ put 0 (written_by did.outcome did.buffer) buffer
         go Accepted e =
             rw (answer-by c day server store query buffer Accepted e, whole-answer (answer-passed c day server (length store) query (length buffer) (sym e)))

@@ -7,23 +7,23 @@ use lib.ListN.{length}
 use Rattle.lists.specs.Distinct.{stands}
 use Rattle.refusal.specs.declared.Verdict.{Verdict}
 use Rattle.refusal.specs.Within.{ValueWithin}
-use Rattle.refusal.proofs.Within.{faultsNamed, faults-within, value-within}
+use Rattle.refusal.proofs.Within.{faults_named, faults-within, value-within}
 use Rattle.scheme.specs.Scheme.{Scheme}
 use Rattle.calendar.specs.declared.Day.{Day}
 use Rattle.catalogue.specs.declared.Catalogue.{Catalogue}
-use Rattle.server.specs.Answering.{answerFaults, answerVerdict, answerBy, answering}
-use Rattle.server.specs.Numbers.{answerNumbers, AnswerNumbers}
+use Rattle.server.specs.Answering.{answer_faults, answer_verdict, answer_by, answering}
+use Rattle.server.specs.Numbers.{answer_numbers, AnswerNumbers}
 
-module _ (schemeOf : Catalogue → Scheme) where
+module _ (scheme_of : Catalogue → Scheme) where
   pub answer-within : (numbers : List ℕ) (c : Catalogue) (day : Day) (server : ℕ) (store query buffer : List ℕ)
-      → faultsNamed numbers (answerFaults schemeOf c day server (length store) query (length buffer)) ≡ true
-      → ValueWithin numbers (answering schemeOf c day server store query buffer).outcome
-  unfolding answering answerVerdict
+      → faults_named numbers (answer_faults scheme_of c day server (length store) query (length buffer)) ≡ true
+      → ValueWithin numbers (answering scheme_of c day server store query buffer).outcome
+  unfolding answering answer_verdict
   answer-within numbers c day server store query buffer e =
-      value-within numbers (λ (v : Verdict). (answerBy schemeOf c store query buffer v).outcome) ((schemeOf c).answerLength query) refl (λ refusal. refl)
-      (answerVerdict schemeOf c day server (length store) query (length buffer))
-      (faults-within numbers (answerFaults schemeOf c day server (length store) query (length buffer)) _ e refl)
+      value-within numbers (λ (v : Verdict). (answer_by scheme_of c store query buffer v).outcome) ((scheme_of c).answer_length query) refl (λ refusal. refl)
+      (answer_verdict scheme_of c day server (length store) query (length buffer))
+      (faults-within numbers (answer_faults scheme_of c day server (length store) query (length buffer)) _ e refl)
 
-  pub answer-numbers : AnswerNumbers schemeOf
+  pub answer-numbers : AnswerNumbers scheme_of
   unfolding stands
-  answer-numbers c day server store query buffer = answer-within answerNumbers c day server store query buffer refl
+  answer-numbers c day server store query buffer = answer-within answer_numbers c day server store query buffer refl

@@ -10,8 +10,8 @@ use Rattle.refusal.specs.Foremost.{Fault, fault, foremost}
 use Rattle.scheme.specs.Scheme.{Scheme}
 use Rattle.calendar.specs.declared.Day.{Day}
 use Rattle.catalogue.specs.declared.Catalogue.{Catalogue}
-use Rattle.catalogue.specs.Catalogue.{catalogueFaults}
-use Rattle.catalogue.specs.Days.{dayFaults}
+use Rattle.catalogue.specs.Catalogue.{catalogue_faults}
+use Rattle.catalogue.specs.Days.{day_faults}
 
 -- What answering returns, the answer's length unless it is refused, and the buffer as it leaves it
 pub record Answered : Type 0 where
@@ -28,28 +28,28 @@ pub record DidAnswer (answered : Answered) (result : Outcome) (after : List ℕ)
   pub outcome : result ≡ answered.outcome
   pub buffer : after ≡ answered.buffer
 
-module _ (schemeOf : Catalogue → Scheme) where
-  -- answerFaults c day server stored query room: from the lengths of the store and of the buffer. No room is too little for an empty answer
-  abbrev pub answerFaults : Catalogue → Day → ℕ → ℕ → List ℕ → ℕ → List Fault
-  answerFaults c day server stored query room =
-      catalogueFaults c
-      ++ (dayFaults c day
+module _ (scheme_of : Catalogue → Scheme) where
+  -- answer_faults c day server stored query room: from the lengths of the store and of the buffer. No room is too little for an empty answer
+  abbrev pub answer_faults : Catalogue → Day → ℕ → ℕ → List ℕ → ℕ → List Fault
+  answer_faults c day server stored query room =
+      catalogue_faults c
+      ++ (day_faults c day
       ++ (fault 3 (leb c.servers server)
-      ∷ fault 7 (not ((schemeOf c).admits server query))
-      ∷ fault 8 (not (eqb stored (schemeOf c).sizes.store))
-      ∷ fault 9 (ltb room ((schemeOf c).answerLength query))
+      ∷ fault 7 (not ((scheme_of c).admits server query))
+      ∷ fault 8 (not (eqb stored (scheme_of c).sizes.store))
+      ∷ fault 9 (ltb room ((scheme_of c).answer_length query))
       ∷ []))
 
-  unfoldable pub answerVerdict : Catalogue → Day → ℕ → ℕ → List ℕ → ℕ → Verdict
-  answerVerdict c day server stored query room = foremost (answerFaults c day server stored query room)
+  unfoldable pub answer_verdict : Catalogue → Day → ℕ → ℕ → List ℕ → ℕ → Verdict
+  answer_verdict c day server stored query room = foremost (answer_faults c day server stored query room)
 
-  abbrev pub answerBy : Catalogue → List ℕ → List ℕ → List ℕ → Verdict → Answered
-  answerBy c store query buffer Accepted = record {
-    outcome = Value ((schemeOf c).answerLength query);
-    buffer = put 0 ((schemeOf c).answer store query) buffer;
+  abbrev pub answer_by : Catalogue → List ℕ → List ℕ → List ℕ → Verdict → Answered
+  answer_by c store query buffer Accepted = record {
+    outcome = Value ((scheme_of c).answer_length query);
+    buffer = put 0 ((scheme_of c).answer store query) buffer;
   }
-  answerBy c store query buffer (Refused refusal) = record { outcome = NoValue refusal; buffer = buffer }
+  answer_by c store query buffer (Refused refusal) = record { outcome = NoValue refusal; buffer = buffer }
 
   -- answering c day server store query buffer
   unfoldable pub answering : Catalogue → Day → ℕ → List ℕ → List ℕ → List ℕ → Answered
-  answering c day server store query buffer = answerBy c store query buffer (answerVerdict c day server (length store) query (length buffer))
+  answering c day server store query buffer = answer_by c store query buffer (answer_verdict c day server (length store) query (length buffer))

@@ -5,13 +5,13 @@ use Rattle.refusal.specs.Within.{ValueWithin}
 use Rattle.scheme.specs.Scheme.{Scheme}
 use Rattle.calendar.specs.declared.Day.{Day}
 use Rattle.catalogue.specs.declared.Catalogue.{Catalogue}
-use Rattle.catalogue.specs.Catalogue.{catalogueNumbers}
-use Rattle.catalogue.specs.Days.{dayNumbers}
+use Rattle.catalogue.specs.Catalogue.{catalogue_numbers}
+use Rattle.catalogue.specs.Days.{day_numbers}
 use Rattle.server.specs.Answering.{answering}
 
-abbrev pub answerNumbers : List ℕ
-answerNumbers = catalogueNumbers ++ (dayNumbers ++ (3 ∷ 7 ∷ 8 ∷ 9 ∷ []))
+abbrev pub answer_numbers : List ℕ
+answer_numbers = catalogue_numbers ++ (day_numbers ++ (3 ∷ 7 ∷ 8 ∷ 9 ∷ []))
 
 abbrev pub AnswerNumbers : (Catalogue → Scheme) → Type 0
-AnswerNumbers schemeOf = (c : Catalogue) (day : Day) (server : ℕ) (store query buffer : List ℕ)
-    → ValueWithin answerNumbers (answering schemeOf c day server store query buffer).outcome
+AnswerNumbers scheme_of = (c : Catalogue) (day : Day) (server : ℕ) (store query buffer : List ℕ)
+    → ValueWithin answer_numbers (answering scheme_of c day server store query buffer).outcome

@@ -1,7 +1,7 @@
 // The answering end, a server's (01: mirror): a query is checked, and answered from the store.
 ghost use Rattle.std.specs.Prelude.{◌≡◌};
-ghost use Rattle.codes.specs.Codes.{schemeOf};
-ghost use Rattle.server.specs.Answering.{DidAnswer, answerVerdict, answering};
+ghost use Rattle.codes.specs.Codes.{scheme_of};
+ghost use Rattle.server.specs.Answering.{DidAnswer, answer_verdict, answering};
 
 use calendar::Day;
 use catalogue::{Catalogue, Measured};
@@ -16,7 +16,7 @@ fn verdict(
     query: &[u8],
     room: usize,
 ) -> Verdict
-    ensures { result ≡ answerVerdict schemeOf c today server stored query.now room }
+    ensures { result ≡ answer_verdict scheme_of c today server stored query.now room }
 {
     let Measured::Of(sizes) = catalogue::sizes(c) else {
         return catalogue::verdict(c);
@@ -48,7 +48,7 @@ pub fn answer(
     query: &[u8],
     out: &mut [u8],
 ) -> Outcome
-    ensures { DidAnswer (answering schemeOf c today server store.now query.now out.old) result out.new }
+    ensures { DidAnswer (answering scheme_of c today server store.now query.now out.old) result out.new }
 {
     if let Verdict::Refused(refusal) = verdict(c, today, server, store.len(), query, out.len()) {
         return Outcome::Refused(refusal);

@@ -7,14 +7,14 @@ use Rattle.refusal.specs.declared.Verdict.TheVariants.{Accepted, Refused}
 use Rattle.refusal.specs.declared.Outcome.TheVariants.{Value, Refused as NoValue}
 use Rattle.scheme.specs.Scheme.{Scheme}
 use Rattle.catalogue.specs.declared.Catalogue.{Catalogue}
-use Rattle.catalogue.specs.Catalogue.{catalogueVerdict}
+use Rattle.catalogue.specs.Catalogue.{catalogue_verdict}
 use Rattle.session.specs.Calls.{slots_of, bound}
 
-module _ (schemeOf : Catalogue → Scheme) (c : Catalogue) where
-  pub bound-done : (v : Verdict) → v ≡ catalogueVerdict c → v ≡ Accepted → bound schemeOf c ≡ Value (slots_of schemeOf c)
+module _ (scheme_of : Catalogue → Scheme) (c : Catalogue) where
+  pub bound-done : (v : Verdict) → v ≡ catalogue_verdict c → v ≡ Accepted → bound scheme_of c ≡ Value (slots_of scheme_of c)
   unfolding bound
   bound-done v e p = rw (← e, p)
 
-  pub bound-refused : (v : Verdict) (refusal : Refusal) → v ≡ catalogueVerdict c → v ≡ Refused refusal → bound schemeOf c ≡ NoValue refusal
+  pub bound-refused : (v : Verdict) (refusal : Refusal) → v ≡ catalogue_verdict c → v ≡ Refused refusal → bound scheme_of c ≡ NoValue refusal
   unfolding bound
   bound-refused v refusal e p = rw (← e, p)

@@ -9,73 +9,73 @@ use borrow.Author.Tests.{lt-leb, ltb-false, le-ltb, not-false}
 use Rattle.lists.specs.Parts.{put}
 use Rattle.refusal.specs.declared.Verdict.{Verdict}
 use Rattle.refusal.specs.declared.Verdict.TheVariants.{Accepted}
-use Rattle.refusal.specs.Chain.{refuseIf, and_then}
+use Rattle.refusal.specs.Chain.{refuse_if, and_then}
 use Rattle.refusal.proofs.Accepted.{first-accepted}
 use Rattle.scheme.specs.Scheme.{Scheme}
 use Rattle.calendar.specs.declared.Day.{Day}
 use Rattle.catalogue.specs.declared.Catalogue.{Catalogue}
-use Rattle.catalogue.specs.Days.{dayVerdict, Served}
+use Rattle.catalogue.specs.Days.{day_verdict, Served}
 use Rattle.catalogue.proofs.Faults.{after-day}
 use Rattle.session.specs.declared.Session.{Session}
-use Rattle.session_parts.specs.Meters.{mostBytes, counted}
-use Rattle.session.specs.Fields.{markIssued}
-use Rattle.session.specs.Calls.{code_of, queryOf, askFaultsOn, issueVerdict, issueBy, issue}
+use Rattle.session_parts.specs.Meters.{most_bytes, counted}
+use Rattle.session.specs.Fields.{mark_issued}
+use Rattle.session.specs.Calls.{code_of, query_of, ask_faults_on, issue_verdict, issue_by, issue}
 use Rattle.session_checks.proofs.Links.{served-passed}
 use Rattle.session.proofs.Sound.{Sound, holds-sound}
 use Rattle.session.proofs.Goes.{Goes, goes}
 
-module _ (schemeOf : Catalogue → Scheme) (s : Session) (day : Day) (server : ℕ) where
+module _ (scheme_of : Catalogue → Scheme) (s : Session) (day : Day) (server : ℕ) where
   -- what an accepted verdict says
   pub record Issues (room : ℕ) : Type 0 where
-    pub sound : Sound schemeOf s
+    pub sound : Sound scheme_of s
     pub served : Served s.catalogue day
     pub below : server < s.catalogue.servers
-    pub roomy : (code_of schemeOf s).sizes.query ≤ room
-    pub counts : counted s.meters.sent server + (code_of schemeOf s).sizes.query ≤ mostBytes
+    pub roomy : (code_of scheme_of s).sizes.query ≤ room
+    pub counts : counted s.meters.sent server + (code_of scheme_of s).sizes.query ≤ most_bytes
 
-  pub issue-passed : (room : ℕ) → issueVerdict schemeOf s day server room ≡ Accepted → Issues room
-  unfolding issueVerdict
+  pub issue-passed : (room : ℕ) → issue_verdict scheme_of s day server room ≡ Accepted → Issues room
+  unfolding issue_verdict
   issue-passed room e =
-      let p = first-accepted (askFaultsOn schemeOf s day server) _ e in
-      let q = served-passed schemeOf s.catalogue s.wanted s.key day server p.0 in
+      let p = first-accepted (ask_faults_on scheme_of s day server) _ e in
+      let q = served-passed scheme_of s.catalogue s.wanted s.key day server p.0 in
       let a = q.0 in
       record {
-        sound = holds-sound schemeOf s a.holds (not-false _ p.1.1.0) (not-false _ p.1.1.1.0);
+        sound = holds-sound scheme_of s a.holds (not-false _ p.1.1.0) (not-false _ p.1.1.1.0);
         served = q.1;
         below = a.below;
-        roomy = ltb-false room (code_of schemeOf s).sizes.query p.1.0;
-        counts = ltb-false mostBytes (counted s.meters.sent server + (code_of schemeOf s).sizes.query) p.1.1.1.1.0;
+        roomy = ltb-false room (code_of scheme_of s).sizes.query p.1.0;
+        counts = ltb-false most_bytes (counted s.meters.sent server + (code_of scheme_of s).sizes.query) p.1.1.1.1.0;
       }
 
   -- of a sound session, the day, the server, the room and the server's meter are left to ask
-  pub issue-sound : Sound schemeOf s → (room : ℕ)
-      → issueVerdict schemeOf s day server room
-      ≡ and_then (dayVerdict s.catalogue day)
-      (refuseIf (leb s.catalogue.servers server) 3 (refuseIf (ltb room (code_of schemeOf s).sizes.query) 9
-      (refuseIf (ltb mostBytes (counted s.meters.sent server + (code_of schemeOf s).sizes.query)) 16 Accepted)))
-  unfolding issueVerdict
+  pub issue-sound : Sound scheme_of s → (room : ℕ)
+      → issue_verdict scheme_of s day server room
+      ≡ and_then (day_verdict s.catalogue day)
+      (refuse_if (leb s.catalogue.servers server) 3 (refuse_if (ltb room (code_of scheme_of s).sizes.query) 9
+      (refuse_if (ltb most_bytes (counted s.meters.sent server + (code_of scheme_of s).sizes.query)) 16 Accepted)))
+  unfolding issue_verdict
   issue-sound sound room =
-      sym (after-day s.catalogue day _ refl (dayVerdict s.catalogue day) _ sound.admitted refl
+      sym (after-day s.catalogue day _ refl (day_verdict s.catalogue day) _ sound.admitted refl
       (rw (lt-leb s.catalogue.messages s.wanted sound.inside, sound.good, sound.marks, sound.meters)))
 
-  pub issue-accepted : (room : ℕ) → Issues room → issueVerdict schemeOf s day server room ≡ Accepted
+  pub issue-accepted : (room : ℕ) → Issues room → issue_verdict scheme_of s day server room ≡ Accepted
   issue-accepted room i =
       rw (
         issue-sound i.sound room,
         i.served,
         lt-leb s.catalogue.servers server i.below,
-        le-ltb room (code_of schemeOf s).sizes.query i.roomy,
-        le-ltb mostBytes (counted s.meters.sent server + (code_of schemeOf s).sizes.query) i.counts,
+        le-ltb room (code_of scheme_of s).sizes.query i.roomy,
+        le-ltb most_bytes (counted s.meters.sent server + (code_of scheme_of s).sizes.query) i.counts,
       )
 
   module _ (buffer : List ℕ) where
-    pub issue-goes : Goes (issue schemeOf s day server buffer) (issueVerdict schemeOf s day server (length buffer))
-        s (markIssued s server (code_of schemeOf s).sizes.query) buffer (put 0 (queryOf schemeOf s server) buffer)
+    pub issue-goes : Goes (issue scheme_of s day server buffer) (issue_verdict scheme_of s day server (length buffer))
+        s (mark_issued s server (code_of scheme_of s).sizes.query) buffer (put 0 (query_of scheme_of s server) buffer)
     unfolding issue
     issue-goes =
-        goes s (markIssued s server (code_of schemeOf s).sizes.query) buffer (put 0 (queryOf schemeOf s server) buffer)
-        (issueVerdict schemeOf s day server (length buffer))
+        goes s (mark_issued s server (code_of scheme_of s).sizes.query) buffer (put 0 (query_of scheme_of s server) buffer)
+        (issue_verdict scheme_of s day server (length buffer))
 
-    pub issue-by : (v : Verdict) → v ≡ issueVerdict schemeOf s day server (length buffer)
-        → issue schemeOf s day server buffer ≡ issueBy schemeOf s server buffer v
+    pub issue-by : (v : Verdict) → v ≡ issue_verdict scheme_of s day server (length buffer)
+        → issue scheme_of s day server buffer ≡ issue_by scheme_of s server buffer v
     issue-by = issue-goes.by

@@ -6,9 +6,9 @@ use denote.Laws.{Is}
 use denote.Struct.Declared.{row}
 use lib.ListN.{length}
 use mir.Val.{Val}
-use Rattle.parameters.specs.Measures.{keyPlaces}
+use Rattle.parameters.specs.Measures.{key_places}
 use Rattle.session.specs.declared.Session.{Session}
 use Rattle.session.specs.contracts.Session.{the_type}
 
-pub key-places : (s : Session) (values : List Val) → Is (row the_type) s values → length s.key ≡ keyPlaces
+pub key-places : (s : Session) (values : List Val) → Is (row the_type) s values → length s.key ≡ key_places
 key-places s values good = search rules

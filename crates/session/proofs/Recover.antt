@@ -10,62 +10,62 @@ use borrow.Author.Tests.{ltb-false, not-false}
 use Rattle.lists.specs.Parts.{put}
 use Rattle.refusal.specs.declared.Verdict.{Verdict}
 use Rattle.refusal.specs.declared.Verdict.TheVariants.{Accepted, Refused}
-use Rattle.refusal.specs.Chain.{refuseIf}
-use Rattle.refusal.proofs.Foremost.{after_first}
+use Rattle.refusal.specs.Chain.{refuse_if}
+use Rattle.refusal.proofs.Foremost.{after_first_lem}
 use Rattle.refusal.proofs.Accepted.{first-accepted}
 use Rattle.scheme.specs.Scheme.{Scheme}
 use Rattle.catalogue.specs.declared.Catalogue.{Catalogue}
 use Rattle.session.specs.declared.Session.{Session}
-use Rattle.session_parts.specs.Marks.{allTaken}
-use Rattle.session.specs.Calls.{slots_of, ownFaults, wantedLength, recoveredMessage, recoverVerdict, recoverBy, recover}
+use Rattle.session_parts.specs.Marks.{all_taken}
+use Rattle.session.specs.Calls.{slots_of, own_faults, wanted_length, recovered_message, recover_verdict, recover_by, recover}
 use Rattle.session_checks.proofs.Links.{session-passed, session-accepted}
 use Rattle.session.proofs.Sound.{Sound, holds-sound, sound-holds}
 use Rattle.session.proofs.Goes.{Goes, goes}
 
-module _ (schemeOf : Catalogue → Scheme) (s : Session) where
+module _ (scheme_of : Catalogue → Scheme) (s : Session) where
   -- what an accepted verdict says
-  pub record Recovers (answersRoom room : ℕ) : Type 0 where
-    pub sound : Sound schemeOf s
-    pub slots-fit : slots_of schemeOf s.catalogue ≤ answersRoom
-    pub roomy : wantedLength schemeOf s ≤ room
-    pub all-taken : allTaken s.catalogue.servers s.taken ≡ true
+  pub record Recovers (answers_room room : ℕ) : Type 0 where
+    pub sound : Sound scheme_of s
+    pub slots-fit : slots_of scheme_of s.catalogue ≤ answers_room
+    pub roomy : wanted_length scheme_of s ≤ room
+    pub all-taken : all_taken s.catalogue.servers s.taken ≡ true
 
-  pub recover-passed : (answersRoom room : ℕ) → recoverVerdict schemeOf s answersRoom room ≡ Accepted → Recovers answersRoom room
-  unfolding recoverVerdict
-  recover-passed answersRoom room e =
-      let p = first-accepted (ownFaults schemeOf s) _ e in
+  pub recover-passed : (answers_room room : ℕ) → recover_verdict scheme_of s answers_room room ≡ Accepted → Recovers answers_room room
+  unfolding recover_verdict
+  recover-passed answers_room room e =
+      let p = first-accepted (own_faults scheme_of s) _ e in
       let n = p.1 in
       record {
-        sound = holds-sound schemeOf s (session-passed schemeOf s.catalogue s.wanted s.key p.0) (not-false _ n.1.1.0)
+        sound = holds-sound scheme_of s (session-passed scheme_of s.catalogue s.wanted s.key p.0) (not-false _ n.1.1.0)
             (not-false _ n.1.1.1.0);
-        slots-fit = ltb-false answersRoom (slots_of schemeOf s.catalogue) n.0;
-        roomy = ltb-false room (wantedLength schemeOf s) n.1.0;
+        slots-fit = ltb-false answers_room (slots_of scheme_of s.catalogue) n.0;
+        roomy = ltb-false room (wanted_length scheme_of s) n.1.0;
         all-taken = not-false _ n.1.1.1.1.0;
       }
 
   -- of a sound session, the rooms and the answers are left to ask
-  pub recover-verdict : Sound schemeOf s → (answersRoom room : ℕ)
-      → recoverVerdict schemeOf s answersRoom room
-      ≡ refuseIf (ltb answersRoom (slots_of schemeOf s.catalogue)) 9
-      (refuseIf (ltb room (wantedLength schemeOf s)) 9 (refuseIf (not (allTaken s.catalogue.servers s.taken)) 12 Accepted))
-  unfolding recoverVerdict
-  recover-verdict sound answersRoom room =
-      let own = session-accepted schemeOf s.catalogue s.wanted s.key (sound-holds schemeOf s sound) in
-      sym (after_first (ownFaults schemeOf s) _ refl refl Accepted _ (sym own) (rw (sound.marks, sound.meters)))
+  pub recover-verdict : Sound scheme_of s → (answers_room room : ℕ)
+      → recover_verdict scheme_of s answers_room room
+      ≡ refuse_if (ltb answers_room (slots_of scheme_of s.catalogue)) 9
+      (refuse_if (ltb room (wanted_length scheme_of s)) 9 (refuse_if (not (all_taken s.catalogue.servers s.taken)) 12 Accepted))
+  unfolding recover_verdict
+  recover-verdict sound answers_room room =
+      let own = session-accepted scheme_of s.catalogue s.wanted s.key (sound-holds scheme_of s sound) in
+      sym (after_first_lem (own_faults scheme_of s) _ refl refl Accepted _ (sym own) (rw (sound.marks, sound.meters)))
 
   module _ (answers buffer : List ℕ) where
-    pub recover-goes : Goes (recover schemeOf s answers buffer) (recoverVerdict schemeOf s (length answers) (length buffer))
-        s s buffer (put 0 (recoveredMessage schemeOf s answers) buffer)
+    pub recover-goes : Goes (recover scheme_of s answers buffer) (recover_verdict scheme_of s (length answers) (length buffer))
+        s s buffer (put 0 (recovered_message scheme_of s answers) buffer)
     unfolding recover
-    recover-goes = goes s s buffer (put 0 (recoveredMessage schemeOf s answers) buffer) (recoverVerdict schemeOf s (length answers) (length buffer))
+    recover-goes = goes s s buffer (put 0 (recovered_message scheme_of s answers) buffer) (recover_verdict scheme_of s (length answers) (length buffer))
 
-    pub recover-by : (v : Verdict) → v ≡ recoverVerdict schemeOf s (length answers) (length buffer)
-        → recover schemeOf s answers buffer ≡ recoverBy schemeOf s answers buffer v
+    pub recover-by : (v : Verdict) → v ≡ recover_verdict scheme_of s (length answers) (length buffer)
+        → recover scheme_of s answers buffer ≡ recover_by scheme_of s answers buffer v
     recover-by = recover-goes.by
 
-    pub recover-same : (recover schemeOf s answers buffer).handed.session ≡ s
-    recover-same = go (recoverVerdict schemeOf s (length answers) (length buffer)) refl
+    pub recover-same : (recover scheme_of s answers buffer).handed.session ≡ s
+    recover-same = go (recover_verdict scheme_of s (length answers) (length buffer)) refl
       where
-        go : (v : Verdict) → v ≡ recoverVerdict schemeOf s (length answers) (length buffer) → (recover schemeOf s answers buffer).handed.session ≡ s
+        go : (v : Verdict) → v ≡ recover_verdict scheme_of s (length answers) (length buffer) → (recover scheme_of s answers buffer).handed.session ≡ s
         go Accepted e = rw (recover-by Accepted e)
         go (Refused refusal) e = rw (recover-by (Refused refusal) e)

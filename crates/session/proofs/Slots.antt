@@ -15,31 +15,31 @@ use Rattle.lists.proofs.ReadBack.{cut-put, cut-put-before, cut-put-after}
 use Rattle.lists.proofs.Mapped.{map_range}
 use Rattle.refusal.specs.declared.Verdict.{Verdict}
 use Rattle.refusal.specs.declared.Verdict.TheVariants.{Accepted, Refused}
-use Rattle.scheme.specs.Scheme.{Scheme, answersIn}
+use Rattle.scheme.specs.Scheme.{Scheme, answers_in}
 use Rattle.catalogue.specs.declared.Catalogue.{Catalogue}
 use Rattle.session.specs.declared.Session.{Session}
-use Rattle.session.specs.Calls.{code_of, key_of, queryOf, takeVerdict, takeBy, takeAnswer, wantedLength, recoveredMessage}
-use Rattle.session.proofs.Take.{Takes, take_by}
+use Rattle.session.specs.Calls.{code_of, key_of, query_of, take_verdict, take_by, take_answer, wanted_length, recovered_message}
+use Rattle.session.proofs.Take.{Takes, take_by_lem}
 
-module _ (schemeOf : Catalogue → Scheme) (s : Session) where
+module _ (scheme_of : Catalogue → Scheme) (s : Session) where
   -- the length of a slot, and of the answer that is called for at a server
   abbrev slot : ℕ
-  slot = (code_of schemeOf s).sizes.slot
+  slot = (code_of scheme_of s).sizes.slot
 
   abbrev size : ℕ → ℕ
-  size server = (code_of schemeOf s).answerLength (queryOf schemeOf s server)
+  size server = (code_of scheme_of s).answer_length (query_of scheme_of s server)
 
-  pub take-empty : (server : ℕ) (buffer : List ℕ) → (takeAnswer schemeOf s server [] buffer).buffer ≡ buffer
-  take-empty server buffer = go (takeVerdict schemeOf s server 0 (length buffer)) refl
+  pub take-empty : (server : ℕ) (buffer : List ℕ) → (take_answer scheme_of s server [] buffer).buffer ≡ buffer
+  take-empty server buffer = go (take_verdict scheme_of s server 0 (length buffer)) refl
     where
-      go : (v : Verdict) → v ≡ takeVerdict schemeOf s server 0 (length buffer) → (takeAnswer schemeOf s server [] buffer).buffer ≡ buffer
-      go Accepted e = rw (take_by schemeOf s server [] buffer Accepted e) (take-append-drop (server * slot) buffer)
-      go (Refused refusal) e = rw (take_by schemeOf s server [] buffer (Refused refusal) e)
+      go : (v : Verdict) → v ≡ take_verdict scheme_of s server 0 (length buffer) → (take_answer scheme_of s server [] buffer).buffer ≡ buffer
+      go Accepted e = rw (take_by_lem scheme_of s server [] buffer Accepted e) (take-append-drop (server * slot) buffer)
+      go (Refused refusal) e = rw (take_by_lem scheme_of s server [] buffer (Refused refusal) e)
 
   -- a take that was not refused, of an answer that fits a slot
-  module _ (server : ℕ) (answer buffer : List ℕ) (t : Takes schemeOf s server (length answer) (length buffer)) (fits : size server ≤ slot) where
+  module _ (server : ℕ) (answer buffer : List ℕ) (t : Takes scheme_of s server (length answer) (length buffer)) (fits : size server ≤ slot) where
     abbrev after : List ℕ
-    after = (takeBy schemeOf s server answer buffer Accepted).buffer
+    after = (take_by scheme_of s server answer buffer Accepted).buffer
 
     ends : server * slot + length answer ≤ length buffer
     ends = omega (arith, slot-end server s.catalogue.servers slot t.below, t.sized, t.roomy)
@@ -61,8 +61,8 @@ module _ (schemeOf : Catalogue → Scheme) (s : Session) where
 
   pub recover-reads : (answers others : List ℕ)
       → ((server : ℕ) → server < s.catalogue.servers → cut (server * slot) (size server) answers ≡ cut (server * slot) (size server) others)
-      → recoveredMessage schemeOf s answers ≡ recoveredMessage schemeOf s others
-  unfolding answersIn
+      → recovered_message scheme_of s answers ≡ recovered_message scheme_of s others
+  unfolding answers_in
   recover-reads answers others same =
-      ap (λ (given : List (List ℕ)). take (wantedLength schemeOf s) ((code_of schemeOf s).recover s.wanted (key_of schemeOf s) given))
+      ap (λ (given : List (List ℕ)). take (wanted_length scheme_of s) ((code_of scheme_of s).recover s.wanted (key_of scheme_of s) given))
       (map_range 0 s.catalogue.servers _ _ (λ server l u. let h : server < s.catalogue.servers = omega arith in same server h))

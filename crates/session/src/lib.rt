@@ -1,11 +1,11 @@
 // The session: one fetch, from its key to its message, passed from call to call by value. Its calls are defined in specs/Calls.antt.
 // Each has a function for its verdict; refused, it hands back what it was given, else it writes, and marks the session.
 ghost use Rattle.std.specs.Prelude.{◌≡◌, ◌+◌, ◌≤◌, ◌<◌, length};
-ghost use Rattle.codes.specs.Codes.{schemeOf};
+ghost use Rattle.codes.specs.Codes.{scheme_of};
 ghost use Rattle.session_parts.specs.Meters.{counted};
-ghost use Rattle.session.specs.Fields.{zeroSession, newSession, markIssued, markTaken};
+ghost use Rattle.session.specs.Fields.{zero_session, new_session, mark_issued, mark_taken};
 ghost use Rattle.session.specs.Calls.{Did};
-ghost use Rattle.session.specs.Calls.{begin as begin·, issue as issue·, takeAnswer, recover as recover·, bound as bound·};
+ghost use Rattle.session.specs.Calls.{begin as begin·, issue as issue·, take_answer, recover as recover·, bound as bound·};
 
 use calendar::Day;
 use catalogue::Catalogue;
@@ -42,7 +42,7 @@ pub struct Handed {
 // A session at the start of a fetch.
 fn new_session(catalogue: Catalogue, wanted: usize, key: &[u8]) -> Session
     requires { length key.now ≤ 2048 }
-    ensures { result ≡ newSession catalogue wanted key.now }
+    ensures { result ≡ new_session catalogue wanted key.now }
 {
     let places = session_parts::padded_key(key);
     Session {
@@ -57,7 +57,7 @@ fn new_session(catalogue: Catalogue, wanted: usize, key: &[u8]) -> Session
 
 // An upper bound on the bytes that a fetch receives: N slots.
 pub fn bound(catalogue: Catalogue) -> Outcome
-    ensures { result ≡ bound· schemeOf catalogue }
+    ensures { result ≡ bound· scheme_of catalogue }
 {
     if let Verdict::Refused(refusal) = catalogue::verdict(catalogue) {
         return Outcome::Refused(refusal);
@@ -69,7 +69,7 @@ pub fn bound(catalogue: Catalogue) -> Outcome
 impl Session {
     // Zeros, the code short, the sum exclusive or: a first value, that the session of a fetch takes the place of, and what a refused begin hands back.
     pub fn blank() -> Session
-        ensures { result ≡ zeroSession }
+        ensures { result ≡ zero_session }
     {
         Session {
             catalogue: catalogue::zero(),
@@ -83,7 +83,7 @@ impl Session {
 
     // Begins a fetch, in a new session; the old one is not read.
     pub fn begin(self, catalogue: Catalogue, wanted: usize, key: &[u8]) -> Handed
-        ensures { result ≡ begin· schemeOf catalogue wanted key.now }
+        ensures { result ≡ begin· scheme_of catalogue wanted key.now }
     {
         let verdict = verdicts::begin_verdict(catalogue, wanted, key);
         if let Verdict::Refused(_) = verdict {
@@ -100,7 +100,7 @@ impl Session {
 
     // Writes a server's query (01: a mirror's request) at the start of `query`, on a day in the catalogue's season; again, the same bytes.
     pub fn issue(self, today: Day, server: usize, query: &mut [u8]) -> Handed
-        ensures { Did (issue· schemeOf self today server query.old) result query.new }
+        ensures { Did (issue· scheme_of self today server query.old) result query.new }
     {
         let verdict = verdicts::issue_verdict(self, today, server, query.len());
         if let Verdict::Refused(_) = verdict {
@@ -119,7 +119,7 @@ impl Session {
 
     // Takes a server's answer, into the server's slot of `answers`.
     pub fn take(self, server: usize, answer: &[u8], answers: &mut [u8]) -> Handed
-        ensures { Did (takeAnswer schemeOf self server answer.now answers.old) result answers.new }
+        ensures { Did (take_answer scheme_of self server answer.now answers.old) result answers.new }
     {
         let verdict = verdicts::take_verdict(self, server, answer.len(), answers.len());
         if let Verdict::Refused(_) = verdict {
@@ -138,7 +138,7 @@ impl Session {
 
     // Writes the wanted message (01: pack) at the start of `message`, from the answers in their slots; the session stays as it was.
     pub fn recover(self, answers: &[u8], message: &mut [u8]) -> Handed
-        ensures { Did (recover· schemeOf self answers.now message.old) result message.new }
+        ensures { Did (recover· scheme_of self answers.now message.old) result message.new }
     {
         let verdict = verdicts::recover_verdict(self, answers.len(), message.len());
         if let Verdict::Refused(_) = verdict {
@@ -159,7 +159,7 @@ impl Session {
     fn mark_issued(mut self, server: usize, bytes: usize) -> Self
         requires server_bound { server < 16 }
         requires bytes_bound { counted self.meters.sent server + bytes ≤ 4294967295 }
-        ensures { result ≡ markIssued self server bytes }
+        ensures { result ≡ mark_issued self server bytes }
     {
         self.issued[server] = true;
         self.meters = session_parts::count_issued(self.meters, server, bytes);
@@ -170,7 +170,7 @@ impl Session {
     fn mark_taken(mut self, server: usize, bytes: usize) -> Self
         requires server_bound { server < 16 }
         requires bytes_bound { counted self.meters.got server + bytes ≤ 4294967295 }
-        ensures { result ≡ markTaken self server bytes }
+        ensures { result ≡ mark_taken self server bytes }
     {
         self.taken[server] = true;
         self.meters = session_parts::count_taken(self.meters, server, bytes);

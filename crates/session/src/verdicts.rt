@@ -1,7 +1,7 @@
 // The verdicts of the session's calls, from the session's own fields and the call's inputs: the faults of each, in their order.
 ghost use Rattle.std.specs.Prelude.{◌≡◌};
-ghost use Rattle.codes.specs.Codes.{schemeOf};
-ghost use Rattle.session.specs.Calls.{beginVerdict, issueVerdict, takeVerdict, recoverVerdict};
+ghost use Rattle.codes.specs.Codes.{scheme_of};
+ghost use Rattle.session.specs.Calls.{begin_verdict, issue_verdict, take_verdict, recover_verdict};
 
 use crate::Session;
 use calendar::Day;
@@ -11,7 +11,7 @@ use session_checks::keyed;
 
 // Whether a fetch can begin.
 pub fn begin_verdict(catalogue: Catalogue, wanted: usize, key: &[u8]) -> Verdict
-    ensures { result ≡ beginVerdict schemeOf catalogue wanted key.now }
+    ensures { result ≡ begin_verdict scheme_of catalogue wanted key.now }
 {
     if let Verdict::Refused(refusal) = catalogue::verdict(catalogue) {
         return Verdict::Refused(refusal);
@@ -31,7 +31,7 @@ pub fn begin_verdict(catalogue: Catalogue, wanted: usize, key: &[u8]) -> Verdict
 
 // Whether a query can be issued today.
 pub fn issue_verdict(s: Session, today: Day, server: usize, room: usize) -> Verdict
-    ensures { result ≡ issueVerdict schemeOf s today server room }
+    ensures { result ≡ issue_verdict scheme_of s today server room }
 {
     let key = s.key;
     if let Verdict::Refused(refusal) = session_checks::served_verdict(
@@ -62,7 +62,7 @@ pub fn issue_verdict(s: Session, today: Day, server: usize, room: usize) -> Verd
 
 // Whether an answer of `size` bytes can be taken.
 pub fn take_verdict(s: Session, server: usize, size: usize, room: usize) -> Verdict
-    ensures { result ≡ takeVerdict schemeOf s server size room }
+    ensures { result ≡ take_verdict scheme_of s server size room }
 {
     let key = s.key;
     if let Verdict::Refused(refusal) = session_checks::server_verdict(
@@ -95,7 +95,7 @@ pub fn take_verdict(s: Session, server: usize, size: usize, room: usize) -> Verd
 
 // Whether the message can be recovered.
 pub fn recover_verdict(s: Session, answers: usize, message: usize) -> Verdict
-    ensures { result ≡ recoverVerdict schemeOf s answers message }
+    ensures { result ≡ recover_verdict scheme_of s answers message }
 {
     let key = s.key;
     if let Verdict::Refused(refusal) = session_checks::session_verdict(

@@ -2,9 +2,9 @@
 ghost use Rattle.std.specs.Prelude.{◌≡◌, true, ◌*◌, ◌≤◌, ◌<◌, length};
 ghost use Rattle.lists.specs.Parts.{put};
 ghost use Rattle.catalogue.specs.Catalogue.{Admitted};
-ghost use Rattle.codes.specs.Codes.{schemeOf};
-ghost use Rattle.codes.specs.Messages.{messageLength, recoveredIn};
-ghost use Rattle.session_checks.specs.Checks.{usedPlaces};
+ghost use Rattle.codes.specs.Codes.{scheme_of};
+ghost use Rattle.codes.specs.Messages.{message_length, recovered_in};
+ghost use Rattle.session_checks.specs.Checks.{used_places};
 
 use catalogue::{Catalogue, Measured};
 use parameters::Sizes;
@@ -12,7 +12,7 @@ use parameters::Sizes;
 // The sizes of an admitted catalogue, which has them all: the last arm is for no such catalogue.
 pub fn sizes_of(c: Catalogue) -> Sizes
     requires { Admitted c }
-    ensures { result ≡ (schemeOf c).sizes }
+    ensures { result ≡ (scheme_of c).sizes }
 {
     match catalogue::sizes(c) {
         Measured::Of(sizes) => sizes,
@@ -31,7 +31,7 @@ pub fn sizes_of(c: Catalogue) -> Sizes
 pub fn key_good(c: Catalogue, places: &[u8]) -> bool
     requires admitted { Admitted c }
     requires places_len { length places.now ≡ 2048 }
-    ensures { result ≡ (schemeOf c).keyGood (usedPlaces schemeOf c places.now) }
+    ensures { result ≡ (scheme_of c).key_good (used_places scheme_of c places.now) }
 {
     let sizes = sizes_of(c);
     let size = sizes.key;
@@ -49,10 +49,10 @@ pub fn write_query(
     requires admitted { Admitted c }
     requires places_len { length places.now ≡ 2048 }
     requires wanted_lt_messages { (wanted < c.messages) × (server < c.servers) }
-    requires places_value { (schemeOf c).keyGood (usedPlaces schemeOf c places.now) ≡ true }
-    requires c_in_bounds { (schemeOf c).sizes.query ≤ length query.old }
-    ensures value { result ≡ (schemeOf c).sizes.query }
-    ensures query_after { query.new ≡ put 0 ((schemeOf c).query wanted server (usedPlaces schemeOf c places.now)) query.old }
+    requires places_value { (scheme_of c).key_good (used_places scheme_of c places.now) ≡ true }
+    requires c_in_bounds { (scheme_of c).sizes.query ≤ length query.old }
+    ensures value { result ≡ (scheme_of c).sizes.query }
+    ensures query_after { query.new ≡ put 0 ((scheme_of c).query wanted server (used_places scheme_of c places.now)) query.old }
 {
     let sizes = sizes_of(c);
     let size = sizes.key;
@@ -65,8 +65,8 @@ pub fn answer_length(c: Catalogue, wanted: usize, places: &[u8], server: usize) 
     requires admitted { Admitted c }
     requires places_len { length places.now ≡ 2048 }
     requires wanted_lt_messages { (wanted < c.messages) × (server < c.servers) }
-    requires places_value { (schemeOf c).keyGood (usedPlaces schemeOf c places.now) ≡ true }
-    ensures { result ≡ (schemeOf c).answerLength ((schemeOf c).query wanted server (usedPlaces schemeOf c places.now)) }
+    requires places_value { (scheme_of c).key_good (used_places scheme_of c places.now) ≡ true }
+    ensures { result ≡ (scheme_of c).answer_length ((scheme_of c).query wanted server (used_places scheme_of c places.now)) }
 {
     let sizes = sizes_of(c);
     let size = sizes.key;
@@ -76,7 +76,7 @@ pub fn answer_length(c: Catalogue, wanted: usize, places: &[u8], server: usize) 
 // The bytes of the wanted message.
 pub fn message_length(c: Catalogue, wanted: usize) -> usize
     requires { Admitted c }
-    ensures { result ≡ messageLength schemeOf c wanted }
+    ensures { result ≡ message_length scheme_of c wanted }
 {
     let sizes = sizes_of(c);
     lengths::length_of(c.lengths, sizes.message, wanted)
@@ -87,11 +87,11 @@ pub fn write_message(c: Catalogue, wanted: usize, places: &[u8], answers: &[u8],
     requires admitted { Admitted c }
     requires places_len { length places.now ≡ 2048 }
     requires wanted_lt_messages { wanted < c.messages }
-    requires places_value { (schemeOf c).keyGood (usedPlaces schemeOf c places.now) ≡ true }
-    requires c_in_bounds { c.servers * (schemeOf c).sizes.slot ≤ length answers.now }
-    requires wanted_in_bounds { messageLength schemeOf c wanted ≤ length message.old }
+    requires places_value { (scheme_of c).key_good (used_places scheme_of c places.now) ≡ true }
+    requires c_in_bounds { c.servers * (scheme_of c).sizes.slot ≤ length answers.now }
+    requires wanted_in_bounds { message_length scheme_of c wanted ≤ length message.old }
     ensures { message.new
-        ≡ put 0 (recoveredIn schemeOf c wanted (usedPlaces schemeOf c places.now) answers.now) message.old }
+        ≡ put 0 (recovered_in scheme_of c wanted (used_places scheme_of c places.now) answers.now) message.old }
 {
     let sizes = sizes_of(c);
     let size = sizes.key;

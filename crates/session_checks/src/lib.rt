@@ -5,9 +5,9 @@ ghost use Rattle.refusal.specs.Foremost.{foremost};
 ghost use Rattle.refusal.specs.Chain.{chain};
 ghost use Rattle.scheme.specs.Scheme.{Valid};
 ghost use Rattle.catalogue.specs.Catalogue.{Admitted};
-ghost use Rattle.codes.specs.Codes.{schemeOf};
-ghost use Rattle.session_checks.specs.Checks.{fieldFaults, sessionFaults, namedFaults, serverFaults, servedFaults};
-ghost use Rattle.session_checks.specs.Checks.{historyFaults, fullFault, dueFaults, missingFault};
+ghost use Rattle.codes.specs.Codes.{scheme_of};
+ghost use Rattle.session_checks.specs.Checks.{field_faults, session_faults, named_faults, server_faults, served_faults};
+ghost use Rattle.session_checks.specs.Checks.{history_faults, full_fault, due_faults, missing_fault};
 
 use calendar::Day;
 use catalogue::Catalogue;
@@ -23,7 +23,7 @@ mod metered;
 fn fields_verdict(c: Catalogue, wanted: usize, places: &[u8]) -> Verdict
     requires admitted { Admitted c }
     requires places_len { length places.now ≡ 2048 }
-    ensures { result ≡ chain (fieldFaults schemeOf c wanted places.now) }
+    ensures { result ≡ chain (field_faults scheme_of c wanted places.now) }
 {
     if c.messages <= wanted {
         return Verdict::Refused(Refusal::Wanted);
@@ -38,7 +38,7 @@ fn fields_verdict(c: Catalogue, wanted: usize, places: &[u8]) -> Verdict
 fn named_verdict(c: Catalogue, wanted: usize, places: &[u8], server: usize) -> Verdict
     requires admitted { Admitted c }
     requires places_len { length places.now ≡ 2048 }
-    ensures { result ≡ chain (namedFaults schemeOf c wanted places.now server) }
+    ensures { result ≡ chain (named_faults scheme_of c wanted places.now server) }
 {
     if c.servers <= server {
         return Verdict::Refused(Refusal::Server);
@@ -49,7 +49,7 @@ fn named_verdict(c: Catalogue, wanted: usize, places: &[u8], server: usize) -> V
 // Whether a session with these fields can take from this server.
 pub fn server_verdict(c: Catalogue, wanted: usize, places: &[u8], server: usize) -> Verdict
     requires { length places.now ≡ 2048 }
-    ensures { result ≡ foremost (serverFaults schemeOf c wanted places.now server) }
+    ensures { result ≡ foremost (server_faults scheme_of c wanted places.now server) }
 {
     if let Verdict::Refused(refusal) = catalogue::verdict(c) {
         return Verdict::Refused(refusal);
@@ -66,7 +66,7 @@ pub fn served_verdict(
     server: usize,
 ) -> Verdict
     requires { length places.now ≡ 2048 }
-    ensures { result ≡ foremost (servedFaults schemeOf c today wanted places.now server) }
+    ensures { result ≡ foremost (served_faults scheme_of c today wanted places.now server) }
 {
     if let Verdict::Refused(refusal) = catalogue::verdict(c) {
         return Verdict::Refused(refusal);
@@ -80,7 +80,7 @@ pub fn served_verdict(
 // Whether a session with these fields can be recovered from, its answers and buffers apart.
 pub fn session_verdict(c: Catalogue, wanted: usize, places: &[u8]) -> Verdict
     requires { length places.now ≡ 2048 }
-    ensures { result ≡ foremost (sessionFaults schemeOf c wanted places.now) }
+    ensures { result ≡ foremost (session_faults scheme_of c wanted places.now) }
 {
     if let Verdict::Refused(refusal) = catalogue::verdict(c) {
         return Verdict::Refused(refusal);
@@ -99,10 +99,10 @@ fn history_verdict<'a>(
     m: Meters,
 ) -> Verdict
     requires admitted { Admitted c }
-    requires query_value { query ≡ (schemeOf c).sizes.query }
+    requires query_value { query ≡ (scheme_of c).sizes.query }
     requires wanted_lt_messages { wanted < c.messages }
-    requires valid { Valid (schemeOf c) key.now }
-    ensures { result ≡ chain (historyFaults schemeOf c wanted key.now issued.now taken.now m) }
+    requires valid { Valid (scheme_of c) key.now }
+    ensures { result ≡ chain (history_faults scheme_of c wanted key.now issued.now taken.now m) }
 {
     if !session_parts::marks_good(c.servers, issued, taken) {
         return Verdict::Refused(Refusal::History);
@@ -125,12 +125,12 @@ pub fn sent_verdict<'a>(
     server: usize,
 ) -> Verdict
     requires admitted { Admitted c }
-    requires query_value { query ≡ (schemeOf c).sizes.query }
+    requires query_value { query ≡ (scheme_of c).sizes.query }
     requires wanted_lt_messages { wanted < c.messages }
-    requires valid { Valid (schemeOf c) key.now }
+    requires valid { Valid (scheme_of c) key.now }
     requires server_bound { server < 16 }
-    ensures { result ≡ chain (historyFaults schemeOf c wanted key.now issued.now taken.now m
-        ++ (fullFault m server (schemeOf c).sizes.query ∷ [])) }
+    ensures { result ≡ chain (history_faults scheme_of c wanted key.now issued.now taken.now m
+        ++ (full_fault m server (scheme_of c).sizes.query ∷ [])) }
 {
     if let Verdict::Refused(refusal) = history_verdict(c, query, wanted, key, issued, taken, m) {
         return Verdict::Refused(refusal);
@@ -153,12 +153,12 @@ pub fn due_verdict<'a>(
     server: usize,
 ) -> Verdict
     requires admitted { Admitted c }
-    requires query_value { query ≡ (schemeOf c).sizes.query }
+    requires query_value { query ≡ (scheme_of c).sizes.query }
     requires wanted_lt_messages { wanted < c.messages }
-    requires valid { Valid (schemeOf c) key.now }
+    requires valid { Valid (scheme_of c) key.now }
     requires server_bound { server < 16 }
-    ensures { result ≡ chain (historyFaults schemeOf c wanted key.now issued.now taken.now m
-        ++ dueFaults issued.now taken.now server) }
+    ensures { result ≡ chain (history_faults scheme_of c wanted key.now issued.now taken.now m
+        ++ due_faults issued.now taken.now server) }
 {
     if let Verdict::Refused(refusal) = history_verdict(c, query, wanted, key, issued, taken, m) {
         return Verdict::Refused(refusal);
@@ -183,12 +183,12 @@ pub fn missing_verdict<'a>(
     m: Meters,
 ) -> Verdict
     requires admitted { Admitted c }
-    requires query_value { query ≡ (schemeOf c).sizes.query }
+    requires query_value { query ≡ (scheme_of c).sizes.query }
     requires wanted_lt_messages { wanted < c.messages }
-    requires valid { Valid (schemeOf c) key.now }
+    requires valid { Valid (scheme_of c) key.now }
     requires servers_bound { c.servers ≤ 16 }
-    ensures { result ≡ chain (historyFaults schemeOf c wanted key.now issued.now taken.now m
-        ++ (missingFault c.servers taken.now ∷ [])) }
+    ensures { result ≡ chain (history_faults scheme_of c wanted key.now issued.now taken.now m
+        ++ (missing_fault c.servers taken.now ∷ [])) }
 {
     if let Verdict::Refused(refusal) = history_verdict(c, query, wanted, key, issued, taken, m) {
         return Verdict::Refused(refusal);

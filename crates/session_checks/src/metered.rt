@@ -2,10 +2,10 @@
 ghost use Rattle.std.specs.Prelude.{◌≡◌, true, ◌<◌};
 ghost use Rattle.scheme.specs.Scheme.{Valid};
 ghost use Rattle.catalogue.specs.Catalogue.{Admitted};
-ghost use Rattle.codes.specs.Codes.{schemeOf};
-ghost use Rattle.session_parts.specs.Marks.{marksGood};
-ghost use Rattle.session_parts.specs.Meters.{gotGood};
-ghost use Rattle.session_checks.specs.Checks.{answerBytes, metersFit};
+ghost use Rattle.codes.specs.Codes.{scheme_of};
+ghost use Rattle.session_parts.specs.Marks.{marks_good};
+ghost use Rattle.session_parts.specs.Meters.{got_good};
+ghost use Rattle.session_checks.specs.Checks.{answer_bytes, meters_fit};
 
 use catalogue::Catalogue;
 use session_parts::Meters;
@@ -14,9 +14,9 @@ use session_parts::Meters;
 fn got_good(c: Catalogue, wanted: usize, key: &[u8], server: usize, taken: bool, bytes: u32) -> bool
     requires admitted { Admitted c }
     requires wanted_lt_messages { wanted < c.messages }
-    requires valid { Valid (schemeOf c) key.now }
+    requires valid { Valid (scheme_of c) key.now }
     requires server_lt_servers { taken ≡ true → server < c.servers }
-    ensures { result ≡ gotGood (answerBytes schemeOf c wanted key.now server) taken bytes }
+    ensures { result ≡ got_good (answer_bytes scheme_of c wanted key.now server) taken bytes }
 {
     if !taken {
         return bytes == 0;
@@ -35,11 +35,11 @@ pub fn meters_good<'a>(
     m: Meters,
 ) -> bool
     requires admitted { Admitted c }
-    requires query_value { query ≡ (schemeOf c).sizes.query }
+    requires query_value { query ≡ (scheme_of c).sizes.query }
     requires wanted_lt_messages { wanted < c.messages }
-    requires valid { Valid (schemeOf c) key.now }
-    requires taken_value { marksGood c.servers issued.now taken.now ≡ true }
-    ensures { result ≡ metersFit schemeOf c wanted key.now issued.now taken.now m }
+    requires valid { Valid (scheme_of c) key.now }
+    requires taken_value { marks_good c.servers issued.now taken.now ≡ true }
+    ensures { result ≡ meters_fit scheme_of c wanted key.now issued.now taken.now m }
 {
     let sent = m.sent;
     let got = m.got;

@@ -5,23 +5,23 @@ use Rattle.scheme.specs.Scheme.{Scheme}
 use Rattle.calendar.specs.declared.Day.{Day}
 use Rattle.catalogue.specs.declared.Catalogue.{Catalogue}
 use Rattle.session.specs.declared.Session.{Session}
-use Rattle.session.specs.Calls.{Out, code_of, key_of, issue, takeAnswer, recover}
+use Rattle.session.specs.Calls.{Out, code_of, key_of, issue, take_answer, recover}
 
 -- the session with these places in its key's stead
-abbrev pub withPlaces : List ℕ → Session → Session
-withPlaces places s = record { catalogue = s.catalogue; wanted = s.wanted; key = places; issued = s.issued; taken = s.taken; meters = s.meters }
+abbrev pub with_places : List ℕ → Session → Session
+with_places places s = record { catalogue = s.catalogue; wanted = s.wanted; key = places; issued = s.issued; taken = s.taken; meters = s.meters }
 
 -- the same in what a call hands back
-abbrev pub handedWith : List ℕ → Out → Out
-handedWith places o = record { handed = record { verdict = o.handed.verdict; session = withPlaces places o.handed.session }; buffer = o.buffer }
+abbrev pub handed_with : List ℕ → Out → Out
+handed_with places o = record { handed = record { verdict = o.handed.verdict; session = with_places places o.handed.session }; buffer = o.buffer }
 
-pub record Unread (schemeOf : Catalogue → Scheme) (s : Session) (places : List ℕ) : Type 0 where
+pub record Unread (scheme_of : Catalogue → Scheme) (s : Session) (places : List ℕ) : Type 0 where
   pub issues : (day : Day) (server : ℕ) (buffer : List ℕ)
-      → issue schemeOf (withPlaces places s) day server buffer ≡ handedWith places (issue schemeOf s day server buffer)
+      → issue scheme_of (with_places places s) day server buffer ≡ handed_with places (issue scheme_of s day server buffer)
   pub takes : (server : ℕ) (answer buffer : List ℕ)
-      → takeAnswer schemeOf (withPlaces places s) server answer buffer ≡ handedWith places (takeAnswer schemeOf s server answer buffer)
-  pub recovers : (answers buffer : List ℕ) → recover schemeOf (withPlaces places s) answers buffer ≡ handedWith places (recover schemeOf s answers buffer)
+      → take_answer scheme_of (with_places places s) server answer buffer ≡ handed_with places (take_answer scheme_of s server answer buffer)
+  pub recovers : (answers buffer : List ℕ) → recover scheme_of (with_places places s) answers buffer ≡ handed_with places (recover scheme_of s answers buffer)
 
 abbrev pub UnusedUnread : (Catalogue → Scheme) → Type 0
-UnusedUnread schemeOf =
-    (s : Session) (places : List ℕ) → take (code_of schemeOf s).sizes.key places ≡ key_of schemeOf s → Unread schemeOf s places
+UnusedUnread scheme_of =
+    (s : Session) (places : List ℕ) → take (code_of scheme_of s).sizes.key places ≡ key_of scheme_of s → Unread scheme_of s places

@@ -6,12 +6,12 @@ use native.Mathlib.Omega.{arith}
 use lib.ListN.{length, take, drop, replicate}
 use lib.Seq.{take_all}
 use Rattle.lists.proofs.Replicate.{drop-replicate}
-use Rattle.parameters.specs.Measures.{keyPlaces}
-use Rattle.session_parts.specs.Places.{paddedKey}
+use Rattle.parameters.specs.Measures.{key_places}
+use Rattle.session_parts.specs.Places.{padded_key}
 
-pub padded-copy : (key : List ℕ) (n : ℕ) → n ≡ length key → length key ≤ keyPlaces
-    → take n key ++ drop n (replicate {A = ℕ} keyPlaces 0) ≡ paddedKey key
+pub padded-copy : (key : List ℕ) (n : ℕ) → n ≡ length key → length key ≤ key_places
+    → take n key ++ drop n (replicate {A = ℕ} key_places 0) ≡ padded_key key
 padded-copy key n e h =
     ap₂ (λ (a b : List ℕ). a ++ b)
     (take_all n key (omega arith))
-    (drop-replicate n keyPlaces 0 ∙ ap (λ (k : ℕ). replicate {A = ℕ} (keyPlaces - k) 0) e)
+    (drop-replicate n key_places 0 ∙ ap (λ (k : ℕ). replicate {A = ℕ} (key_places - k) 0) e)

@@ -1,9 +1,9 @@
 // The parts of a session that are lists: the marks and the meters of its servers, the places of its key, and the slots of its answer buffer.
 ghost use Rattle.std.specs.Prelude.{◌≡◌, ◌+◌, ◌≤◌, ◌<◌, ltb, length};
 ghost use Rattle.lists.specs.Parts.{put};
-ghost use Rattle.session_parts.specs.Marks.{markGood, marksGood, allTaken};
-ghost use Rattle.session_parts.specs.Meters.{noMeters, counted, countIssued, countTaken, meterFull, sentGood};
-ghost use Rattle.session_parts.specs.Places.{paddedKey};
+ghost use Rattle.session_parts.specs.Marks.{mark_good, marks_good, all_taken};
+ghost use Rattle.session_parts.specs.Meters.{no_meters, counted, count_issued, count_taken, meter_full, sent_good};
+ghost use Rattle.session_parts.specs.Places.{padded_key};
 
 // What a fetch has sent and received, for each server.
 #[derive(Drop)]
@@ -16,7 +16,7 @@ pub struct Meters {
 
 // Zeros.
 pub fn no_meters() -> Meters
-    ensures { result ≡ noMeters }
+    ensures { result ≡ no_meters }
 {
     Meters {
         sent: [0; 16],
@@ -28,7 +28,7 @@ pub fn no_meters() -> Meters
 pub fn count_issued(m: Meters, server: usize, bytes: usize) -> Meters
     requires server_bound { server < 16 }
     requires bytes_bound { counted m.sent server + bytes ≤ 4294967295 }
-    ensures { result ≡ countIssued m server bytes }
+    ensures { result ≡ count_issued m server bytes }
 {
     let mut out = m;
     out.sent[server] = out.sent[server] + bytes as u32;
@@ -39,7 +39,7 @@ pub fn count_issued(m: Meters, server: usize, bytes: usize) -> Meters
 pub fn count_taken(m: Meters, server: usize, bytes: usize) -> Meters
     requires server_bound { server < 16 }
     requires bytes_bound { counted m.got server + bytes ≤ 4294967295 }
-    ensures { result ≡ countTaken m server bytes }
+    ensures { result ≡ count_taken m server bytes }
 {
     let mut out = m;
     out.got[server] = out.got[server] + bytes as u32;
@@ -58,7 +58,7 @@ fn passes(sent: u32, query: usize) -> bool
 pub fn meter_full(m: Meters, server: usize, query: usize) -> bool
     requires server_bound { server < 16 }
     requires query_bound { query ≤ 2048 }
-    ensures { result ≡ meterFull m server query }
+    ensures { result ≡ meter_full m server query }
 {
     let sent = m.sent;
     passes(sent[server], query)
@@ -68,7 +68,7 @@ pub fn meter_full(m: Meters, server: usize, query: usize) -> bool
 // takes no remainder.
 pub fn sent_good(query: usize, issued: bool, bytes: u32) -> bool
     requires { 0 < query }
-    ensures { result ≡ sentGood query issued bytes }
+    ensures { result ≡ sent_good query issued bytes }
 {
     if !issued {
         return bytes == 0;
@@ -81,7 +81,7 @@ pub fn sent_good(query: usize, issued: bool, bytes: u32) -> bool
 
 // Whether some history of calls gives a place these two marks.
 fn mark_good(servers: usize, place: usize, issued: bool, taken: bool) -> bool
-    ensures { result ≡ markGood servers place issued taken }
+    ensures { result ≡ mark_good servers place issued taken }
 {
     if issued {
         return place < servers;
@@ -91,7 +91,7 @@ fn mark_good(servers: usize, place: usize, issued: bool, taken: bool) -> bool
 
 // Whether some history of calls gives all these marks.
 pub fn marks_good<'a>(servers: usize, issued: &'a [bool; 16], taken: &'a [bool; 16]) -> bool
-    ensures { result ≡ marksGood servers issued.now taken.now }
+    ensures { result ≡ marks_good servers issued.now taken.now }
 {
     let mut i: usize = 0;
     while i < 16 {
@@ -106,7 +106,7 @@ pub fn marks_good<'a>(servers: usize, issued: &'a [bool; 16], taken: &'a [bool; 
 // Whether the answer of each server was taken.
 pub fn all_taken<'a>(servers: usize, taken: &'a [bool; 16]) -> bool
     requires { servers ≤ 16 }
-    ensures { result ≡ allTaken servers taken.now }
+    ensures { result ≡ all_taken servers taken.now }
 {
     let mut i: usize = 0;
     while i < servers {
@@ -121,7 +121,7 @@ pub fn all_taken<'a>(servers: usize, taken: &'a [bool; 16]) -> bool
 // The key at the start of a session's places, the rest 0.
 pub fn padded_key(key: &[u8]) -> [u8; 2048]
     requires { length key.now ≤ 2048 }
-    ensures { result ≡ paddedKey key.now }
+    ensures { result ≡ padded_key key.now }
 {
     let mut out = [0; 2048];
     let mut i: usize = 0;

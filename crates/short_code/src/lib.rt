@@ -3,15 +3,15 @@
 ghost use Rattle.std.specs.Prelude.{◌≡◌, true, ◌*◌, ◌≤◌, ◌<◌, length, get_or};
 ghost use Rattle.lists.specs.Parts.{put, lay};
 ghost use Rattle.lists.specs.Below.{all_below};
-ghost use Rattle.lists.specs.Inserts.{insertAt};
-ghost use Rattle.parameters.specs.Bounds.{shortFits};
-ghost use Rattle.parameters.specs.Measures.{shortSizes};
+ghost use Rattle.lists.specs.Inserts.{insert_at};
+ghost use Rattle.parameters.specs.Bounds.{short_fits};
+ghost use Rattle.parameters.specs.Measures.{short_sizes};
 ghost use Rattle.symbol.specs.Operations.{sum_of};
-ghost use Rattle.scheme.specs.Scheme.{Valid, recoverIn};
-ghost use Rattle.scheme.specs.Asked.{placeNaming};
-ghost use Rattle.short_scheme.specs.Short.{balancing, shortQuery, shortAdmits, shortAnswerLength, shortAnswer, shortScheme};
+ghost use Rattle.scheme.specs.Scheme.{Valid, recover_in};
+ghost use Rattle.scheme.specs.Asked.{place_naming};
+ghost use Rattle.short_scheme.specs.Short.{balancing, short_query, short_admits, short_answer_length, short_answer, short_scheme};
 ghost use Rattle.short_scheme.specs.Rows.{DigitRow};
-ghost use Rattle.short_scheme.specs.Asked.{digitRows};
+ghost use Rattle.short_scheme.specs.Asked.{digit_rows};
 
 use scheme::Place;
 use short_rows::{answering, digits, recovering};
@@ -37,7 +37,7 @@ pub fn key_good(n: usize, key: &[u8]) -> bool
 // Digit p of the key with `digit` inserted at position `wanted`.
 fn query_digit(wanted: usize, digit: u8, key: &[u8], p: usize) -> u8
     requires { (wanted ≤ length key.now) × (p ≤ length key.now) }
-    ensures { result ≡ get_or (insertAt wanted digit key.now) p 0 }
+    ensures { result ≡ get_or (insert_at wanted digit key.now) p 0 }
 {
     if p < wanted {
         return key[p];
@@ -51,7 +51,7 @@ fn query_digit(wanted: usize, digit: u8, key: &[u8], p: usize) -> u8
 // Writes the key with `digit` inserted at position `wanted`.
 fn insert(wanted: usize, digit: u8, key: &[u8], out: &mut [u8])
     requires { (wanted ≤ length key.now) × (length key.now < length out.old) }
-    ensures { out.new ≡ put 0 (insertAt wanted digit key.now) out.old }
+    ensures { out.new ≡ put 0 (insert_at wanted digit key.now) out.old }
 {
     let last = key.len();
     let mut p = 0;
@@ -67,7 +67,7 @@ pub fn query(n: usize, wanted: usize, server: usize, key: &[u8], out: &mut [u8])
     requires server_lt_n { (server < n) × (n ≤ 16) }
     requires key_value { all_below n key.now ≡ true }
     requires wanted_in_bounds { (wanted ≤ length key.now) × (length key.now < length out.old) }
-    ensures { out.new ≡ put 0 (shortQuery n wanted server key.now) out.old }
+    ensures { out.new ≡ put 0 (short_query n wanted server key.now) out.old }
 {
     let digit = balancing_digit(n, server, key) as u8;
     insert(wanted, digit, key, out);
@@ -75,7 +75,7 @@ pub fn query(n: usize, wanted: usize, server: usize, key: &[u8], out: &mut [u8])
 
 // Whether the server admits the query.
 pub fn admits(n: usize, k: usize, server: usize, query: &[u8]) -> bool
-    ensures { result ≡ shortAdmits n k server query.now }
+    ensures { result ≡ short_admits n k server query.now }
 {
     if query.len() != k {
         return false;
@@ -88,7 +88,7 @@ pub fn admits(n: usize, k: usize, server: usize, query: &[u8]) -> bool
 
 // The bytes that the query calls for.
 pub fn answer_length(s: usize, query: &[u8]) -> usize
-    ensures { result ≡ shortAnswerLength s query.now }
+    ensures { result ≡ short_answer_length s query.now }
 {
     if digits::all_below(1, query) {
         return 0;
@@ -100,7 +100,7 @@ pub fn answer_length(s: usize, query: &[u8]) -> usize
 pub fn locate(s: usize, query: &[u8], message: usize, symbol: usize) -> Place
     requires message_in_bounds { message < length query.now }
     requires symbol_bound { symbol < 65536 }
-    ensures { result ≡ placeNaming s message symbol (digitRows 0 query.now) }
+    ensures { result ≡ place_naming s message symbol (digit_rows 0 query.now) }
 {
     if query[message] as usize == symbol + 1 {
         return Place::At(0);
@@ -111,7 +111,7 @@ pub fn locate(s: usize, query: &[u8], message: usize, symbol: usize) -> Place
 // The bytes that the server's query calls for, without the query: only server 0 can be asked for the row of zeros, by the key of zeros.
 pub fn expected_length(n: usize, s: usize, wanted: usize, server: usize, key: &[u8]) -> usize
     requires { server < n }
-    ensures { result ≡ shortAnswerLength s (shortQuery n wanted server key.now) }
+    ensures { result ≡ short_answer_length s (short_query n wanted server key.now) }
 {
     if server == 0 {
         return answer_length(s, key);
@@ -129,11 +129,11 @@ pub fn answer(
     query: &[u8],
     out: &mut [u8],
 )
-    requires s_value { shortFits n k s ≡ true }
-    requires store_len { length store.now ≡ (shortSizes n k s).store }
+    requires s_value { short_fits n k s ≡ true }
+    requires store_len { length store.now ≡ (short_sizes n k s).store }
     requires digit_row { DigitRow n k query.now }
-    requires query_in_bounds { shortAnswerLength s query.now ≤ length out.old }
-    ensures { out.new ≡ put 0 (shortAnswer (sum_of op) n s store.now query.now) out.old }
+    requires query_in_bounds { short_answer_length s query.now ≤ length out.old }
+    ensures { out.new ≡ put 0 (short_answer (sum_of op) n s store.now query.now) out.old }
 {
     answering::answer(op, 0, n - 1, s, store, query, out);
 }
@@ -150,11 +150,11 @@ pub fn recover(
     answers: &[u8],
     message: &mut [u8],
 )
-    requires s_value { shortFits n k s ≡ true }
-    requires valid { Valid (shortScheme (sum_of op) n k s) key.now }
-    requires s_in_bounds { n * (shortSizes n k s).slot ≤ length answers.now }
+    requires s_value { short_fits n k s ≡ true }
+    requires valid { Valid (short_scheme (sum_of op) n k s) key.now }
+    requires s_in_bounds { n * (short_sizes n k s).slot ≤ length answers.now }
     ensures { message.new
-        ≡ lay 0 (recoverIn (shortScheme (sum_of op) n k s) n wanted key.now answers.now) message.old }
+        ≡ lay 0 (recover_in (short_scheme (sum_of op) n k s) n wanted key.now answers.now) message.old }
 {
     let t = digits::digit_sum(n, key);
     recovering::recover_slots(op, n, s, t, key, answers, message);

@@ -19,15 +19,15 @@ use Rattle.symbol.specs.Sum.{Sum, less}
 use Rattle.symbol.specs.Group.{AbelianGroup}
 use Rattle.symbol.proofs.Less.{less-length}
 use Rattle.symbol.proofs.Totals.{minus-zeros}
-use Rattle.short_scheme.specs.Short.{orZeros, recovered}
+use Rattle.short_scheme.specs.Short.{or_zeros, recovered}
 use Rattle.short_scheme.proofs.Answers.{or-zeros-some}
-use Rattle.short_rows.specs.Steps.{Placed, fromPlaces}
+use Rattle.short_rows.specs.Steps.{Placed, from_places}
 
 module _ (sum : Sum) (N S T : ℕ) (group : AbelianGroup sum S) (starts answers : List ℕ) (placed : Placed N S starts answers) (known : T < N) where
   turned : (d : ℕ) → (d + T) % N < N
   turned d = mod-lt (d + T) (omega arith)
 
-  pub from-length : (empty : Bool) (d : ℕ) → length (fromPlaces sum N S T empty starts answers d) ≡ S
+  pub from-length : (empty : Bool) (d : ℕ) → length (from_places sum N S T empty starts answers d) ≡ S
   from-length empty d =
       let from = get_or starts ((d + T) % N) 0 in
       let other = get_or starts T 0 in
@@ -36,9 +36,9 @@ module _ (sum : Sum) (N S T : ℕ) (group : AbelianGroup sum S) (starts answers 
 
   -- an empty answer of server T counts as zeros
   taken-away : Below 256 answers → (empty : Bool) (from : ℕ) → length (cut from S answers) ≡ S
-      → sum.minus (cut from S answers) (orZeros S (cut (get_or starts T 0) (cond empty 0 S) answers))
+      → sum.minus (cut from S answers) (or_zeros S (cut (get_or starts T 0) (cond empty 0 S) answers))
       ≡ less sum empty (cut from S answers) (cut (get_or starts T 0) S answers)
-  unfolding less orZeros
+  unfolding less or_zeros
   taken-away bytes true from long =
       minus-zeros sum S group (record { long = long; bytes = below-take 256 S (drop from answers) (below-drop 256 from answers bytes) })
   taken-away bytes false from long =
@@ -49,12 +49,12 @@ module _ (sum : Sum) (N S T : ℕ) (group : AbelianGroup sum S) (starts answers 
   pub recovered-placed : Below 256 answers → (parts : List (List ℕ)) (empty : Bool) (d : ℕ)
       → get_or parts ((d + T) % N) [] ≡ cut (get_or starts ((d + T) % N) 0) S answers
       → get_or parts T [] ≡ cut (get_or starts T 0) (cond empty 0 S) answers
-      → recovered sum N S T parts d ≡ fromPlaces sum N S T empty starts answers d
+      → recovered sum N S T parts d ≡ from_places sum N S T empty starts answers d
   unfolding recovered
   recovered-placed bytes parts empty d e f =
       let from = get_or starts ((d + T) % N) 0 in
       let long : length (cut from S answers) ≡ S = cut-length from S answers (placed.inside ((d + T) % N) (turned d)) in
-      ap₂ sum.minus (ap (orZeros S) e ∙ or-zeros-some S (cut from S answers) (omega (arith, placed.some))) (ap (orZeros S) f)
+      ap₂ sum.minus (ap (or_zeros S) e ∙ or-zeros-some S (cut from S answers) (omega (arith, placed.some))) (ap (or_zeros S) f)
       ∙ taken-away bytes empty from long
 
 -- starts of slots that all lie in the answer buffer

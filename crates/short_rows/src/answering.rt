@@ -3,9 +3,9 @@
 ghost use Rattle.std.specs.Prelude.{◌≡◌, false, [], ◌∷◌, ◌+◌, ◌*◌, ◌≤◌, ◌<◌, length};
 ghost use Rattle.lists.specs.Parts.{put};
 ghost use Rattle.symbol.specs.Operations.{sum_of};
-ghost use Rattle.short_scheme.specs.Short.{named, shortAnswerLength, stridedAnswer};
+ghost use Rattle.short_scheme.specs.Short.{named, short_answer_length, strided_answer};
 ghost use Rattle.short_scheme.specs.Rows.{RowStored};
-ghost use Rattle.short_rows.specs.Steps.{gathered, begunBy};
+ghost use Rattle.short_rows.specs.Steps.{gathered, begun_by};
 
 use symbol::Operation;
 
@@ -21,7 +21,7 @@ fn gather_digit(
 ) -> bool
     requires s_nonzero { (0 < s) × ((at + d) * s ≤ length store.now) }
     requires out_len { length out.old ≡ s }
-    ensures value { result ≡ begunBy begun d }
+    ensures value { result ≡ begun_by begun d }
     ensures out_after { out.new ≡ gathered (sum_of op) begun out.old (named at 0 s store.now (d ∷ [])) }
 {
     if d == 0 {
@@ -73,9 +73,9 @@ pub fn answer(
 ) -> usize
     requires s_nonzero { 0 < s }
     requires row_stored { RowStored first stride s store.now row.now }
-    requires row_in_bounds { shortAnswerLength s row.now ≤ length out.old }
-    ensures value { result ≡ shortAnswerLength s row.now }
-    ensures out_after { out.new ≡ put 0 (stridedAnswer (sum_of op) first stride s store.now row.now) out.old }
+    requires row_in_bounds { short_answer_length s row.now ≤ length out.old }
+    ensures value { result ≡ short_answer_length s row.now }
+    ensures out_after { out.new ≡ put 0 (strided_answer (sum_of op) first stride s store.now row.now) out.old }
 {
     let empty = crate::digits::all_below(1, row);
     if empty {

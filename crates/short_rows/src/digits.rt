@@ -2,8 +2,8 @@
 // (document 02, item 3; specs/Running.antt).
 ghost use Rattle.std.specs.Prelude.{◌≡◌, true, ◌+◌, ◌-◌, ◌%◌, ◌<◌, length};
 ghost use Rattle.lists.specs.Below.{all_below};
-ghost use Rattle.short_scheme.specs.Short.{digitSum};
-ghost use Rattle.short_rows.specs.Running.{sumAfter};
+ghost use Rattle.short_scheme.specs.Short.{digit_sum};
+ghost use Rattle.short_rows.specs.Running.{sum_after};
 
 // Whether every digit is below n.
 pub fn all_below(n: usize, digits: &[u8]) -> bool
@@ -46,8 +46,8 @@ pub fn subtract_modulo(n: usize, a: usize, b: usize) -> usize
 fn next_sum(n: usize, digits: &[u8], i: usize, sum: usize) -> usize
     requires digits_value { all_below n digits.now ≡ true }
     requires i_in_bounds { i < length digits.now }
-    requires sum_value { sum ≡ sumAfter n digits.now i }
-    ensures value { result ≡ sumAfter n digits.now (i + 1) }
+    requires sum_value { sum ≡ sum_after n digits.now i }
+    ensures value { result ≡ sum_after n digits.now (i + 1) }
     ensures sum_lt_n { (sum < n) × (result < n) }
 {
     add_modulo(n, sum, digits[i] as usize)
@@ -56,8 +56,8 @@ fn next_sum(n: usize, digits: &[u8], i: usize, sum: usize) -> usize
 // The digits summed up, modulo n: the last of their running sums.
 pub fn digit_sum(n: usize, digits: &[u8]) -> usize
     requires { all_below n digits.now ≡ true }
-    ensures value { result ≡ digitSum digits.now % n }
-    ensures value_2 { result ≡ sumAfter n digits.now (length digits.now) }
+    ensures value { result ≡ digit_sum digits.now % n }
+    ensures value_2 { result ≡ sum_after n digits.now (length digits.now) }
 {
     let mut sum = 0;
     let mut i = 0;

@@ -6,15 +6,15 @@ ghost use Rattle.lists.specs.Parts.{cut, lay};
 ghost use Rattle.lists.specs.Ranges.{range};
 ghost use Rattle.symbol.specs.Sum.{less};
 ghost use Rattle.symbol.specs.Operations.{sum_of};
-ghost use Rattle.short_scheme.specs.Short.{allZero};
-ghost use Rattle.short_rows.specs.Steps.{Placed, Slotted, slotStarts, fromPlaces};
+ghost use Rattle.short_scheme.specs.Short.{all_zero};
+ghost use Rattle.short_rows.specs.Steps.{Placed, Slotted, slot_starts, from_places};
 
 use symbol::Operation;
 
 // Where the slots of 16 servers begin, if each has s bytes.
 fn slot_starts(s: usize) -> [usize; 16]
     requires { s ≤ 1048576 }
-    ensures { result ≡ slotStarts s }
+    ensures { result ≡ slot_starts s }
 {
     let mut starts = [0; 16];
     let mut i = 0;
@@ -69,7 +69,7 @@ pub fn recover_row(
     requires t_lt_n { t < n }
     requires placed { Placed n s starts.now answers.now }
     ensures { message.new
-        ≡ lay 0 (flat_map (fromPlaces (sum_of op) n s t empty starts.now answers.now) (range 1 (n - 1))) message.old }
+        ≡ lay 0 (flat_map (from_places (sum_of op) n s t empty starts.now answers.now) (range 1 (n - 1))) message.old }
 {
     let other = starts[t];
     let mut d = 1;
@@ -95,7 +95,7 @@ pub fn recover_slots(
     requires t_lt_n { t < n }
     requires slotted { Slotted n s answers.now }
     ensures { message.new
-        ≡ lay 0 (flat_map (fromPlaces (sum_of op) n s t (allZero key.now) (slotStarts s) answers.now) (range 1 (n - 1)))
+        ≡ lay 0 (flat_map (from_places (sum_of op) n s t (all_zero key.now) (slot_starts s) answers.now) (range 1 (n - 1)))
         message.old }
 {
     let starts = slot_starts(s);

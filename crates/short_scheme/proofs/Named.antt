@@ -8,10 +8,10 @@ use native.Mathlib.Omega.{arith}
 use lib.ListN.{length, get_or, take, drop}
 use lib.Seq.{length-take-le}
 use Rattle.lists.specs.Below.{Below}
-use Rattle.lists.specs.Inserts.{insertAt}
-use Rattle.lists.proofs.Below.{allBelow-below, below-take, below-drop}
+use Rattle.lists.specs.Inserts.{insert_at}
+use Rattle.lists.proofs.Below.{all_below-below, below-take, below-drop}
 use Rattle.symbol.specs.Sum.{Symbol, symbol_at}
-use Rattle.lists.specs.Sums.{allNil, allCons}
+use Rattle.lists.specs.Sums.{all_nil, all_cons}
 use Rattle.symbol.specs.Group.{Symbols}
 use Rattle.short_scheme.specs.Short.{named}
 use Rattle.short_scheme.specs.Rows.{DigitRow, RowStored}
@@ -36,29 +36,29 @@ named-append first stride S store (suc d ∷ row) next =
     ∙ ap (λ (n : ℕ). named (first + stride) stride S store row ++ named n stride S store next) (next-message first stride (length row)))
 
 -- what the digits before the inserted one name, and those behind it
-abbrev pub namedBefore : ℕ → ℕ → ℕ → List ℕ → ℕ → List ℕ → List (List ℕ)
-namedBefore first stride S store at key = named first stride S store (take at key)
+abbrev pub named_before : ℕ → ℕ → ℕ → List ℕ → ℕ → List ℕ → List (List ℕ)
+named_before first stride S store at key = named first stride S store (take at key)
 
-abbrev pub namedBehind : ℕ → ℕ → ℕ → List ℕ → ℕ → List ℕ → List (List ℕ)
-namedBehind first stride S store at key = named (first + at * stride + stride) stride S store (drop at key)
+abbrev pub named_behind : ℕ → ℕ → ℕ → List ℕ → ℕ → List ℕ → List (List ℕ)
+named_behind first stride S store at key = named (first + at * stride + stride) stride S store (drop at key)
 
 module _ (first stride S : ℕ) (store : List ℕ) (at : ℕ) (key : List ℕ) (within : at ≤ length key) where
-  split : (d : ℕ) → named first stride S store (insertAt at d key)
-      ≡ namedBefore first stride S store at key ++ named (first + at * stride) stride S store (d ∷ drop at key)
+  split : (d : ℕ) → named first stride S store (insert_at at d key)
+      ≡ named_before first stride S store at key ++ named (first + at * stride) stride S store (d ∷ drop at key)
   split d =
       named-append first stride S store (take at key) (d ∷ drop at key)
-      ∙ ap (λ (n : ℕ). namedBefore first stride S store at key ++ named (first + n * stride) stride S store (d ∷ drop at key))
+      ∙ ap (λ (n : ℕ). named_before first stride S store at key ++ named (first + n * stride) stride S store (d ∷ drop at key))
       (length-take-le at key within)
 
   -- digit 0 adds nothing, another digit its symbol
-  pub named_none : named first stride S store (insertAt at 0 key)
-      ≡ namedBefore first stride S store at key ++ namedBehind first stride S store at key
+  pub named_none : named first stride S store (insert_at at 0 key)
+      ≡ named_before first stride S store at key ++ named_behind first stride S store at key
   unfolding named
   named_none = split 0
 
-  pub named-one : (d : ℕ) → named first stride S store (insertAt at (suc d) key)
-      ≡ namedBefore first stride S store at key
-      ++ (symbol_at S store (first + at * stride + d) ∷ namedBehind first stride S store at key)
+  pub named-one : (d : ℕ) → named first stride S store (insert_at at (suc d) key)
+      ≡ named_before first stride S store at key
+      ++ (symbol_at S store (first + at * stride + d) ∷ named_behind first stride S store at key)
   unfolding named
   named-one d = split (suc d)
 
@@ -82,10 +82,10 @@ module _ (stride S : ℕ) (store : List ℕ) where
 
   pub named-symbols : Below 256 store → (first : ℕ) (row : List ℕ) → RowStored first stride S store row → Symbols S (named first stride S store row)
   unfolding named
-  named-symbols bytes first [] r = allNil
+  named-symbols bytes first [] r = all_nil
   named-symbols bytes first (zero ∷ row) r = named-symbols bytes (first + stride) row (stored-rest first 0 row r)
   named-symbols bytes first (suc d ∷ row) r =
-      allCons (symbol-whole bytes first d (stored-first first (suc d) row r))
+      all_cons (symbol-whole bytes first d (stored-first first (suc d) row r))
       (named-symbols bytes (first + stride) row (stored-rest first (suc d) row r))
 
 -- digits below N of the messages from p on, of K messages of N - 1 symbols
@@ -100,4 +100,4 @@ digits-stored N K S store whole first p e row h b = record {
 
 pub query-stored : (N K S : ℕ) (store query : List ℕ) → length store ≡ K * ((N - 1) * S) → DigitRow N K query → RowStored 0 (N - 1) S store query
 query-stored N K S store query whole row =
-    digits-stored N K S store whole 0 0 (omega arith) query (omega (arith, row.long)) (allBelow-below N query row.digits)
+    digits-stored N K S store whole 0 0 (omega arith) query (omega (arith, row.long)) (all_below-below N query row.digits)

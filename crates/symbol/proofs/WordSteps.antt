@@ -7,7 +7,7 @@ use native.Mathlib.Numerals.{add-one}
 use native.Mathlib.Omega.{arith}
 use lib.ListN.{length, take, drop, get_or, set, drop_of_length-le}
 use lib.Seq.{take_all}
-use Rattle.symbol.specs.Words.{word, onWords}
+use Rattle.symbol.specs.Words.{word, on_words}
 
 abbrev cons : ℕ → List ℕ → List ℕ
 cons x l = x ∷ l
@@ -19,7 +19,7 @@ high_byte value = omega (arith, div-div-eq-div-mul value 256 256)
 module _ (f : ℕ → ℕ → ℕ → ℕ) where
   -- the first i bytes are done, the rest is to be changed by the rest of s
   abbrev pub from : ℕ → List ℕ → List ℕ → List ℕ
-  from i d s = take i d ++ onWords f (drop i d) (drop i s)
+  from i d s = take i d ++ on_words f (drop i d) (drop i s)
 
   -- the word at i, and at j = i + 1, changed
   abbrev next : ℕ → ℕ → List ℕ → List ℕ → ℕ
@@ -27,7 +27,7 @@ module _ (f : ℕ → ℕ → ℕ → ℕ) where
 
   step : (i : ℕ) (d s : List ℕ) → suc i < length d → suc i < length s
       → from i d s ≡ from (suc (suc i)) (set (set d i (next i (suc i) d s % 256)) (suc i) (next i (suc i) d s / 256)) s
-  unfolding onWords
+  unfolding on_words
   step i [] s h k = absurd (omega arith)
   step i (x ∷ d) [] h k = absurd (omega arith)
   step zero (x ∷ []) (y ∷ s) h k = absurd (omega arith)
@@ -49,7 +49,7 @@ module _ (f : ℕ → ℕ → ℕ → ℕ) where
       ∙ ap₂ (λ (x y : ℕ). set (set d i x) (suc i) y) low high))
 
   pub byte_left : (i : ℕ) (d s : List ℕ) → length d ≡ suc i → length s ≡ suc i → from i d s ≡ set d i (f 256 (get_or d i 0) (get_or s i 0))
-  unfolding onWords
+  unfolding on_words
   byte_left i [] s h k = absurd (omega arith)
   byte_left i (x ∷ d) [] h k = absurd (omega arith)
   byte_left zero (x ∷ []) (y ∷ s) h k = refl
@@ -57,5 +57,5 @@ module _ (f : ℕ → ℕ → ℕ → ℕ) where
   byte_left (suc i) (x ∷ d) (y ∷ s) h k = ap (cons x) (byte_left i d s (omega arith) (omega arith))
 
   pub words-done : (i : ℕ) (d s : List ℕ) → length d ≤ i → from i d s ≡ d
-  unfolding onWords
+  unfolding on_words
   words-done i d s h = rw (take_all i d h, drop_of_length-le d h) (append-nil d)

@@ -7,36 +7,36 @@ abbrev pub word : ℕ → ℕ → ℕ
 word low high = low + 256 * high
 
 -- the bytes of a word, and the rest behind them
-abbrev pub wordThen : ℕ → List ℕ → List ℕ
-wordThen w rest = w % 256 ∷ w / 256 ∷ rest
+abbrev pub word_then : ℕ → List ℕ → List ℕ
+word_then w rest = w % 256 ∷ w / 256 ∷ rest
 
--- addAt m a b: the sum, wrapping at m
-abbrev pub addAt : ℕ → ℕ → ℕ → ℕ
-addAt m a b = (a + b) % m
+-- add_at m a b: the sum, wrapping at m
+abbrev pub add_at : ℕ → ℕ → ℕ → ℕ
+add_at m a b = (a + b) % m
 
--- subAt m a b: the difference, wrapping at m
-abbrev pub subAt : ℕ → ℕ → ℕ → ℕ
-subAt m a b = (a + (m - b % m)) % m
+-- sub_at m a b: the difference, wrapping at m
+abbrev pub sub_at : ℕ → ℕ → ℕ → ℕ
+sub_at m a b = (a + (m - b % m)) % m
 
 -- the one or the other
-abbrev pub changeAt : Bool → ℕ → ℕ → ℕ → ℕ
-changeAt false = addAt
-changeAt true = subAt
+abbrev pub change_at : Bool → ℕ → ℕ → ℕ → ℕ
+change_at false = add_at
+change_at true = sub_at
 
 -- Word by word, wrapping at 65,536. Where the strings end inside a word, its lone low byte is changed by itself, wrapping at 256; no symbol of an
 -- admitted catalogue ends there. Where the second string is shorter, the rest of the first stays
-unfoldable pub onWords : (ℕ → ℕ → ℕ → ℕ) → List ℕ → List ℕ → List ℕ
-onWords change [] b = []
-onWords change (x ∷ a) [] = x ∷ a
-onWords change (x ∷ []) (y ∷ b) = change 256 x y ∷ []
-onWords change (x ∷ v ∷ a) (y ∷ []) = change 256 x y ∷ v ∷ a
-onWords change (x ∷ v ∷ a) (y ∷ w ∷ b) = wordThen (change 65536 (word x v) (word y w)) (onWords change a b)
+unfoldable pub on_words : (ℕ → ℕ → ℕ → ℕ) → List ℕ → List ℕ → List ℕ
+on_words change [] b = []
+on_words change (x ∷ a) [] = x ∷ a
+on_words change (x ∷ []) (y ∷ b) = change 256 x y ∷ []
+on_words change (x ∷ v ∷ a) (y ∷ []) = change 256 x y ∷ v ∷ a
+on_words change (x ∷ v ∷ a) (y ∷ w ∷ b) = word_then (change 65536 (word x v) (word y w)) (on_words change a b)
 
-abbrev pub addWords : List ℕ → List ℕ → List ℕ
-addWords = onWords addAt
+abbrev pub add_words : List ℕ → List ℕ → List ℕ
+add_words = on_words add_at
 
-abbrev pub subWords : List ℕ → List ℕ → List ℕ
-subWords = onWords subAt
+abbrev pub sub_words : List ℕ → List ℕ → List ℕ
+sub_words = on_words sub_at
 
 abbrev pub words : Sum
-words = record { plus = addWords; minus = subWords }
+words = record { plus = add_words; minus = sub_words }

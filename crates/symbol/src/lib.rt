@@ -3,7 +3,7 @@
 ghost use Rattle.std.specs.Prelude.{◌≡◌, min, length};
 ghost use Rattle.lists.specs.Parts.{lay};
 ghost use Rattle.symbol.specs.Sum.{less};
-ghost use Rattle.symbol.specs.Xor.{xorBytes};
+ghost use Rattle.symbol.specs.Xor.{xor_bytes};
 ghost use Rattle.symbol.specs.Operations.{sum_of};
 
 // Addition, word by word.
@@ -21,7 +21,7 @@ pub enum Operation {
 // Combines `src` into `dst` by exclusive or, byte by byte.
 fn exclusive_or(dst: &mut [u8], src: &[u8])
     requires { length src.now ≡ length dst.old }
-    ensures { dst.new ≡ xorBytes dst.old src.now }
+    ensures { dst.new ≡ xor_bytes dst.old src.now }
 {
     let mut i = 0;
     while i < src.len() {

@@ -1,7 +1,7 @@
 // Rows of 16-bit words, the low byte first, changed in place: one row added to another or taken away from it, word by word, wrapping
 // at 65,536 (02, item 2).
 ghost use Rattle.std.specs.Prelude.{◌≡◌, ◌+◌, ◌/◌, ◌%◌, ◌≤◌, ◌<◌, length, get_or, set};
-ghost use Rattle.symbol.specs.Words.{word, changeAt, onWords};
+ghost use Rattle.symbol.specs.Words.{word, change_at, on_words};
 
 // The word at a place.
 fn word_at(bytes: &[u8], at: usize) -> usize
@@ -25,7 +25,7 @@ fn put_word(dst: &mut [u8], at: usize, value: usize)
 fn changed(away: bool, limit: usize, a: usize, b: usize) -> usize
     requires limit_bound { limit ≤ 65536 }
     requires a_lt_limit { (a < limit) × (b < limit) }
-    ensures { result % limit ≡ changeAt away limit a b }
+    ensures { result % limit ≡ change_at away limit a b }
 {
     if away {
         return a + (limit - b);
@@ -36,7 +36,7 @@ fn changed(away: bool, limit: usize, a: usize, b: usize) -> usize
 // Adds `src` to `dst`; with `away`, takes it away.
 pub fn change(away: bool, dst: &mut [u8], src: &[u8])
     requires { length src.now ≡ length dst.old }
-    ensures { dst.new ≡ onWords (changeAt away) dst.old src.now }
+    ensures { dst.new ≡ on_words (change_at away) dst.old src.now }
 {
     let whole = src.len() / 2;
     let mut k = 0;

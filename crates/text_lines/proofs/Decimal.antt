@@ -10,29 +10,29 @@ use native.Mathlib.Omega.{arith}
 use borrow.Author.Tests.{ltb-true, ltb-false, lt-ltb, le-ltb}
 use lib.Dec.{ltb}
 use lib.ListN.{length, get_or, length-append, get_or-append}
-use Rattle.lists.specs.Sums.{allNil, allCons}
+use Rattle.lists.specs.Sums.{all_nil, all_cons}
 use Rattle.lists.proofs.Each.{All-append}
-use Rattle.text_lines.specs.Decimal.{digit, decimalIn, decimal, valueFrom}
+use Rattle.text_lines.specs.Decimal.{digit, decimal_in, decimal, value_from}
 use Rattle.text_lines.proofs.DigitTexts.{Digits, digit-is, value-append, value-last}
 
 -- ---- how they are made
 
-enough-places : (p q n : ℕ) → n < p → n < q → decimalIn p n ≡ decimalIn q n
-unfolding decimalIn
+enough-places : (p q n : ℕ) → n < p → n < q → decimal_in p n ≡ decimal_in q n
+unfolding decimal_in
 enough-places zero q n h k = absurd (not-suc-le-zero h)
 enough-places (suc p) zero n h k = absurd (not-suc-le-zero k)
 enough-places (suc p) (suc q) n h k = go (ltb n 10) refl (λ big. enough-places p q (n / 10) (omega arith) (omega arith))
   where
-    go : (t : Bool) → ltb n 10 ≡ t → (10 ≤ n → decimalIn p (n / 10) ≡ decimalIn q (n / 10)) → decimalIn (suc p) n ≡ decimalIn (suc q) n
+    go : (t : Bool) → ltb n 10 ≡ t → (10 ≤ n → decimal_in p (n / 10) ≡ decimal_in q (n / 10)) → decimal_in (suc p) n ≡ decimal_in (suc q) n
     go true e same = simp e
     go false e same = simp e (ap (λ (l : List ℕ). l ++ (digit (n % 10) ∷ [])) (same (ltb-false n 10 e)))
 
 pub decimal-small : (n : ℕ) → n < 10 → decimal n ≡ digit n ∷ []
-unfolding decimal decimalIn
+unfolding decimal decimal_in
 decimal-small n h = simp (lt-ltb n 10 h)
 
 pub decimal-large : (n : ℕ) → 10 ≤ n → decimal n ≡ decimal (n / 10) ++ (digit (n % 10) ∷ [])
-unfolding decimal decimalIn
+unfolding decimal decimal_in
 decimal-large n h =
     simp (le-ltb n 10 h)
     (ap (λ (l : List ℕ). l ++ (digit (n % 10) ∷ [])) (enough-places n (suc (n / 10)) (n / 10) (omega arith) (omega arith)))
@@ -100,10 +100,10 @@ pub decimal-digits : (n : ℕ) → Digits (decimal n)
 decimal-digits = by_digits (λ n. Digits (decimal n)) small large
   where
     small : (n : ℕ) → n < 10 → Digits (decimal n)
-    small n h = rw (decimal-small n h) (allCons (digit-is n h) allNil)
+    small n h = rw (decimal-small n h) (all_cons (digit-is n h) all_nil)
 
     large : (n : ℕ) → 10 ≤ n → Digits (decimal (n / 10)) → Digits (decimal n)
-    large n h d = rw (decimal-large n h) (All-append d (allCons (digit-is (n % 10) (omega arith)) allNil))
+    large n h d = rw (decimal-large n h) (All-append d (all_cons (digit-is (n % 10) (omega arith)) all_nil))
 
 pub first-digit : (n : ℕ) → 0 < n → 48 < get_or (decimal n) 0 0
 first-digit = by_digits (λ n. 0 < n → 48 < get_or (decimal n) 0 0) small large
@@ -118,13 +118,13 @@ first-digit = by_digits (λ n. 0 < n → 48 < get_or (decimal n) 0 0) small larg
 
 -- ---- their value
 
-pub value-decimal : (n : ℕ) → valueFrom 0 (decimal n) ≡ n
-value-decimal = by_digits (λ n. valueFrom 0 (decimal n) ≡ n) small large
+pub value-decimal : (n : ℕ) → value_from 0 (decimal n) ≡ n
+value-decimal = by_digits (λ n. value_from 0 (decimal n) ≡ n) small large
   where
-    small : (n : ℕ) → n < 10 → valueFrom 0 (decimal n) ≡ n
-    small n h = ap (valueFrom 0) (decimal-small n h) ∙ value-last 0 n ∙ omega arith
+    small : (n : ℕ) → n < 10 → value_from 0 (decimal n) ≡ n
+    small n h = ap (value_from 0) (decimal-small n h) ∙ value-last 0 n ∙ omega arith
 
-    large : (n : ℕ) → 10 ≤ n → valueFrom 0 (decimal (n / 10)) ≡ n / 10 → valueFrom 0 (decimal n) ≡ n
+    large : (n : ℕ) → 10 ≤ n → value_from 0 (decimal (n / 10)) ≡ n / 10 → value_from 0 (decimal n) ≡ n
     large n h e =
-        ap (valueFrom 0) (decimal-large n h) ∙ value-append 0 (decimal (n / 10)) (digit (n % 10) ∷ [])
-        ∙ ap (λ (v : ℕ). valueFrom v (digit (n % 10) ∷ [])) e ∙ value-last (n / 10) (n % 10) ∙ omega arith
+        ap (value_from 0) (decimal-large n h) ∙ value-append 0 (decimal (n / 10)) (digit (n % 10) ∷ [])
+        ∙ ap (λ (v : ℕ). value_from v (digit (n % 10) ∷ [])) e ∙ value-last (n / 10) (n % 10) ∙ omega arith

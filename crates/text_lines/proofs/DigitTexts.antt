@@ -10,106 +10,106 @@ use borrow.Author.Tests.{leb-true, le-leb, lt-leb}
 use lib.Dec.{leb}
 use lib.ListN.{length, get_or, take, drop}
 use lib.Seq.{drop-cons, drop-length, take-length}
-use Rattle.lists.specs.Sums.{All, allNil, allCons}
+use Rattle.lists.specs.Sums.{All, all_nil, all_cons}
 use Rattle.lists.proofs.Both.{both_true}
-use Rattle.text_lines.specs.Decimal.{digit, isDigit, digitCount, valueFrom}
+use Rattle.text_lines.specs.Decimal.{digit, is_digit, digit_count, value_from}
 
 -- ---- one digit
 
-pub is_digit : (byte : ℕ) → 48 ≤ byte → byte ≤ 57 → isDigit byte ≡ true
+pub is_digit : (byte : ℕ) → 48 ≤ byte → byte ≤ 57 → is_digit byte ≡ true
 is_digit byte h k = simp (le-leb 48 byte h, le-leb byte 57 k)
 
-pub below-digits : (byte : ℕ) → byte < 48 → isDigit byte ≡ false
+pub below-digits : (byte : ℕ) → byte < 48 → is_digit byte ≡ false
 below-digits byte h = simp (lt-leb 48 byte h)
 
-pub above-digits : (byte : ℕ) → 57 < byte → isDigit byte ≡ false
+pub above-digits : (byte : ℕ) → 57 < byte → is_digit byte ≡ false
 above-digits byte h = let k : 48 ≤ byte = omega arith in simp (le-leb 48 byte k, lt-leb byte 57 h)
 
-pub digit-is : (n : ℕ) → n < 10 → isDigit (digit n) ≡ true
+pub digit-is : (n : ℕ) → n < 10 → is_digit (digit n) ≡ true
 digit-is n h = is_digit (digit n) (omega arith) (omega arith)
 
-pub digit-range : (byte : ℕ) → isDigit byte ≡ true → (48 ≤ byte) × (byte ≤ 57)
+pub digit-range : (byte : ℕ) → is_digit byte ≡ true → (48 ≤ byte) × (byte ≤ 57)
 digit-range byte e =
     let p = both_true (leb 48 byte) (leb byte 57) e in (leb-true 48 byte p.0, leb-true byte 57 p.1)
 
 -- ---- a text of digits alone
 
 abbrev pub Digits : List ℕ → Type 0
-Digits = All (λ byte. isDigit byte ≡ true)
+Digits = All (λ byte. is_digit byte ≡ true)
 
 -- those that a text begins with
-pub digits-first : (text : List ℕ) → Digits (take (digitCount text) text)
-unfolding digitCount
-digits-first [] = allNil
-digits-first (x ∷ text) = go (isDigit x) refl (digits-first text)
+pub digits-first : (text : List ℕ) → Digits (take (digit_count text) text)
+unfolding digit_count
+digits-first [] = all_nil
+digits-first (x ∷ text) = go (is_digit x) refl (digits-first text)
   where
-    go : (t : Bool) → isDigit x ≡ t → Digits (take (digitCount text) text) → Digits (take (digitCount (x ∷ text)) (x ∷ text))
-    go true e rest = rw e (allCons e rest)
-    go false e rest = rw e allNil
+    go : (t : Bool) → is_digit x ≡ t → Digits (take (digit_count text) text) → Digits (take (digit_count (x ∷ text)) (x ∷ text))
+    go true e rest = rw e (all_cons e rest)
+    go false e rest = rw e all_nil
 
-pub count-within : (text : List ℕ) → digitCount text ≤ length text
-unfolding digitCount
+pub count-within : (text : List ℕ) → digit_count text ≤ length text
+unfolding digit_count
 count-within [] = omega arith
-count-within (x ∷ text) = go (isDigit x) (count-within text)
+count-within (x ∷ text) = go (is_digit x) (count-within text)
   where
-    go : (t : Bool) → digitCount text ≤ length text → cond t (suc (digitCount text)) 0 ≤ suc (length text)
+    go : (t : Bool) → digit_count text ≤ length text → cond t (suc (digit_count text)) 0 ≤ suc (length text)
     go true h = omega arith
     go false h = omega arith
 
 -- a text that has as many as it is long
-pub all_digits : (text : List ℕ) → digitCount text ≡ length text → Digits text
+pub all_digits : (text : List ℕ) → digit_count text ≡ length text → Digits text
 all_digits text e = rw (e, take-length) at (digits-first text)
 
 -- digits, and then another byte
-pub count-digits : {xs : List ℕ} → Digits xs → (y : ℕ) (rest : List ℕ) → isDigit y ≡ false → digitCount (xs ++ (y ∷ rest)) ≡ length xs
-unfolding digitCount
-count-digits allNil y rest e = simp e
-count-digits (allCons d ds) y rest e = simp d (ap suc (count-digits ds y rest e))
+pub count-digits : {xs : List ℕ} → Digits xs → (y : ℕ) (rest : List ℕ) → is_digit y ≡ false → digit_count (xs ++ (y ∷ rest)) ≡ length xs
+unfolding digit_count
+count-digits all_nil y rest e = simp e
+count-digits (all_cons d ds) y rest e = simp d (ap suc (count-digits ds y rest e))
 
-pub count-all : {xs : List ℕ} → Digits xs → digitCount xs ≡ length xs
-unfolding digitCount
-count-all allNil = refl
-count-all (allCons d ds) = simp d (ap suc (count-all ds))
+pub count-all : {xs : List ℕ} → Digits xs → digit_count xs ≡ length xs
+unfolding digit_count
+count-all all_nil = refl
+count-all (all_cons d ds) = simp d (ap suc (count-all ds))
 
 -- the digits that a text begins with, lent as a part
-pub count-first : (text : List ℕ) (count : ℕ) → count ≡ digitCount text → digitCount (take count text) ≡ length (take count text)
+pub count-first : (text : List ℕ) (count : ℕ) → count ≡ digit_count text → digit_count (take count text) ≡ length (take count text)
 count-first text count e =
-    ap (λ (n : ℕ). digitCount (take n text)) e ∙ count-all (digits-first text) ∙ ap (λ (n : ℕ). length (take n text)) (sym e)
+    ap (λ (n : ℕ). digit_count (take n text)) e ∙ count-all (digits-first text) ∙ ap (λ (n : ℕ). length (take n text)) (sym e)
 
 -- ---- counting digits in a loop
 
 pub step : (text : List ℕ) (i : ℕ) → i < length text → drop i text ≡ get_or text i 0 ∷ drop (i + 1) text
 step text i h = drop-cons text i 0 h ∙ ap (λ (n : ℕ). get_or text i 0 ∷ drop n text) (sym (add-one i))
 
-pub count-more : (text : List ℕ) (i : ℕ) → i < length text → isDigit (get_or text i 0) ≡ true
-    → digitCount (drop i text) ≡ digitCount (drop (i + 1) text) + 1
-unfolding digitCount
-count-more text i h e = ap digitCount (step text i h) ∙ simp e (sym (add-one _))
+pub count-more : (text : List ℕ) (i : ℕ) → i < length text → is_digit (get_or text i 0) ≡ true
+    → digit_count (drop i text) ≡ digit_count (drop (i + 1) text) + 1
+unfolding digit_count
+count-more text i h e = ap digit_count (step text i h) ∙ simp e (sym (add-one _))
 
-pub count-stop : (text : List ℕ) (i : ℕ) → i < length text → isDigit (get_or text i 0) ≡ false → digitCount (drop i text) ≡ 0
-unfolding digitCount
-count-stop text i h e = ap digitCount (step text i h) ∙ simp e
+pub count-stop : (text : List ℕ) (i : ℕ) → i < length text → is_digit (get_or text i 0) ≡ false → digit_count (drop i text) ≡ 0
+unfolding digit_count
+count-stop text i h e = ap digit_count (step text i h) ∙ simp e
 
-pub count-end : (text : List ℕ) (i : ℕ) → i ≡ length text → digitCount (drop i text) ≡ 0
-unfolding digitCount
-count-end text i e = ap digitCount (ap (λ (n : ℕ). drop n text) e ∙ drop-length text)
+pub count-end : (text : List ℕ) (i : ℕ) → i ≡ length text → digit_count (drop i text) ≡ 0
+unfolding digit_count
+count-end text i e = ap digit_count (ap (λ (n : ℕ). drop n text) e ∙ drop-length text)
 
 -- ---- their value in a loop
 
 pub value-more : (text : List ℕ) (front i : ℕ) → i < length text
-    → valueFrom front (drop i text) ≡ valueFrom (front * 10 + (get_or text i 0 - 48)) (drop (i + 1) text)
-unfolding valueFrom
-value-more text front i h = ap (valueFrom front) (step text i h)
+    → value_from front (drop i text) ≡ value_from (front * 10 + (get_or text i 0 - 48)) (drop (i + 1) text)
+unfolding value_from
+value-more text front i h = ap (value_from front) (step text i h)
 
-pub value-end : (text : List ℕ) (front i : ℕ) → i ≡ length text → valueFrom front (drop i text) ≡ front
-unfolding valueFrom
-value-end text front i e = ap (valueFrom front) (ap (λ (n : ℕ). drop n text) e ∙ drop-length text)
+pub value-end : (text : List ℕ) (front i : ℕ) → i ≡ length text → value_from front (drop i text) ≡ front
+unfolding value_from
+value-end text front i e = ap (value_from front) (ap (λ (n : ℕ). drop n text) e ∙ drop-length text)
 
-pub value-append : (front : ℕ) (xs ys : List ℕ) → valueFrom front (xs ++ ys) ≡ valueFrom (valueFrom front xs) ys
-unfolding valueFrom
+pub value-append : (front : ℕ) (xs ys : List ℕ) → value_from front (xs ++ ys) ≡ value_from (value_from front xs) ys
+unfolding value_from
 value-append front [] ys = refl
 value-append front (x ∷ xs) ys = value-append (front * 10 + (x - 48)) xs ys
 
-pub value-last : (front n : ℕ) → valueFrom front (digit n ∷ []) ≡ front * 10 + n
-unfolding valueFrom
+pub value-last : (front n : ℕ) → value_from front (digit n ∷ []) ≡ front * 10 + n
+unfolding value_from
 value-last front n = omega arith

@@ -7,13 +7,13 @@ use Prim.Native.Nat.{ℕ, suc, ◌+◌, ◌^◌, ◌≤◌, ◌<◌}
 use native.Mathlib.Omega.{arith}
 use lib.ListN.{length, drop, length-append, length-drop, drop_of_length-le}
 use Rattle.text_lines.specs.declared.Line.TheVariants.{Refused}
-use Rattle.text_lines.specs.Decimal.{decimal, digitCount}
-use Rattle.text_lines.specs.Lines.{numberText, begins, isNumeral, number_at, numberLine}
+use Rattle.text_lines.specs.Decimal.{decimal, digit_count}
+use Rattle.text_lines.specs.Lines.{number_text, begins, is_numeral, number_at, number_line}
 use Rattle.text_lines.proofs.Decimal.{length_most}
 use Rattle.text_lines.proofs.Begins.{begins-split}
 
-pub past_end : (most : ℕ) (name text : List ℕ) (at : ℕ) → length text < at → numberLine most name text at ≡ Refused
-unfolding numberLine begins number_at digitCount isNumeral
+pub past_end : (most : ℕ) (name text : List ℕ) (at : ℕ) → length text < at → number_line most name text at ≡ Refused
+unfolding number_line begins number_at digit_count is_numeral
 past_end most [] text at h = simp (drop_of_length-le text {i = at + 0} (omega arith))
 past_end most (x ∷ name) text at h = simp (drop_of_length-le text {i = at} (omega arith))
 
@@ -25,10 +25,10 @@ name-within name text at h e =
 
 -- ---- writing
 
-pub number-text-length : (name : List ℕ) (n : ℕ) → length (numberText name n) ≡ length name + length (decimal n) + 1
+pub number-text-length : (name : List ℕ) (n : ℕ) → length (number_text name n) ≡ length name + length (decimal n) + 1
 number-text-length name n =
     let e = length-append name (decimal n ++ (10 ∷ [])) in let d = length-append (decimal n) (10 ∷ []) in omega arith
 
 -- the line of a number with at most `places` + 1 digits
-pub number-text-most : (name : List ℕ) (places n : ℕ) → n < 10 ^ suc places → length (numberText name n) ≤ length name + places + 2
+pub number-text-most : (name : List ℕ) (places n : ℕ) → n < 10 ^ suc places → length (number_text name n) ≤ length name + places + 2
 number-text-most name places n h = let l = number-text-length name n in let d = length_most places n h in omega arith

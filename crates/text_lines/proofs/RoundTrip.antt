@@ -14,8 +14,8 @@ use lib.Seq.{take-append_seam, get_or-append_seam, drop-cons, drop-drop}
 use Rattle.lists.proofs.Both.{both_true}
 use Rattle.lists.proofs.Cuts.{drop-after}
 use Rattle.text_lines.specs.declared.Line.TheVariants.{Value, Refused}
-use Rattle.text_lines.specs.Decimal.{decimal, digitCount, valueFrom}
-use Rattle.text_lines.specs.Lines.{numberText, begins, isNumeral, number_at, numberLine}
+use Rattle.text_lines.specs.Decimal.{decimal, digit_count, value_from}
+use Rattle.text_lines.specs.Lines.{number_text, begins, is_numeral, number_at, number_line}
 use Rattle.text_lines.proofs.DigitTexts.{below-digits, count-digits}
 use Rattle.text_lines.proofs.Decimal.{length-within, some-digits, decimal-digits, value-decimal}
 use Rattle.text_lines.proofs.Numerals.{no-leading-zero, NumeralRead, numeral-read}
@@ -26,10 +26,10 @@ use Rattle.text_lines.proofs.NumberLines.{number-text-length}
 
 number-written : (most at n : ℕ) (rest : List ℕ) → 0 < most → n < 10 ^ most
     → number_at most at (decimal n ++ (10 ∷ rest)) ≡ Value n (at + length (decimal n) + 1)
-unfolding number_at isNumeral
+unfolding number_at is_numeral
 number-written most at n rest some h =
     let text = decimal n ++ (10 ∷ rest) in
-    let count : digitCount text ≡ length (decimal n) = count-digits (decimal-digits n) 10 rest (below-digits 10 (omega arith)) in
+    let count : digit_count text ≡ length (decimal n) = count-digits (decimal-digits n) 10 rest (below-digits 10 (omega arith)) in
     simp (
       count,
       le-leb 1 (length (decimal n)) (some-digits n),
@@ -40,14 +40,14 @@ number-written most at n rest some h =
       value-decimal n,
     )
 
-pub line-written : (most : ℕ) (name text rest : List ℕ) (at n : ℕ) → 0 < most → n < 10 ^ most → drop at text ≡ numberText name n ++ rest
-    → numberLine most name text at ≡ Value n (at + length (numberText name n))
-unfolding numberLine
+pub line-written : (most : ℕ) (name text rest : List ℕ) (at n : ℕ) → 0 < most → n < 10 ^ most → drop at text ≡ number_text name n ++ rest
+    → number_line most name text at ≡ Value n (at + length (number_text name n))
+unfolding number_line
 line-written most name text rest at n some h e =
     let here : drop at text ≡ name ++ (decimal n ++ (10 ∷ rest)) = e ∙ simp append_assoc in
     let starts : begins name (drop at text) ≡ true = ap (begins name) here ∙ begins-joined name (decimal n ++ (10 ∷ rest)) in
     let place = at + length name in
-    let end : place + length (decimal n) + 1 ≡ at + length (numberText name n) = let l = number-text-length name n in omega arith in
+    let end : place + length (decimal n) + 1 ≡ at + length (number_text name n) = let l = number-text-length name n in omega arith in
     simp starts
     (ap (number_at most place) (drop-after text name (decimal n ++ (10 ∷ rest)) at here)
     ∙ number-written most place n rest some h ∙ ap (Value n) end)
@@ -57,8 +57,8 @@ line-written most name text rest at n some h e =
 -- a line read at a place of a text: the text's next bytes are the line's, and `next` is the place after them
 pub record LineRead (most : ℕ) (name text : List ℕ) (at n next : ℕ) : Type 0 where
   pub below : n < 10 ^ most
-  pub next-is : next ≡ at + length (numberText name n)
-  pub here : drop at text ≡ numberText name n ++ drop next text
+  pub next-is : next ≡ at + length (number_text name n)
+  pub here : drop at text ≡ number_text name n ++ drop next text
 
 -- a test that yields a line has passed
 passed : (t : Bool) (v place n next : ℕ) → cond t (Value v place) Refused ≡ Value n next → (t ≡ true) × (v ≡ n) × (place ≡ next)
@@ -81,9 +81,9 @@ within text i e = go (ltb i (length text)) refl
 number_read : (most : ℕ) (text : List ℕ) (at n next : ℕ) → number_at most at text ≡ Value n next → NumberRead most text at n next
 unfolding number_at
 number_read most text at n next e =
-    let count = digitCount text in
-    let p = passed (isNumeral most count text && eqb (get_or text count 0) 10) (valueFrom 0 (take count text)) (at + count + 1) n next e in
-    let q = both_true (isNumeral most count text) (eqb (get_or text count 0) 10) p.0 in
+    let count = digit_count text in
+    let p = passed (is_numeral most count text && eqb (get_or text count 0) 10) (value_from 0 (take count text)) (at + count + 1) n next e in
+    let q = both_true (is_numeral most count text) (eqb (get_or text count 0) 10) p.0 in
     let r : NumeralRead most text n = rw p.1 at (numeral-read most text q.0) in
     let ended : get_or text count 0 ≡ 10 = eqb-true (get_or text count 0) 10 q.1 in
     let many = r.many in
@@ -94,8 +94,8 @@ number_read most text at n next e =
       here = r.here ∙ ap (λ (l : List ℕ). decimal n ++ l) rest;
     }
 
-pub line_read : (most : ℕ) (name text : List ℕ) (at n next : ℕ) → numberLine most name text at ≡ Value n next → LineRead most name text at n next
-unfolding numberLine
+pub line_read : (most : ℕ) (name text : List ℕ) (at n next : ℕ) → number_line most name text at ≡ Value n next → LineRead most name text at n next
+unfolding number_line
 line_read most name text at n next e = go (begins name (drop at text)) refl
   where
     place : ℕ

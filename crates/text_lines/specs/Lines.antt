@@ -4,11 +4,11 @@
 use Rattle.std.specs.Prelude.{ℕ, ◌+◌, Bool, true, false, cond, not, ◌&&◌, List, [], ◌∷◌, ◌++◌, leb, ltb, eqb, length, take, drop, get_or}
 use Rattle.text_lines.specs.declared.Line.{Line}
 use Rattle.text_lines.specs.declared.Line.TheVariants.{Value, Refused}
-use Rattle.text_lines.specs.Decimal.{decimal, digitCount, valueFrom}
+use Rattle.text_lines.specs.Decimal.{decimal, digit_count, value_from}
 
 -- the line of a name and a number
-abbrev pub numberText : List ℕ → ℕ → List ℕ
-numberText name n = name ++ (decimal n ++ (10 ∷ []))
+abbrev pub number_text : List ℕ → ℕ → List ℕ
+number_text name n = name ++ (decimal n ++ (10 ∷ []))
 
 -- the text begins with the first list
 unfoldable pub begins : List ℕ → List ℕ → Bool
@@ -17,19 +17,19 @@ begins (x ∷ xs) [] = false
 begins (x ∷ xs) (y ∷ text) = eqb x y && begins xs text
 
 -- more than one digit, and the first is 0
-abbrev pub leadingZero : ℕ → List ℕ → Bool
-leadingZero count text = ltb 1 count && eqb (get_or text 0 0) 48
+abbrev pub leading_zero : ℕ → List ℕ → Bool
+leading_zero count text = ltb 1 count && eqb (get_or text 0 0) 48
 
 -- the `count` digits at the start of a text are a number's, of at most `most`
-unfoldable pub isNumeral : ℕ → ℕ → List ℕ → Bool
-isNumeral most count text = leb 1 count && (leb count most && not (leadingZero count text))
+unfoldable pub is_numeral : ℕ → ℕ → List ℕ → Bool
+is_numeral most count text = leb 1 count && (leb count most && not (leading_zero count text))
 
 -- a number and byte 10 at the start of a text, which begins at place `at`
 unfoldable pub number_at : ℕ → ℕ → List ℕ → Line
 number_at most at text =
-    let count = digitCount text in
-    cond (isNumeral most count text && eqb (get_or text count 0) 10) (Value (valueFrom 0 (take count text)) (at + count + 1)) Refused
+    let count = digit_count text in
+    cond (is_numeral most count text && eqb (get_or text count 0) 10) (Value (value_from 0 (take count text)) (at + count + 1)) Refused
 
 -- the line at place `at`
-unfoldable pub numberLine : ℕ → List ℕ → List ℕ → ℕ → Line
-numberLine most name text at = cond (begins name (drop at text)) (number_at most (at + length name) (drop (at + length name) text)) Refused
+unfoldable pub number_line : ℕ → List ℕ → List ℕ → ℕ → Line
+number_line most name text at = cond (begins name (drop at text)) (number_at most (at + length name) (drop (at + length name) text)) Refused

@@ -1,8 +1,8 @@
 // Lines of text: a name and a decimal number, ended by byte 10. Read at a place of a text, and written at a place of a buffer.
 ghost use Rattle.std.specs.Prelude.{◌≡◌, ◌+◌, ◌^◌, ◌≤◌, ◌<◌, length};
 ghost use Rattle.lists.specs.Parts.{put};
-ghost use Rattle.text_lines.specs.Decimal.{decimal, digitCount, valueFrom};
-ghost use Rattle.text_lines.specs.Lines.{numberText, begins, isNumeral, number_at, numberLine};
+ghost use Rattle.text_lines.specs.Decimal.{decimal, digit_count, value_from};
+ghost use Rattle.text_lines.specs.Lines.{number_text, begins, is_numeral, number_at, number_line};
 
 // What stands at a place of the text: a line with this value, the next line at `next`; or no such line.
 #[derive(Drop)]
@@ -30,7 +30,7 @@ pub fn starts(name: &[u8], text: &[u8]) -> bool
 
 // How many digits the text begins with.
 pub fn digits(text: &[u8]) -> usize
-    ensures value { result ≡ digitCount text.now }
+    ensures value { result ≡ digit_count text.now }
     ensures upper_bound { result ≤ length text.now }
 {
     let mut i = 0;
@@ -50,8 +50,8 @@ pub fn digits(text: &[u8]) -> usize
 // The number of at most seven digits.
 pub fn value(text: &[u8]) -> usize
     requires text_len_bound { length text.now ≤ 7 }
-    requires text_value { digitCount text.now ≡ length text.now }
-    ensures { result ≡ valueFrom 0 text.now }
+    requires text_value { digit_count text.now ≡ length text.now }
+    ensures { result ≡ value_from 0 text.now }
 {
     let mut n: usize = 0;
     let mut i = 0;
@@ -65,7 +65,7 @@ pub fn value(text: &[u8]) -> usize
 
 // Whether the `count` digits at the start of the text are a number: one to `most`, without leading zero.
 pub fn is_numeral(most: usize, count: usize, text: &[u8]) -> bool
-    ensures { result ≡ isNumeral most count text.now }
+    ensures { result ≡ is_numeral most count text.now }
 {
     if count < 1 {
         return false;
@@ -108,7 +108,7 @@ fn number(most: usize, text: &[u8], at: usize) -> Line
 // The line at place `at`: the name, a number of one to `most` digits without leading zero, and byte 10.
 pub fn number_line(most: usize, name: &[u8], text: &[u8], at: usize) -> Line
     requires { most ≤ 7 }
-    ensures { result ≡ numberLine most name.now text.now at }
+    ensures { result ≡ number_line most name.now text.now at }
 {
     if text.len() < at {
         return Line::Refused;
@@ -135,7 +135,7 @@ pub fn width(n: usize) -> usize
 
 // The bytes of the line of a name and a number.
 pub fn line_length(name: &[u8], n: usize) -> usize
-    ensures { result ≡ length (numberText name.now n) }
+    ensures { result ≡ length (number_text name.now n) }
 {
     name.len() + width(n) + 1
 }
@@ -171,9 +171,9 @@ pub fn put_decimal(out: &mut [u8], at: usize, n: usize) -> usize
 
 // Writes the line of a name and a number from place `at` on, and gives the place after it.
 pub fn put_line(out: &mut [u8], at: usize, name: &[u8], n: usize) -> usize
-    requires { at + length (numberText name.now n) ≤ length out.old }
-    ensures value { result ≡ at + length (numberText name.now n) }
-    ensures out_after { out.new ≡ put at (numberText name.now n) out.old }
+    requires { at + length (number_text name.now n) ≤ length out.old }
+    ensures value { result ≡ at + length (number_text name.now n) }
+    ensures out_after { out.new ≡ put at (number_text name.now n) out.old }
 {
     let digits = put_bytes(out, at, name);
     let end = put_decimal(out, digits, n);

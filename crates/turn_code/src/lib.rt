@@ -4,12 +4,12 @@
 ghost use Rattle.std.specs.Prelude.{◌≡◌, true, ◌*◌, ◌≤◌, ◌<◌, length};
 ghost use Rattle.lists.specs.Parts.{put, lay};
 ghost use Rattle.lists.specs.Below.{all_below};
-ghost use Rattle.parameters.specs.Bounds.{shortFits};
-ghost use Rattle.parameters.specs.Measures.{turnSizes};
+ghost use Rattle.parameters.specs.Bounds.{short_fits};
+ghost use Rattle.parameters.specs.Measures.{turn_sizes};
 ghost use Rattle.symbol.specs.Operations.{sum_of};
-ghost use Rattle.scheme.specs.Scheme.{Valid, recoverIn};
-ghost use Rattle.short_scheme.specs.Short.{shortAnswerLength};
-ghost use Rattle.turn_code.specs.Turn.{part_of, turnQuery, turnAdmits, turnScheme};
+ghost use Rattle.scheme.specs.Scheme.{Valid, recover_in};
+ghost use Rattle.short_scheme.specs.Short.{short_answer_length};
+ghost use Rattle.turn_code.specs.Turn.{part_of, turn_query, turn_admits, turn_scheme};
 
 use short_rows::{digits, recovering};
 use symbol::Operation;
@@ -29,7 +29,7 @@ pub fn query(n: usize, wanted: usize, server: usize, key: &[u8], out: &mut [u8])
     requires server_lt_n { (server < n) × (n ≤ 16) }
     requires key_value { all_below n key.now ≡ true }
     requires wanted_in_bounds { (wanted < length key.now) × (length key.now ≤ length out.old) }
-    ensures { out.new ≡ put 0 (turnQuery n wanted server key.now) out.old }
+    ensures { out.new ≡ put 0 (turn_query n wanted server key.now) out.old }
 {
     let played = part(n, server, key);
     let last = key.len() - 1;
@@ -38,7 +38,7 @@ pub fn query(n: usize, wanted: usize, server: usize, key: &[u8], out: &mut [u8])
 
 // Whether a server, whichever it is, admits the query.
 pub fn admits(n: usize, k: usize, query: &[u8]) -> bool
-    ensures { result ≡ turnAdmits n k query.now }
+    ensures { result ≡ turn_admits n k query.now }
 {
     if query.len() != k {
         return false;
@@ -50,7 +50,7 @@ pub fn admits(n: usize, k: usize, query: &[u8]) -> bool
 pub fn expected_length(n: usize, s: usize, wanted: usize, server: usize, key: &[u8]) -> usize
     requires server_lt_n { server < n }
     requires key_nonzero { (0 < length key.now) × (all_below n key.now ≡ true) }
-    ensures { result ≡ shortAnswerLength s (turnQuery n wanted server key.now) }
+    ensures { result ≡ short_answer_length s (turn_query n wanted server key.now) }
 {
     let played = part(n, server, key);
     let last = key.len() - 1;
@@ -70,11 +70,11 @@ pub fn recover(
     answers: &[u8],
     message: &mut [u8],
 )
-    requires s_value { shortFits n k s ≡ true }
-    requires valid { Valid (turnScheme (sum_of op) n k s) key.now }
-    requires s_in_bounds { n * (turnSizes n k s).slot ≤ length answers.now }
+    requires s_value { short_fits n k s ≡ true }
+    requires valid { Valid (turn_scheme (sum_of op) n k s) key.now }
+    requires s_in_bounds { n * (turn_sizes n k s).slot ≤ length answers.now }
     ensures { message.new
-        ≡ lay 0 (recoverIn (turnScheme (sum_of op) n k s) n wanted key.now answers.now) message.old }
+        ≡ lay 0 (recover_in (turn_scheme (sum_of op) n k s) n wanted key.now answers.now) message.old }
 {
     let last = key.len() - 1;
     let turn = key[last] as usize;

@@ -18,12 +18,12 @@ use Rattle.catalogue.specs.declared.Catalogue.{Catalogue}
 use Rattle.catalogue.specs.Catalogue.{Admitted}
 use Rattle.catalogue.specs.Days.{Served}
 use Rattle.catalogue.proofs.Faults.{day-chain}
-use Rattle.short_scheme.specs.Short.{allZero, shortAnswerLength}
-use Rattle.codes.specs.Codes.{schemeOf}
+use Rattle.short_scheme.specs.Short.{all_zero, short_answer_length}
+use Rattle.codes.specs.Codes.{scheme_of}
 use Rattle.codes.proofs.Promises.{promises, scheme-short}
-use Rattle.server.specs.Answering.{Answered, written_by, answerVerdict, answering}
+use Rattle.server.specs.Answering.{Answered, written_by, answer_verdict, answering}
 use Rattle.server.proofs.Laws.{answer-passed, answer-by, writes-answer}
-use Rattle.answer_unit.specs.Registers.{unitTakes}
+use Rattle.answer_unit.specs.Registers.{unit_takes}
 use Rattle.answer_unit.proofs.Chains.{unit-takes}
 
 -- an outcome is a refusal, or the length of an empty answer or of one symbol
@@ -36,77 +36,77 @@ pub record Same (a b : Answered) : Type 0 where
   pub outcome : a.outcome ≡ b.outcome
   pub written : written_by a.outcome a.buffer ≡ written_by b.outcome b.buffer
 
-module _ (c : Catalogue) (takes : unitTakes c ≡ true) where
+module _ (c : Catalogue) (takes : unit_takes c ≡ true) where
   pub undated-served : (day : Day) → Served c day
   undated-served day = day-chain c day ∙ rw (unit-takes c takes).no-dates
 
-  pub short-length : (query : List ℕ) → ((schemeOf c).answerLength query ≡ 0) ⊎ ((schemeOf c).answerLength query ≡ c.symbol)
-  unfolding shortAnswerLength
-  short-length query = rw (scheme-short c (unit-takes c takes).short) (go (allZero query))
+  pub short-length : (query : List ℕ) → ((scheme_of c).answer_length query ≡ 0) ⊎ ((scheme_of c).answer_length query ≡ c.symbol)
+  unfolding short_answer_length
+  short-length query = rw (scheme-short c (unit-takes c takes).short) (go (all_zero query))
     where
       go : (zeros : Bool) → (cond zeros 0 c.symbol ≡ 0) ⊎ (cond zeros 0 c.symbol ≡ c.symbol)
       go true = inl refl
       go false = inr refl
 
-  pub length-small : (query : List ℕ) → (schemeOf c).answerLength query ≤ c.symbol
-  length-small query = ⊎_elim (λ e. let w : (schemeOf c).answerLength query ≤ c.symbol = omega (arith, e) in w)
-      (λ e. let w : (schemeOf c).answerLength query ≤ c.symbol = omega (arith, e) in w) (short-length query)
+  pub length-small : (query : List ℕ) → (scheme_of c).answer_length query ≤ c.symbol
+  length-small query = ⊎_elim (λ e. let w : (scheme_of c).answer_length query ≤ c.symbol = omega (arith, e) in w)
+      (λ e. let w : (scheme_of c).answer_length query ≤ c.symbol = omega (arith, e) in w) (short-length query)
 
   same-verdict : (server stored : ℕ) (query : List ℕ) (day other : Day) (room least : ℕ) → c.symbol ≤ room → c.symbol ≤ least
-      → answerVerdict schemeOf c day server stored query room ≡ answerVerdict schemeOf c other server stored query least
-  unfolding answerVerdict
+      → answer_verdict scheme_of c day server stored query room ≡ answer_verdict scheme_of c other server stored query least
+  unfolding answer_verdict
   same-verdict server stored query day other room least r l =
       let small = length-small query in
-      let a : (schemeOf c).answerLength query ≤ room = omega (arith, small, r) in
-      let b : (schemeOf c).answerLength query ≤ least = omega (arith, small, l) in
+      let a : (scheme_of c).answer_length query ≤ room = omega (arith, small, r) in
+      let b : (scheme_of c).answer_length query ≤ least = omega (arith, small, l) in
       rw (
         (unit-takes c takes).no-dates,
-        le-ltb room ((schemeOf c).answerLength query) a,
-        le-ltb least ((schemeOf c).answerLength query) b,
+        le-ltb room ((scheme_of c).answer_length query) a,
+        le-ltb least ((scheme_of c).answer_length query) b,
       )
 
   module _ (admitted : Admitted c) (server : ℕ) (store query : List ℕ) where
-    pub outcome_fits : (day : Day) (buffer : List ℕ) → Fits c.symbol (answering schemeOf c day server store query buffer).outcome
-    outcome_fits day buffer = go (answerVerdict schemeOf c day server (length store) query (length buffer)) refl
+    pub outcome_fits : (day : Day) (buffer : List ℕ) → Fits c.symbol (answering scheme_of c day server store query buffer).outcome
+    outcome_fits day buffer = go (answer_verdict scheme_of c day server (length store) query (length buffer)) refl
       where
-        go : (v : Verdict) → v ≡ answerVerdict schemeOf c day server (length store) query (length buffer)
-            → Fits c.symbol (answering schemeOf c day server store query buffer).outcome
-        go Accepted e = rw (answer-by schemeOf c day server store query buffer Accepted e) (short-length query)
-        go (Refused refusal) e = rw (answer-by schemeOf c day server store query buffer (Refused refusal) e) tt
+        go : (v : Verdict) → v ≡ answer_verdict scheme_of c day server (length store) query (length buffer)
+            → Fits c.symbol (answering scheme_of c day server store query buffer).outcome
+        go Accepted e = rw (answer-by scheme_of c day server store query buffer Accepted e) (short-length query)
+        go (Refused refusal) e = rw (answer-by scheme_of c day server store query buffer (Refused refusal) e) tt
 
-    pub kept-length : (day : Day) (buffer : List ℕ) → length (answering schemeOf c day server store query buffer).buffer ≡ length buffer
-    kept-length day buffer = go (answerVerdict schemeOf c day server (length store) query (length buffer)) refl
+    pub kept-length : (day : Day) (buffer : List ℕ) → length (answering scheme_of c day server store query buffer).buffer ≡ length buffer
+    kept-length day buffer = go (answer_verdict scheme_of c day server (length store) query (length buffer)) refl
       where
-        go : (v : Verdict) → v ≡ answerVerdict schemeOf c day server (length store) query (length buffer)
-            → length (answering schemeOf c day server store query buffer).buffer ≡ length buffer
+        go : (v : Verdict) → v ≡ answer_verdict scheme_of c day server (length store) query (length buffer)
+            → length (answering scheme_of c day server store query buffer).buffer ≡ length buffer
         go Accepted e =
-            let a = answer-passed schemeOf c day server (length store) query (length buffer) (sym e) in
+            let a = answer-passed scheme_of c day server (length store) query (length buffer) (sym e) in
             let long = (promises c admitted).answer-length server store query a.store_long a.admits in
-            let room : 0 + length ((schemeOf c).answer store query) ≤ length buffer = omega (arith, long, a.roomy) in
-            rw (answer-by schemeOf c day server store query buffer Accepted e) (put-length 0 ((schemeOf c).answer store query) buffer room)
-        go (Refused refusal) e = rw (answer-by schemeOf c day server store query buffer (Refused refusal) e)
+            let room : 0 + length ((scheme_of c).answer store query) ≤ length buffer = omega (arith, long, a.roomy) in
+            rw (answer-by scheme_of c day server store query buffer Accepted e) (put-length 0 ((scheme_of c).answer store query) buffer room)
+        go (Refused refusal) e = rw (answer-by scheme_of c day server store query buffer (Refused refusal) e)
 
     pub same_answer : (day other : Day) (buffer least : List ℕ) → c.symbol ≤ length buffer → c.symbol ≤ length least
-        → Same (answering schemeOf c day server store query buffer) (answering schemeOf c other server store query least)
+        → Same (answering scheme_of c day server store query buffer) (answering scheme_of c other server store query least)
     same_answer day other buffer least r l =
-        go (answerVerdict schemeOf c day server (length store) query (length buffer)) refl
+        go (answer_verdict scheme_of c day server (length store) query (length buffer)) refl
         (same-verdict server (length store) query day other (length buffer) (length least) r l)
       where
-        go : (v : Verdict) → v ≡ answerVerdict schemeOf c day server (length store) query (length buffer)
-            → answerVerdict schemeOf c day server (length store) query (length buffer)
-            ≡ answerVerdict schemeOf c other server (length store) query (length least)
-            → Same (answering schemeOf c day server store query buffer) (answering schemeOf c other server store query least)
+        go : (v : Verdict) → v ≡ answer_verdict scheme_of c day server (length store) query (length buffer)
+            → answer_verdict scheme_of c day server (length store) query (length buffer)
+            ≡ answer_verdict scheme_of c other server (length store) query (length least)
+            → Same (answering scheme_of c day server store query buffer) (answering scheme_of c other server store query least)
         go Accepted e f = record {
           outcome = rw (
-            answer-by schemeOf c day server store query buffer Accepted e,
-            answer-by schemeOf c other server store query least Accepted (e ∙ f),
+            answer-by scheme_of c day server store query buffer Accepted e,
+            answer-by scheme_of c other server store query least Accepted (e ∙ f),
           );
           written =
-              writes-answer schemeOf c (promises c admitted) day server store query buffer (sym e)
-              ∙ sym (writes-answer schemeOf c (promises c admitted) other server store query least (sym (e ∙ f)));
+              writes-answer scheme_of c (promises c admitted) day server store query buffer (sym e)
+              ∙ sym (writes-answer scheme_of c (promises c admitted) other server store query least (sym (e ∙ f)));
         }
         go (Refused refusal) e f =
             rw (
-              answer-by schemeOf c day server store query buffer (Refused refusal) e,
-              answer-by schemeOf c other server store query least (Refused refusal) (e ∙ f),
+              answer-by scheme_of c day server store query buffer (Refused refusal) e,
+              answer-by scheme_of c other server store query least (Refused refusal) (e ∙ f),
             ) (record { outcome = refl; written = refl })

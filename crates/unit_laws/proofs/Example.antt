@@ -7,27 +7,27 @@ use Prim.Native.Nat.{ℕ}
 use Rattle.lists.specs.Below.{all_below}
 use Rattle.lists.specs.Ranges.{range, every}
 use Rattle.refusal.specs.Foremost.{foremost}
-use Rattle.parameters.specs.Bounds.{shortFits}
-use Rattle.parameters.specs.Measures.{shortSizes}
-use Rattle.symbol.specs.Sum.{total, totalFrom}
-use Rattle.symbol.specs.Xor.{xorBytes}
+use Rattle.parameters.specs.Bounds.{short_fits}
+use Rattle.parameters.specs.Measures.{short_sizes}
+use Rattle.symbol.specs.Sum.{total, total_from}
+use Rattle.symbol.specs.Xor.{xor_bytes}
 use Rattle.symbol.specs.declared.Operation.TheVariants.{ExclusiveOr}
-use Rattle.calendar.specs.Calendar.{noDay, is_none, undated}
-use Rattle.lengths.specs.Lengths.{noLengths, lengthsFit}
+use Rattle.calendar.specs.Calendar.{no_day, is_none, undated}
+use Rattle.lengths.specs.Lengths.{no_lengths, lengths_fit}
 use Rattle.catalogue.specs.declared.Catalogue.{Catalogue}
 use Rattle.catalogue.specs.declared.Code.TheVariants.{Short}
-use Rattle.catalogue.specs.Catalogue.{datesFit, sizesOf, catalogueVerdict}
-use Rattle.short_scheme.specs.Short.{digitSum, shortAdmits, shortAnswerLength, named, shortAnswer}
-use Rattle.codes.specs.Codes.{schemeOf}
-use Rattle.server.specs.Answering.{answerVerdict, answering}
+use Rattle.catalogue.specs.Catalogue.{dates_fit, sizes_of, catalogue_verdict}
+use Rattle.short_scheme.specs.Short.{digit_sum, short_admits, short_answer_length, named, short_answer}
+use Rattle.codes.specs.Codes.{scheme_of}
+use Rattle.server.specs.Answering.{answer_verdict, answering}
 use Rattle.answer_unit.specs.declared.AnswerUnit.{AnswerUnit}
 use Rattle.answer_unit.specs.Unit.{fresh}
-use Rattle.answer_unit.specs.Registers.{shown, afterRead, append, acknowledge, answer_of, start, control, afterWrite, line}
-use Rattle.answer_unit.specs.Registers.{unitTakes, setUpVerdict, setUp, accessVerdict, readRegister, writeRegister}
+use Rattle.answer_unit.specs.Registers.{shown, after_read, append, acknowledge, answer_of, start, control, after_write, line}
+use Rattle.answer_unit.specs.Registers.{unit_takes, set_up_verdict, set_up, access_verdict, read_register, write_register}
 use Rattle.unit_laws.specs.Runs.{Access, reading, writing, after, run, asking}
 
 abbrev small : Catalogue
-small = record { code = Short; sum = ExclusiveOr; opening = noDay; closing = noDay; lengths = noLengths; servers = 2; messages = 2; symbol = 1 }
+small = record { code = Short; sum = ExclusiveOr; opening = no_day; closing = no_day; lengths = no_lengths; servers = 2; messages = 2; symbol = 1 }
 
 abbrev stored : List ℕ
 stored = 90 ∷ 195 ∷ []
@@ -40,28 +40,28 @@ abbrev others : List Access
 others = reading 5 stored ∷ reading 4 stored ∷ reading 1 stored ∷ reading 3 stored ∷ writing 5 1 stored ∷ []
 
 -- the bytes that the reads of a run give
-abbrev byteBy : AnswerUnit → Access → List ℕ
-byteBy u (reading register store) = (readRegister u register store).byte ∷ []
-byteBy u (writing register value store) = []
+abbrev byte_by : AnswerUnit → Access → List ℕ
+byte_by u (reading register store) = (read_register u register store).byte ∷ []
+byte_by u (writing register value store) = []
 
-unfoldable pub bytesRead : AnswerUnit → List Access → List ℕ
-bytesRead u [] = []
-bytesRead u (access ∷ accesses) = byteBy u access ++ bytesRead (after u access) accesses
+unfoldable pub bytes_read : AnswerUnit → List Access → List ℕ
+bytes_read u [] = []
+bytes_read u (access ∷ accesses) = byte_by u access ++ bytes_read (after u access) accesses
 
-pub eight-accesses : bytesRead (setUp small 0).unit (first ++ others) ≡ 1 ∷ 0 ∷ 1 ∷ 153 ∷ []
-unfolding foremost all_below range every shortFits shortSizes total totalFrom xorBytes is_none undated datesFit noLengths lengthsFit sizesOf catalogueVerdict
-    digitSum shortAdmits shortAnswerLength named shortAnswer schemeOf answerVerdict answering fresh unitTakes setUpVerdict setUp accessVerdict shown afterRead
-    readRegister append acknowledge answer_of start control afterWrite writeRegister run bytesRead
+pub eight-accesses : bytes_read (set_up small 0).unit (first ++ others) ≡ 1 ∷ 0 ∷ 1 ∷ 153 ∷ []
+unfolding foremost all_below range every short_fits short_sizes total total_from xor_bytes is_none undated dates_fit no_lengths lengths_fit sizes_of catalogue_verdict
+    digit_sum short_admits short_answer_length named short_answer scheme_of answer_verdict answering fresh unit_takes set_up_verdict set_up access_verdict shown after_read
+    read_register append acknowledge answer_of start control after_write write_register run bytes_read
 eight-accesses = refl
 
-pub interrupted : line (run (setUp small 0).unit first) ≡ true
-unfolding foremost all_below range every shortFits shortSizes total totalFrom xorBytes is_none undated datesFit noLengths lengthsFit sizesOf catalogueVerdict
-    digitSum shortAdmits shortAnswerLength named shortAnswer schemeOf answerVerdict answering fresh unitTakes setUpVerdict setUp accessVerdict
-    append answer_of start control afterWrite writeRegister run
+pub interrupted : line (run (set_up small 0).unit first) ≡ true
+unfolding foremost all_below range every short_fits short_sizes total total_from xor_bytes is_none undated dates_fit no_lengths lengths_fit sizes_of catalogue_verdict
+    digit_sum short_admits short_answer_length named short_answer scheme_of answer_verdict answering fresh unit_takes set_up_verdict set_up access_verdict
+    append answer_of start control after_write write_register run
 interrupted = refl
 
-pub quiet-again : line (run (setUp small 0).unit (first ++ others)) ≡ false
-unfolding foremost all_below range every shortFits shortSizes total totalFrom xorBytes is_none undated datesFit noLengths lengthsFit sizesOf catalogueVerdict
-    digitSum shortAdmits shortAnswerLength named shortAnswer schemeOf answerVerdict answering fresh unitTakes setUpVerdict setUp accessVerdict shown afterRead
-    readRegister append acknowledge answer_of start control afterWrite writeRegister run
+pub quiet-again : line (run (set_up small 0).unit (first ++ others)) ≡ false
+unfolding foremost all_below range every short_fits short_sizes total total_from xor_bytes is_none undated dates_fit no_lengths lengths_fit sizes_of catalogue_verdict
+    digit_sum short_admits short_answer_length named short_answer scheme_of answer_verdict answering fresh unit_takes set_up_verdict set_up access_verdict shown after_read
+    read_register append acknowledge answer_of start control after_write write_register run
 quiet-again = refl

@@ -9,18 +9,18 @@ use native.Mathlib.Omega.{arith}
 use lib.Dec.{ltb, eqb}
 use lib.ListN.{length, get_or, set, length-set}
 use borrow.Author.Tests.{ltb-true}
-use Rattle.lists.specs.Sums.{All, allNil, allCons}
+use Rattle.lists.specs.Sums.{All, all_nil, all_cons}
 use Rattle.refusal.specs.declared.Verdict.{Verdict}
 use Rattle.refusal.specs.declared.Verdict.TheVariants.{Accepted, Refused}
 use Rattle.refusal.specs.declared.Outcome.{Outcome}
 use Rattle.refusal.specs.declared.Outcome.TheVariants.{Value, Refused as NoValue}
-use Rattle.refusal.specs.Numbers.{refusalOf}
-use Rattle.calendar.specs.Calendar.{noDay}
+use Rattle.refusal.specs.Numbers.{refusal_of}
+use Rattle.calendar.specs.Calendar.{no_day}
 use Rattle.catalogue.specs.declared.Catalogue.{Catalogue}
 use Rattle.answer_unit.specs.declared.AnswerUnit.{AnswerUnit}
-use Rattle.answer_unit.specs.Unit.{bit, fresh, waits, asked, withLine, withQuery}
-use Rattle.answer_unit.specs.Registers.{advance, afterRead, append, acknowledge, answeredFor, endedBy, answer_of, finished, start, control, afterWrite}
-use Rattle.answer_unit.specs.Registers.{accessVerdict, readRegister, writeRegister}
+use Rattle.answer_unit.specs.Unit.{bit, fresh, waits, asked, with_line, with_query}
+use Rattle.answer_unit.specs.Registers.{advance, after_read, append, acknowledge, answered_for, ended_by, answer_of, finished, start, control, after_write}
+use Rattle.answer_unit.specs.Registers.{access_verdict, read_register, write_register}
 use Rattle.answer_unit.proofs.Chains.{unit-takes, SetUp, set-up-passed, access-passed, access-accepted}
 use Rattle.answer_unit.proofs.Steps.{set-up-by, read-by, write-by}
 use Rattle.unit_laws.specs.Runs.{Access, reading, writing, after, run, Placed, Sound}
@@ -31,21 +31,21 @@ use Rattle.unit_laws.proofs.Answers.{Fits, outcome_fits, kept-length}
 
 -- whichever register it is
 pub whichever : (P : AnswerUnit → Type 0) (u : AnswerUnit) → P u → (units : List AnswerUnit) → All P units → (register : ℕ) → P (get_or units register u)
-whichever P u p [] allNil register = p
-whichever P u p (v ∷ units) (allCons q rest) zero = q
-whichever P u p (v ∷ units) (allCons q rest) (suc register) = whichever P u p units rest register
+whichever P u p [] all_nil register = p
+whichever P u p (v ∷ units) (all_cons q rest) zero = q
+whichever P u p (v ∷ units) (all_cons q rest) (suc register) = whichever P u p units rest register
 
-pub access-by : (P : AnswerUnit → Type 0) (u : AnswerUnit) → P u → ((register : ℕ) → P (afterRead u register))
-    → ((register value : ℕ) (store : List ℕ) → accessVerdict u register (length store) ≡ Accepted → P (afterWrite u register value store))
+pub access-by : (P : AnswerUnit → Type 0) (u : AnswerUnit) → P u → ((register : ℕ) → P (after_read u register))
+    → ((register value : ℕ) (store : List ℕ) → access_verdict u register (length store) ≡ Accepted → P (after_write u register value store))
     → (access : Access) → P (after u access)
-access-by P u p read write (reading register store) = go (accessVerdict u register (length store)) refl
+access-by P u p read write (reading register store) = go (access_verdict u register (length store)) refl
   where
-    go : (v : Verdict) → v ≡ accessVerdict u register (length store) → P (readRegister u register store).unit
+    go : (v : Verdict) → v ≡ access_verdict u register (length store) → P (read_register u register store).unit
     go Accepted e = rw (read-by u register store Accepted e) (read register)
     go (Refused refusal) e = rw (read-by u register store (Refused refusal) e) p
-access-by P u p read write (writing register value store) = go (accessVerdict u register (length store)) refl
+access-by P u p read write (writing register value store) = go (access_verdict u register (length store)) refl
   where
-    go : (v : Verdict) → v ≡ accessVerdict u register (length store) → P (writeRegister u register value store).unit
+    go : (v : Verdict) → v ≡ access_verdict u register (length store) → P (write_register u register value store).unit
     go Accepted e = rw (write-by u register value store Accepted e) (write register value store (sym e))
     go (Refused refusal) e = rw (write-by u register value store (Refused refusal) e) p
 
@@ -60,13 +60,13 @@ kept u v query answer held waiting catalogue server = record {
 }
 
 -- the places for an answer have room for one
-pub answer-room : (u : AnswerUnit) (stored : ℕ) → Placed u → accessVerdict u 0 stored ≡ Accepted → u.catalogue.symbol ≤ length u.answer
+pub answer-room : (u : AnswerUnit) (stored : ℕ) → Placed u → access_verdict u 0 stored ≡ Accepted → u.catalogue.symbol ≤ length u.answer
 answer-room u stored placed done =
     let s = set-up-passed u.catalogue u.server (access-passed u 0 stored done).set-up in
     omega (arith, (unit-takes u.catalogue s.takes).small, placed.answer-places)
 
 -- an access that was done finds the unit sound
-pub sound-at : (u : AnswerUnit) (register stored : ℕ) → Placed u → accessVerdict u register stored ≡ Accepted → Sound u
+pub sound-at : (u : AnswerUnit) (register stored : ℕ) → Placed u → access_verdict u register stored ≡ Accepted → Sound u
 sound-at u register stored placed done =
     let a = access-passed u register stored done in record { placed = placed; held_fits = a.held_fits; waiting-fits = a.waiting-fits }
 
@@ -93,16 +93,16 @@ module _ (u : AnswerUnit) (sound : Sound u) where
   answer-long : length u.answer ≡ 64
   answer-long = sound.placed.answer-places
 
-  pub lined : (enable flag : Bool) → Keeps u (withLine u enable flag)
-  lined enable flag = kept u (withLine u enable flag) query-long answer-long sound.held_fits sound.waiting-fits refl refl
+  pub lined : (enable flag : Bool) → Keeps u (with_line u enable flag)
+  lined enable flag = kept u (with_line u enable flag) query-long answer-long sound.held_fits sound.waiting-fits refl refl
 
   pub advanced : Keeps u (advance u)
   advanced =
       let fewer : u.waiting - 1 ≤ u.catalogue.symbol = omega (arith, sound.waiting-fits) in
       kept u (advance u) query-long answer-long sound.held_fits fewer refl refl
 
-  read_keeps : (register : ℕ) → Keeps u (afterRead u register)
-  unfolding afterRead
+  read_keeps : (register : ℕ) → Keeps u (after_read u register)
+  unfolding after_read
   read_keeps register = go (eqb register 3)
     where
       go : (third : Bool) → Keeps u (cond third (advance u) u)
@@ -114,43 +114,43 @@ module _ (u : AnswerUnit) (sound : Sound u) where
   append-keeps value = go (ltb u.held 32) refl
     where
       go : (room : Bool) → ltb u.held 32 ≡ room
-          → Keeps u (cond room (withQuery u u.overrun (u.held + 1) (set u.query u.held value)) (withQuery u true u.held u.query))
+          → Keeps u (cond room (with_query u u.overrun (u.held + 1) (set u.query u.held value)) (with_query u true u.held u.query))
       go true e =
           let more : u.held + 1 ≤ 32 = omega (arith, ltb-true u.held 32 e) in
-          kept u (withQuery u u.overrun (u.held + 1) (set u.query u.held value)) (length-set u.query u.held value ∙ query-long) answer-long
+          kept u (with_query u u.overrun (u.held + 1) (set u.query u.held value)) (length-set u.query u.held value ∙ query-long) answer-long
           more sound.waiting-fits refl refl
-      go false e = kept u (withQuery u true u.held u.query) query-long answer-long sound.held_fits sound.waiting-fits refl refl
+      go false e = kept u (with_query u true u.held u.query) query-long answer-long sound.held_fits sound.waiting-fits refl refl
 
   acknowledge-keeps : (value : ℕ) → Keeps u (acknowledge u value)
   unfolding acknowledge
   acknowledge-keeps value = go (bit 1 value)
     where
-      go : (clears : Bool) → Keeps u (cond clears (withLine u u.enable false) u)
+      go : (clears : Bool) → Keeps u (cond clears (with_line u u.enable false) u)
       go true = lined u.enable false
       go false = same u sound
 
   -- a start that ended
   pub ended-keeps : (buffer : List ℕ) → length buffer ≡ 64 → (outcome : Outcome) → Fits u.catalogue.symbol outcome
-      → Keeps u (finished (endedBy u outcome buffer))
+      → Keeps u (finished (ended_by u outcome buffer))
   ended-keeps buffer places (Value size) fits =
       let least : size ≤ u.catalogue.symbol =
       ⊎_elim (λ e. let w : size ≤ u.catalogue.symbol = omega (arith, e) in w) (λ e. let w : size ≤ u.catalogue.symbol = omega (arith, e) in w) fits in
-      kept u (finished (endedBy u (Value size) buffer)) query-long places (nought 32) least refl refl
+      kept u (finished (ended_by u (Value size) buffer)) query-long places (nought 32) least refl refl
   ended-keeps buffer places (NoValue refusal) fits =
-      kept u (finished (endedBy u (NoValue refusal) buffer)) query-long places (nought 32) (nought u.catalogue.symbol) refl refl
+      kept u (finished (ended_by u (NoValue refusal) buffer)) query-long places (nought 32) (nought u.catalogue.symbol) refl refl
 
   start-keeps : (store : List ℕ) → SetUp u.catalogue u.server → Keeps u (start u store)
   unfolding start answer_of
   start-keeps store s = go u.overrun
     where
       go : (over : Bool) → Keeps u (finished
-          (cond over (endedBy u (NoValue (refusalOf 7)) u.answer) (endedBy u (answeredFor u store).outcome (answeredFor u store).buffer)))
-      go true = ended-keeps u.answer answer-long (NoValue (refusalOf 7)) tt
+          (cond over (ended_by u (NoValue (refusal_of 7)) u.answer) (ended_by u (answered_for u store).outcome (answered_for u store).buffer)))
+      go true = ended-keeps u.answer answer-long (NoValue (refusal_of 7)) tt
       go false =
-          ended-keeps (answeredFor u store).buffer
-          (kept-length u.catalogue s.takes s.admitted u.server store (asked u) noDay u.answer ∙ answer-long)
-          (answeredFor u store).outcome
-          (outcome_fits u.catalogue s.takes s.admitted u.server store (asked u) noDay u.answer)
+          ended-keeps (answered_for u store).buffer
+          (kept-length u.catalogue s.takes s.admitted u.server store (asked u) no_day u.answer ∙ answer-long)
+          (answered_for u store).outcome
+          (outcome_fits u.catalogue s.takes s.admitted u.server store (asked u) no_day u.answer)
 
 module _ (u : AnswerUnit) (sound : Sound u) (store : List ℕ) where
   control-keeps : (value : ℕ) → SetUp u.catalogue u.server → Keeps u (control u value store)
@@ -158,21 +158,21 @@ module _ (u : AnswerUnit) (sound : Sound u) (store : List ℕ) where
   control-keeps value s = go (bit 128 value) (bit 1 value && not (waits u))
     where
       go : (reset begin : Bool) → Keeps u (cond reset (fresh u.catalogue u.server)
-          (cond begin (start (withLine u (bit 2 value) u.flag) store) (withLine u (bit 2 value) u.flag)))
+          (cond begin (start (with_line u (bit 2 value) u.flag) store) (with_line u (bit 2 value) u.flag)))
       go true begin = fresh_keeps u
       go false false = lined u sound (bit 2 value) u.flag
       go false true =
           let k = lined u sound (bit 2 value) u.flag in
-          chained u (withLine u (bit 2 value) u.flag) (start (withLine u (bit 2 value) u.flag) store) k
-          (start-keeps (withLine u (bit 2 value) u.flag) k.sound store s)
+          chained u (with_line u (bit 2 value) u.flag) (start (with_line u (bit 2 value) u.flag) store) k
+          (start-keeps (with_line u (bit 2 value) u.flag) k.sound store s)
 
-  write_keeps : (register value : ℕ) → SetUp u.catalogue u.server → Keeps u (afterWrite u register value store)
-  unfolding afterWrite
+  write_keeps : (register value : ℕ) → SetUp u.catalogue u.server → Keeps u (after_write u register value store)
+  unfolding after_write
   write_keeps register value s =
       whichever (Keeps u) u (same u sound) (control u value store ∷ u ∷ append u value ∷ u ∷ u ∷ acknowledge u value ∷ [])
-      (allCons (control-keeps value s)
-      (allCons (same u sound)
-      (allCons (append-keeps u sound value) (allCons (same u sound) (allCons (same u sound) (allCons (acknowledge-keeps u sound value) allNil))))))
+      (all_cons (control-keeps value s)
+      (all_cons (same u sound)
+      (all_cons (append-keeps u sound value) (all_cons (same u sound) (all_cons (same u sound) (all_cons (acknowledge-keeps u sound value) all_nil))))))
       register
 
 -- ---- an access, and any run of them
@@ -193,7 +193,7 @@ run-keeps u (access ∷ accesses) sound =
     chained u (after u access) (run (after u access) accesses) k (run-keeps (after u access) accesses k.sound)
 
 -- accessible where the set-up is the same
-pub still-done : (u v : AnswerUnit) (stored : ℕ) → Keeps u v → accessVerdict u 0 stored ≡ Accepted → accessVerdict v 0 stored ≡ Accepted
+pub still-done : (u v : AnswerUnit) (stored : ℕ) → Keeps u v → access_verdict u 0 stored ≡ Accepted → access_verdict v 0 stored ≡ Accepted
 still-done u v stored k done =
     let a = access-passed u 0 stored done in
     access-accepted v 0 stored (record {

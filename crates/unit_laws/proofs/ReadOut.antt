@@ -1,4 +1,4 @@
--- Reading out gives the bytes that wait, in order, and then stops (`read_out`), and leaves a unit of which nothing waits: `emptied-so`.
+-- Reading out gives the bytes that wait, in order, and then stops (`read_out_lem`), and leaves a unit of which nothing waits: `emptied-so`.
 use mathlib.Core.Path.{◌≡◌, refl, ap, ◌∙◌}
 use mathlib.Core.List.{List, [], ◌∷◌}
 use Prim.Native.Nat.{ℕ, zero, suc, ◌-◌, ◌≤◌, ◌<◌}
@@ -9,23 +9,23 @@ use borrow.Author.Tests.{lt-ltb, le-ltb}
 use Rattle.lists.specs.Parts.{cut}
 use Rattle.refusal.specs.declared.Verdict.TheVariants.{Accepted}
 use Rattle.answer_unit.specs.declared.AnswerUnit.{AnswerUnit}
-use Rattle.answer_unit.specs.Registers.{shown, advance, afterRead, accessVerdict}
-use Rattle.unit_laws.specs.Runs.{readOut, emptied, Sound}
+use Rattle.answer_unit.specs.Registers.{shown, advance, after_read, access_verdict}
+use Rattle.unit_laws.specs.Runs.{read_out, emptied, Sound}
 use Rattle.unit_laws.specs.Claims.{Keeps}
 use Rattle.unit_laws.proofs.Seen.{done-read, waiting-bit}
 use Rattle.unit_laws.proofs.Kept.{same, chained, advanced, answer-room, still-done}
 
 -- with nothing waiting nothing is read
-none_out : (most : ℕ) (u : AnswerUnit) (store : List ℕ) → accessVerdict u 0 (length store) ≡ Accepted → u.waiting ≡ 0 → readOut most u store ≡ []
-unfolding readOut
+none_out : (most : ℕ) (u : AnswerUnit) (store : List ℕ) → access_verdict u 0 (length store) ≡ Accepted → u.waiting ≡ 0 → read_out most u store ≡ []
+unfolding read_out
 none_out zero u store done none = refl
 none_out (suc most) u store done none =
     let few : u.waiting ≤ 0 = omega (arith, none) in rw (waiting-bit u store done, le-ltb 0 u.waiting few)
 
 -- with bytes waiting the next is read, and then the others
-next-out : (most : ℕ) (u : AnswerUnit) (store : List ℕ) → accessVerdict u 0 (length store) ≡ Accepted → 0 < u.waiting
-    → readOut (suc most) u store ≡ get_or u.answer (u.catalogue.symbol - u.waiting) 0 ∷ readOut most (advance u) store
-unfolding readOut shown afterRead
+next-out : (most : ℕ) (u : AnswerUnit) (store : List ℕ) → access_verdict u 0 (length store) ≡ Accepted → 0 < u.waiting
+    → read_out (suc most) u store ≡ get_or u.answer (u.catalogue.symbol - u.waiting) 0 ∷ read_out most (advance u) store
+unfolding read_out shown after_read
 next-out most u store done some =
     rw (waiting-bit u store done, done-read u store done 3 (omega arith), lt-ltb 0 u.waiting some)
 
@@ -38,22 +38,22 @@ longer bytes S j low high =
     rw (drop-cons bytes (S - suc j) 0 inside, next)
 
 -- the unit after one byte more is as accessible
-still : (u : AnswerUnit) (store : List ℕ) → Sound u → accessVerdict u 0 (length store) ≡ Accepted → accessVerdict (advance u) 0 (length store) ≡ Accepted
+still : (u : AnswerUnit) (store : List ℕ) → Sound u → access_verdict u 0 (length store) ≡ Accepted → access_verdict (advance u) 0 (length store) ≡ Accepted
 still u store sound = still-done u (advance u) (length store) (advanced u sound)
 
-pub read_out : (most k : ℕ) (u : AnswerUnit) (store : List ℕ) → Sound u → accessVerdict u 0 (length store) ≡ Accepted
-    → u.waiting ≡ k → k ≤ most → readOut most u store ≡ cut (u.catalogue.symbol - k) k u.answer
-read_out most zero u store sound done e low = none_out most u store done e
-read_out zero (suc j) u store sound done e low = absurd (let w : ⊥ = omega (arith, low) in w)
-read_out (suc most) (suc j) u store sound done e low =
+pub read_out_lem : (most k : ℕ) (u : AnswerUnit) (store : List ℕ) → Sound u → access_verdict u 0 (length store) ≡ Accepted
+    → u.waiting ≡ k → k ≤ most → read_out most u store ≡ cut (u.catalogue.symbol - k) k u.answer
+read_out_lem most zero u store sound done e low = none_out most u store done e
+read_out_lem zero (suc j) u store sound done e low = absurd (let w : ⊥ = omega (arith, low) in w)
+read_out_lem (suc most) (suc j) u store sound done e low =
     let some : 0 < u.waiting = omega (arith, e) in
     let left : u.waiting - 1 ≡ j = omega (arith, e) in
     let within : suc j ≤ u.catalogue.symbol = omega (arith, e, sound.waiting-fits) in
     let room = answer-room u (length store) sound.placed done in
     let fewer : j ≤ most = omega (arith, low) in
-    let rest = read_out most j (advance u) store (advanced u sound).sound (still u store sound done) left fewer in
+    let rest = read_out_lem most j (advance u) store (advanced u sound).sound (still u store sound done) left fewer in
     next-out most u store done some
-    ∙ ap (λ (n : ℕ). get_or u.answer (u.catalogue.symbol - n) 0 ∷ readOut most (advance u) store) e
+    ∙ ap (λ (n : ℕ). get_or u.answer (u.catalogue.symbol - n) 0 ∷ read_out most (advance u) store) e
     ∙ ap (λ (l : List ℕ). get_or u.answer (u.catalogue.symbol - suc j) 0 ∷ l) rest
     ∙ longer u.answer u.catalogue.symbol j within room
 
@@ -66,19 +66,19 @@ pub record Emptied (u v : AnswerUnit) : Type 0 where
   pub overrun : v.overrun ≡ u.overrun
   pub none-waits : v.waiting ≡ 0
 
-none_left : (most : ℕ) (u : AnswerUnit) (store : List ℕ) → accessVerdict u 0 (length store) ≡ Accepted → u.waiting ≡ 0 → emptied most u store ≡ u
+none_left : (most : ℕ) (u : AnswerUnit) (store : List ℕ) → access_verdict u 0 (length store) ≡ Accepted → u.waiting ≡ 0 → emptied most u store ≡ u
 unfolding emptied
 none_left zero u store done none = refl
 none_left (suc most) u store done none =
     let few : u.waiting ≤ 0 = omega (arith, none) in rw (waiting-bit u store done, le-ltb 0 u.waiting few)
 
-next-left : (most : ℕ) (u : AnswerUnit) (store : List ℕ) → accessVerdict u 0 (length store) ≡ Accepted → 0 < u.waiting
+next-left : (most : ℕ) (u : AnswerUnit) (store : List ℕ) → access_verdict u 0 (length store) ≡ Accepted → 0 < u.waiting
     → emptied (suc most) u store ≡ emptied most (advance u) store
-unfolding emptied afterRead
+unfolding emptied after_read
 next-left most u store done some =
     rw (waiting-bit u store done, done-read u store done 3 (omega arith), lt-ltb 0 u.waiting some)
 
-pub emptied-so : (most k : ℕ) (u : AnswerUnit) (store : List ℕ) → Sound u → accessVerdict u 0 (length store) ≡ Accepted
+pub emptied-so : (most k : ℕ) (u : AnswerUnit) (store : List ℕ) → Sound u → access_verdict u 0 (length store) ≡ Accepted
     → u.waiting ≡ k → k ≤ most → Emptied u (emptied most u store)
 emptied-so most zero u store sound done e low =
     rw (none_left most u store done e) (record { keeps = same u sound; held = refl; overrun = refl; none-waits = e })

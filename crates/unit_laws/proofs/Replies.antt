@@ -8,15 +8,15 @@ use lib.ListN.{length}
 use Rattle.refusal.specs.declared.Verdict.TheVariants.{Accepted}
 use Rattle.calendar.specs.declared.Day.{Day}
 use Rattle.catalogue.specs.declared.Catalogue.{Catalogue}
-use Rattle.codes.specs.Codes.{schemeOf}
+use Rattle.codes.specs.Codes.{scheme_of}
 use Rattle.server.specs.Answering.{answering}
 use Rattle.answer_unit.specs.declared.AnswerUnit.{AnswerUnit}
 use Rattle.answer_unit.specs.Unit.{bit, fresh}
-use Rattle.answer_unit.specs.Registers.{accessVerdict}
+use Rattle.answer_unit.specs.Registers.{access_verdict}
 use Rattle.answer_unit.proofs.Chains.{unit-takes, set-up-passed, access-passed, access-accepted}
 use Rattle.answer_unit.proofs.Steps.{set-up-by}
-use Rattle.unit_laws.specs.Runs.{run, emptied, Reply, asking, replyOf, replies, Placed, Idle}
-use Rattle.unit_laws.specs.Claims.{Keeps, replyBy, QueriesAnswered}
+use Rattle.unit_laws.specs.Runs.{run, emptied, Reply, asking, reply_of, replies, Placed, Idle}
+use Rattle.unit_laws.specs.Claims.{Keeps, reply_by, QueriesAnswered}
 use Rattle.unit_laws.proofs.Kept.{sound-at, run-keeps, still-done, fresh-sound}
 use Rattle.unit_laws.proofs.ReadOut.{emptied-so}
 use Rattle.unit_laws.proofs.Whole.{same-call, query-answered, asking-empties}
@@ -29,7 +29,7 @@ module _ (c : Catalogue) (server : ℕ) (store : List ℕ) (value : ℕ) (no-res
   record Ready (u : AnswerUnit) : Type 0 where
     placed : Placed u
     idle : Idle u
-    done : accessVerdict u 0 (length store) ≡ Accepted
+    done : access_verdict u 0 (length store) ≡ Accepted
     of-catalogue : u.catalogue ≡ c
     of-server : u.server ≡ server
 
@@ -48,12 +48,12 @@ module _ (c : Catalogue) (server : ℕ) (store : List ℕ) (value : ℕ) (no-res
         rw keeps.catalogue (unit-takes u.catalogue s.takes).small
 
     reply : (day : Day) (buffer : List ℕ) → c.symbol ≤ length buffer
-        → replyOf asked-unit store ≡ replyBy (answering schemeOf c day server store query buffer)
+        → reply_of asked-unit store ≡ reply_by (answering scheme_of c day server store query buffer)
     reply day buffer room =
         let wide : u.catalogue.symbol ≤ length buffer = rw ready.of-catalogue room in
         let shows = query-answered u query store value day buffer ready.placed ready.idle ready.done no-reset start-bit wide in
         alike _ _ _ _ shows.number (shows.answer 64 small)
-        ∙ ap replyBy (same-call day store buffer ready.of-catalogue ready.of-server refl)
+        ∙ ap reply_by (same-call day store buffer ready.of-catalogue ready.of-server refl)
 
     ready-again : Ready (emptied 64 asked-unit store)
     ready-again =
@@ -72,7 +72,7 @@ module _ (c : Catalogue) (server : ℕ) (store : List ℕ) (value : ℕ) (no-res
   -- ---- all of them
 
   all-replies : (day : Day) (buffer : List ℕ) → c.symbol ≤ length buffer → (queries : List (List ℕ)) (u : AnswerUnit) → Ready u
-      → replies u value queries store ≡ map (λ query. replyBy (answering schemeOf c day server store query buffer)) queries
+      → replies u value queries store ≡ map (λ query. reply_by (answering scheme_of c day server store query buffer)) queries
   unfolding replies
   all-replies day buffer room [] u ready = refl
   all-replies day buffer room (query ∷ queries) u ready =

@@ -9,7 +9,7 @@ use lib.ListN.{length}
 use Rattle.refusal.specs.declared.Verdict.TheVariants.{Accepted}
 use Rattle.answer_unit.specs.declared.AnswerUnit.{AnswerUnit}
 use Rattle.answer_unit.specs.Unit.{bit, weigh, waits}
-use Rattle.answer_unit.specs.Registers.{shown, accessVerdict, read_by, readRegister, line}
+use Rattle.answer_unit.specs.Registers.{shown, access_verdict, read_by, read_register, line}
 use Rattle.answer_unit.proofs.Chains.{access-passed, access-accepted}
 use Rattle.answer_unit.proofs.Steps.{read-by}
 use Rattle.unit_laws.specs.Claims.{LineSeen}
@@ -53,8 +53,8 @@ enable-of true = refl
 enable-of false = refl
 
 -- accessible at one register, accessible at all
-other-register : (u : AnswerUnit) (register other stored : ℕ) → other ≤ 5 → accessVerdict u register stored ≡ Accepted
-    → accessVerdict u other stored ≡ Accepted
+other-register : (u : AnswerUnit) (register other stored : ℕ) → other ≤ 5 → access_verdict u register stored ≡ Accepted
+    → access_verdict u other stored ≡ Accepted
 other-register u register other stored known done =
     let a = access-passed u register stored done in
     access-accepted u other stored (record {
@@ -65,41 +65,41 @@ other-register u register other stored known done =
       waiting-fits = a.waiting-fits;
     })
 
-pub first-register : (u : AnswerUnit) (register stored : ℕ) → accessVerdict u register stored ≡ Accepted → accessVerdict u 0 stored ≡ Accepted
+pub first-register : (u : AnswerUnit) (register stored : ℕ) → access_verdict u register stored ≡ Accepted → access_verdict u 0 stored ≡ Accepted
 first-register u register stored = other-register u register 0 stored (omega arith)
 
-module _ (u : AnswerUnit) (store : List ℕ) (done : accessVerdict u 0 (length store) ≡ Accepted) where
-  pub any-register : (register : ℕ) → register ≤ 5 → accessVerdict u register (length store) ≡ Accepted
+module _ (u : AnswerUnit) (store : List ℕ) (done : access_verdict u 0 (length store) ≡ Accepted) where
+  pub any-register : (register : ℕ) → register ≤ 5 → access_verdict u register (length store) ≡ Accepted
   any-register register known = other-register u 0 register (length store) known done
 
-  pub done-read : (register : ℕ) → register ≤ 5 → readRegister u register store ≡ read_by u register Accepted
+  pub done-read : (register : ℕ) → register ≤ 5 → read_register u register store ≡ read_by u register Accepted
   done-read register known = read-by u register store Accepted (sym (any-register register known))
 
-  pub waiting-bit : bit 1 (readRegister u 1 store).byte ≡ waits u
+  pub waiting-bit : bit 1 (read_register u 1 store).byte ≡ waits u
   unfolding shown
   waiting-bit = rw (done-read 1 (omega arith)) (waiting-of (waits u) u.refused u.overrun)
 
-  pub refused-bit : bit 2 (readRegister u 1 store).byte ≡ u.refused
+  pub refused-bit : bit 2 (read_register u 1 store).byte ≡ u.refused
   unfolding shown
   refused-bit = rw (done-read 1 (omega arith)) (refused-of (waits u) u.refused u.overrun)
 
-  pub overrun-bit : bit 4 (readRegister u 1 store).byte ≡ u.overrun
+  pub overrun-bit : bit 4 (read_register u 1 store).byte ≡ u.overrun
   unfolding shown
   overrun-bit = rw (done-read 1 (omega arith)) (overrun-of (waits u) u.refused u.overrun)
 
-  pub number_read : (readRegister u 4 store).byte ≡ u.refusal
+  pub number_read : (read_register u 4 store).byte ≡ u.refusal
   unfolding shown
   number_read = rw (done-read 4 (omega arith))
 
-  pub flag-read : (readRegister u 5 store).byte ≡ weigh u.flag 1
+  pub flag-read : (read_register u 5 store).byte ≡ weigh u.flag 1
   unfolding shown
   flag-read = rw (done-read 5 (omega arith))
 
-  enable-read : (readRegister u 0 store).byte ≡ weigh u.enable 2
+  enable-read : (read_register u 0 store).byte ≡ weigh u.enable 2
   unfolding shown
   enable-read = rw (done-read 0 (omega arith))
 
-  pub line-is : line u ≡ (bit 1 (readRegister u 5 store).byte && bit 2 (readRegister u 0 store).byte)
+  pub line-is : line u ≡ (bit 1 (read_register u 5 store).byte && bit 2 (read_register u 0 store).byte)
   line-is = rw (flag-read, enable-read, flag-of u.flag, enable-of u.enable)
 
 pub line-seen : LineSeen

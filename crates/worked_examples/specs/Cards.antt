@@ -7,21 +7,21 @@ use Rattle.refusal.specs.declared.Verdict.{Verdict}
 use Rattle.refusal.specs.declared.Verdict.TheVariants.{Accepted}
 use Rattle.refusal.specs.declared.Outcome.{Outcome}
 use Rattle.refusal.specs.declared.Outcome.TheVariants.{Value, Refused as NoValue}
-use Rattle.refusal.specs.Numbers.{refusalOf}
+use Rattle.refusal.specs.Numbers.{refusal_of}
 use Rattle.refusal.specs.Chain.{refused}
-use Rattle.parameters.specs.Measures.{evenRows}
-use Rattle.scheme.specs.Scheme.{honestAnswers}
-use Rattle.calendar.specs.Calendar.{noDay}
-use Rattle.lengths.specs.Lengths.{noLengths}
+use Rattle.parameters.specs.Measures.{even_rows}
+use Rattle.scheme.specs.Scheme.{honest_answers}
+use Rattle.calendar.specs.Calendar.{no_day}
+use Rattle.lengths.specs.Lengths.{no_lengths}
 use Rattle.symbol.specs.declared.Operation.TheVariants.{ExclusiveOr}
 use Rattle.catalogue.specs.declared.Catalogue.{Catalogue}
 use Rattle.catalogue.specs.declared.Code.{Code}
 use Rattle.catalogue.specs.declared.Code.TheVariants.{Short, Even}
-use Rattle.catalogue.specs.Catalogue.{catalogueVerdict}
+use Rattle.catalogue.specs.Catalogue.{catalogue_verdict}
 use Rattle.even_places.specs.Rule.{layout}
-use Rattle.codes.specs.Codes.{schemeOf}
+use Rattle.codes.specs.Codes.{scheme_of}
 use Rattle.server.specs.Answering.{answering}
-use Rattle.session.specs.Calls.{beginVerdict}
+use Rattle.session.specs.Calls.{begin_verdict}
 use Rattle.printing.specs.Output.{printed}
 
 pub data Card : Type 0 where
@@ -41,23 +41,23 @@ pub data Card : Type 0 where
   begins : Catalogue → ℕ → List ℕ → Verdict → Card
 
 -- the buffer of an answer: no byte of it is 0, so that a byte which is written shows
-abbrev pub lentBytes : List ℕ
-lentBytes = 201 ∷ 202 ∷ 203 ∷ 204 ∷ []
+abbrev pub lent_bytes : List ℕ
+lent_bytes = 201 ∷ 202 ∷ 203 ∷ 204 ∷ []
 
 unfoldable pub Holds : Card → Type 0
-Holds (prints input output) = printed schemeOf input ≡ output
-Holds (asks c wanted key queries) = map (λ server. (schemeOf c).query wanted server key) (range 0 c.servers) ≡ queries
+Holds (prints input output) = printed scheme_of input ≡ output
+Holds (asks c wanted key queries) = map (λ server. (scheme_of c).query wanted server key) (range 0 c.servers) ≡ queries
 Holds (recovers c store wanted key got message) =
-    let honest = honestAnswers (schemeOf c) c.servers store wanted key in
-    honest ++ ((schemeOf c).recover wanted key honest ∷ []) ≡ got ++ (message ∷ [])
-Holds (answers c server store query outcome) = answering schemeOf c noDay server store query lentBytes ≡ record { outcome = outcome; buffer = lentBytes }
-Holds (rows N K many) = evenRows N K ∷ length (layout N K) ∷ [] ≡ many ∷ many ∷ []
-Holds (judges c verdict) = catalogueVerdict c ≡ verdict
-Holds (begins c wanted key verdict) = beginVerdict schemeOf c wanted key ≡ verdict
+    let honest = honest_answers (scheme_of c) c.servers store wanted key in
+    honest ++ ((scheme_of c).recover wanted key honest ∷ []) ≡ got ++ (message ∷ [])
+Holds (answers c server store query outcome) = answering scheme_of c no_day server store query lent_bytes ≡ record { outcome = outcome; buffer = lent_bytes }
+Holds (rows N K many) = even_rows N K ∷ length (layout N K) ∷ [] ≡ many ∷ many ∷ []
+Holds (judges c verdict) = catalogue_verdict c ≡ verdict
+Holds (begins c wanted key verdict) = begin_verdict scheme_of c wanted key ≡ verdict
 
 -- a catalogue of exclusive or without dates and lengths: code, servers, messages, symbol. No day is looked at under it, so the cards answer on none
 abbrev pub cat : Code → ℕ → ℕ → ℕ → Catalogue
-cat code N K S = record { code = code; sum = ExclusiveOr; opening = noDay; closing = noDay; lengths = noLengths; servers = N; messages = K; symbol = S }
+cat code N K S = record { code = code; sum = ExclusiveOr; opening = no_day; closing = no_day; lengths = no_lengths; servers = N; messages = K; symbol = S }
 
 -- the messages 5A and C3 (hex) of B2 and B3
 abbrev pub pair : List ℕ
@@ -83,8 +83,8 @@ cards =
     ∷ asks (cat Short 2 2 1) 0 (0 ∷ []) ((0 ∷ 0 ∷ []) ∷ (1 ∷ 0 ∷ []) ∷ [])
     ∷ recovers (cat Short 2 2 1) pair 0 (0 ∷ []) ([] ∷ (90 ∷ []) ∷ []) (90 ∷ [])
     -- B4, B5, B6
-    ∷ answers (cat Short 3 3 4) 0 filled (0 ∷ 0 ∷ 1 ∷ []) (NoValue (refusalOf 7))
-    ∷ answers (cat Short 3 3 4) 0 filled (0 ∷ 1 ∷ 3 ∷ []) (NoValue (refusalOf 7))
+    ∷ answers (cat Short 3 3 4) 0 filled (0 ∷ 0 ∷ 1 ∷ []) (NoValue (refusal_of 7))
+    ∷ answers (cat Short 3 3 4) 0 filled (0 ∷ 1 ∷ 3 ∷ []) (NoValue (refusal_of 7))
     ∷ answers (cat Short 3 3 4) 0 filled (0 ∷ 0 ∷ 0 ∷ []) (Value 0)
     -- B7
     ∷ asks (cat Even 2 2 1) 0 identities ((0 ∷ 0 ∷ 2 ∷ 1 ∷ []) ∷ (1 ∷ 1 ∷ 3 ∷ 0 ∷ []) ∷ [])

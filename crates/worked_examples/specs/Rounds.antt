@@ -4,7 +4,7 @@ use Rattle.std.specs.Prelude.{List, [], ◌∷◌, ℕ}
 use Rattle.lists.specs.Ascii.{ascii}
 use Rattle.refusal.specs.declared.Verdict.TheVariants.{Accepted}
 use Rattle.refusal.specs.declared.Outcome.TheVariants.{Refused as NoValue}
-use Rattle.refusal.specs.Numbers.{refusalOf}
+use Rattle.refusal.specs.Numbers.{refusal_of}
 use Rattle.refusal.specs.Chain.{refused}
 use Rattle.catalogue.specs.declared.Code.TheVariants.{Round}
 use Rattle.worked_examples.specs.Cards.{Card, prints, asks, recovers, answers, judges, begins, cat}
@@ -28,10 +28,10 @@ rounds =
     ∷ prints (ascii "code=round\nmirrors=2\npacks=3\npiece=4\nwanted=1\nkey=2 0 3 1\n")
     (ascii "mirror=0 request=1 1 0 0 0 0 1 0 1 0 1 1\nmirror=1 request=1 0 0 0 1 0 1 1 1 0 0 1\n")
     -- a row twice, a row of the other server's set, a digit N, a digit too few
-    ∷ answers (cat Round 2 2 1) 0 letters (1 ∷ 1 ∷ 1 ∷ 1 ∷ []) (NoValue (refusalOf 7))
-    ∷ answers (cat Round 2 2 1) 0 letters (1 ∷ 1 ∷ 0 ∷ 1 ∷ []) (NoValue (refusalOf 7))
-    ∷ answers (cat Round 2 2 1) 0 letters (0 ∷ 0 ∷ 0 ∷ 2 ∷ []) (NoValue (refusalOf 7))
-    ∷ answers (cat Round 2 2 1) 0 letters (0 ∷ 0 ∷ 1 ∷ []) (NoValue (refusalOf 7))
+    ∷ answers (cat Round 2 2 1) 0 letters (1 ∷ 1 ∷ 1 ∷ 1 ∷ []) (NoValue (refusal_of 7))
+    ∷ answers (cat Round 2 2 1) 0 letters (1 ∷ 1 ∷ 0 ∷ 1 ∷ []) (NoValue (refusal_of 7))
+    ∷ answers (cat Round 2 2 1) 0 letters (0 ∷ 0 ∷ 0 ∷ 2 ∷ []) (NoValue (refusal_of 7))
+    ∷ answers (cat Round 2 2 1) 0 letters (0 ∷ 0 ∷ 1 ∷ []) (NoValue (refusal_of 7))
     -- a key is a permutation of as many numbers as there are blocks
     ∷ begins (cat Round 2 2 1) 0 (1 ∷ 0 ∷ []) Accepted
     ∷ begins (cat Round 2 2 1) 0 (0 ∷ 0 ∷ []) (refused 6)

@@ -3,7 +3,7 @@
 use Rattle.std.specs.Prelude.{List, [], ◌∷◌}
 use Rattle.lists.specs.Ascii.{ascii}
 use Rattle.refusal.specs.declared.Outcome.TheVariants.{Value, Refused as NoValue}
-use Rattle.refusal.specs.Numbers.{refusalOf}
+use Rattle.refusal.specs.Numbers.{refusal_of}
 use Rattle.refusal.specs.Chain.{refused}
 use Rattle.catalogue.specs.declared.Code.TheVariants.{Turn}
 use Rattle.worked_examples.specs.Cards.{Card, prints, asks, recovers, answers, begins, cat, pair, filled}
@@ -19,7 +19,7 @@ turned =
     -- B3 with turn 1: it is server 1 that answers with no bytes
     ∷ recovers (cat Turn 2 2 1) pair 0 (0 ∷ 1 ∷ []) ((90 ∷ []) ∷ [] ∷ []) (90 ∷ [])
     -- B5: a digit 3 is refused; B6: the row of zeros is answered with no bytes by each server
-    ∷ answers (cat Turn 3 3 4) 1 filled (0 ∷ 1 ∷ 3 ∷ []) (NoValue (refusalOf 7))
+    ∷ answers (cat Turn 3 3 4) 1 filled (0 ∷ 1 ∷ 3 ∷ []) (NoValue (refusal_of 7))
     ∷ answers (cat Turn 3 3 4) 0 filled (0 ∷ 0 ∷ 0 ∷ []) (Value 0)
     ∷ answers (cat Turn 3 3 4) 1 filled (0 ∷ 0 ∷ 0 ∷ []) (Value 0)
     ∷ answers (cat Turn 3 3 4) 2 filled (0 ∷ 0 ∷ 0 ∷ []) (Value 0)

@@ -6,19 +6,19 @@ use types.Run.{OneOf}
 use borrow.Author.Rules.{rules}
 use borrow.Author.Tests.{ne_eqb}
 use Rattle.lists.specs.Distinct.{stands}
-use Rattle.calendar.specs.Calendar.{shortMonths, daysIn}
+use Rattle.calendar.specs.Calendar.{short_months, days_in}
 use Rattle.calendar.proofs.days_in.Statement.{statement}
 use Rattle.calendar.proofs.days_in.Tie as tie
 
-thirty : (year month : ℕ) → OneOf shortMonths month → 30 ≡ daysIn year month
-unfolding daysIn stands
+thirty : (year month : ℕ) → OneOf short_months month → 30 ≡ days_in year month
+unfolding days_in stands
 thirty year month (inl e) = rw e
 thirty year month (inr (inl e)) = rw e
 thirty year month (inr (inr (inl e))) = rw e
 thirty year month (inr (inr (inr e))) = rw e
 
-thirty-one : (year month : ℕ) → (month ≡ 2 → ⊥) → (OneOf shortMonths month → ⊥) → 31 ≡ daysIn year month
-unfolding daysIn stands
+thirty-one : (year month : ℕ) → (month ≡ 2 → ⊥) → (OneOf short_months month → ⊥) → 31 ≡ days_in year month
+unfolding days_in stands
 thirty-one year month other long =
     rw (
       ne_eqb month 2 other,
@@ -32,11 +32,11 @@ is-leap-requires : tie.Need-is-leap-requires
 is-leap-requires c κs = search rules
 
 returns : tie.Need-returns
-unfolding daysIn
+unfolding days_in
 returns c = simp (c.before.before.match.keys1, sym c.before.is-leap.ensures ∙ c.if1.true)
 
 returns-2 : tie.Need-returns-2
-unfolding daysIn
+unfolding days_in
 returns-2 c = simp (c.before.before.match.keys1, sym c.before.is-leap.ensures ∙ c.if1.false)
 
 returns-3 : tie.Need-returns-3

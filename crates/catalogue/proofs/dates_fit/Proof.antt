@@ -2,7 +2,7 @@
 use mathlib.Core.Path.{sym, ◌∙◌}
 use borrow.Author.Rules.{rules}
 use borrow.Author.Tests.{not-true, not-false}
-use Rattle.catalogue.specs.Catalogue.{datesFit}
+use Rattle.catalogue.specs.Catalogue.{dates_fit}
 use Rattle.catalogue.proofs.dates_fit.Statement.{statement}
 use Rattle.catalogue.proofs.dates_fit.Tie as tie
 
@@ -10,14 +10,14 @@ are-none-requires : tie.Need-are-none-requires
 are-none-requires c κs = search rules
 
 returns : tie.Need-returns
-unfolding datesFit
+unfolding dates_fit
 returns c = simp (sym c.before.are-none.ensures ∙ c.if1.true)
 
 is-real-requires : tie.Need-is-real-requires
 is-real-requires c κs = search rules
 
 returns-2 : tie.Need-returns-2
-unfolding datesFit
+unfolding dates_fit
 returns-2 c =
     simp (
       sym c.before.before.before.are-none.ensures ∙ c.before.before.if1.false,
@@ -28,7 +28,7 @@ is-real-requires-2 : tie.Need-is-real-requires-2
 is-real-requires-2 c κs = search rules
 
 returns-3 : tie.Need-returns-3
-unfolding datesFit
+unfolding dates_fit
 returns-3 c =
     simp (
       sym c.before.before.before.before.before.are-none.ensures ∙ c.before.before.before.before.if1.false,
@@ -40,7 +40,7 @@ is-before-requires : tie.Need-is-before-requires
 is-before-requires c κs = search rules
 
 returns-4 : tie.Need-returns-4
-unfolding datesFit
+unfolding dates_fit
 returns-4 c =
     simp (
       sym c.before.before.before.before.before.before.are-none.ensures ∙ c.before.before.before.before.before.if1.false,

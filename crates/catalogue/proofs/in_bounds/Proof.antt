@@ -3,7 +3,7 @@ use mathlib.Core.Path.{sym, ap, ◌∙◌}
 use borrow.Author.Rules.{rules}
 use borrow.Author.Tests.{not-true, not-false}
 use Rattle.parameters.specs.declared.Sizes.{Sizes}
-use Rattle.lengths.specs.Lengths.{lengthsFit}
+use Rattle.lengths.specs.Lengths.{lengths_fit}
 use Rattle.catalogue.proofs.in_bounds.Statement.{statement}
 use Rattle.catalogue.proofs.in_bounds.Tie as tie
 
@@ -39,7 +39,7 @@ returns-3 c =
       sym numbers.before.numbers_fit.ensures ∙ not-false _ numbers.if1.false,
       sym dates.before.dates-fit.ensures ∙ not-false _ dates.if2.false,
     )
-    (c.fit.ensures ∙ ap (λ (s : Sizes). lengthsFit at.messages s.message at.lengths) c.before.sizes-of.ensures)
+    (c.fit.ensures ∙ ap (λ (s : Sizes). lengths_fit at.messages s.message at.lengths) c.before.sizes-of.ensures)
 
 pub in-bounds-spec : {M : Type 1} → statement M
 in-bounds-spec =

@@ -2,7 +2,7 @@
 use mathlib.Core.Path.{sym, ap, ◌∙◌}
 use borrow.Author.Rules.{rules}
 use Rattle.catalogue.specs.declared.Measured.TheVariants.{Of}
-use Rattle.catalogue.specs.Catalogue.{measuredOf}
+use Rattle.catalogue.specs.Catalogue.{measured_of}
 use Rattle.catalogue.proofs.Admitted.{admitted-fits}
 use Rattle.catalogue.proofs.sizes.Statement.{statement}
 use Rattle.catalogue.proofs.sizes.Tie as tie
@@ -14,7 +14,7 @@ enum-known-refusal : tie.Need-enum-known-refusal
 enum-known-refusal c = search rules
 
 returns : tie.Need-returns
-unfolding measuredOf
+unfolding measured_of
 returns c =
     let from = c.before.before.before in simp (sym from.verdict.ensures ∙ c.before.refusal.given.1)
 
@@ -27,7 +27,7 @@ sizes-of-requires c κs =
     admitted-fits from.before.args.c (sym from.verdict.ensures ∙ c.enum_told.given.1)
 
 returns-2 : tie.Need-returns-2
-unfolding measuredOf
+unfolding measured_of
 returns-2 c =
     let from = c.before.before.before in
     ap Of c.sizes-of.ensures ∙ simp (sym from.verdict.ensures ∙ c.before.enum_told.given.1)

@@ -1,7 +1,7 @@
 -- `catalogue::sizes_of` meets its contract: the sizes are those of the catalogue's code.
 use mathlib.Core.Path.{◌∙◌}
 use borrow.Author.Rules.{rules}
-use Rattle.catalogue.specs.Catalogue.{sizesOf}
+use Rattle.catalogue.specs.Catalogue.{sizes_of}
 use Rattle.catalogue.proofs.sizes_of.Statement.{statement}
 use Rattle.catalogue.proofs.sizes_of.Tie as tie
 
@@ -30,19 +30,19 @@ sizes-requires-4 : tie.Need-sizes-requires-4
 sizes-requires-4 c κs = rw c.enum-told4.given.1 at c.before.before.requires
 
 returns : tie.Need-returns
-unfolding sizesOf
+unfolding sizes_of
 returns c = c.sizes.ensures ∙ simp c.before.enum_told.given.1
 
 returns-2 : tie.Need-returns-2
-unfolding sizesOf
+unfolding sizes_of
 returns-2 c = c.sizes2.ensures ∙ simp c.before.enum-told2.given.1
 
 returns-3 : tie.Need-returns-3
-unfolding sizesOf
+unfolding sizes_of
 returns-3 c = c.sizes3.ensures ∙ simp c.before.enum-told3.given.1
 
 returns-4 : tie.Need-returns-4
-unfolding sizesOf
+unfolding sizes_of
 returns-4 c = c.sizes4.ensures ∙ simp c.before.enum-told4.given.1
 
 pub sizes-of-spec : {M : Type 1} → statement M

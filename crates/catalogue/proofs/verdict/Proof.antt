@@ -5,8 +5,8 @@ use borrow.Author.Rules.{rules}
 use borrow.Author.Tests.{eq-eqb, ne_eqb, not-true, not-false}
 use lib.Dec.{eqb}
 use Rattle.refusal.specs.declared.Verdict.TheVariants.{Accepted}
-use Rattle.refusal.specs.Chain.{refuseIf}
-use Rattle.catalogue.specs.Catalogue.{inBounds, catalogueVerdict}
+use Rattle.refusal.specs.Chain.{refuse_if}
+use Rattle.catalogue.specs.Catalogue.{in_bounds, catalogue_verdict}
 use Rattle.catalogue.proofs.Faults.{catalogue-chain}
 use Rattle.catalogue.proofs.verdict.Statement.{statement}
 use Rattle.catalogue.proofs.verdict.Tie as tie
@@ -20,7 +20,7 @@ returns c =
     rw (catalogue-chain c.before.before.args.c, sym asked.ensures ∙ not-true asked.result c.if1.true)
 
 -- once the bounds are kept
-kept : (c : tie.Else1) → inBounds c.before.before.args.c ≡ true
+kept : (c : tie.Else1) → in_bounds c.before.before.args.c ≡ true
 kept c = let asked = c.before.in_bounds in sym asked.ensures ∙ not-false asked.result c.if1.false
 
 returns-2 : tie.Need-returns-2
@@ -35,7 +35,7 @@ several c = ne_eqb _ _ c.if2.false
 
 -- then the symbol decides
 judged : (c : tie.After-whole-words) (whole : Bool) → c.whole_words.result ≡ whole
-    → catalogueVerdict c.before.before.before.before.before.args.c ≡ refuseIf (not whole) 15 Accepted
+    → catalogue_verdict c.before.before.before.before.before.args.c ≡ refuse_if (not whole) 15 Accepted
 judged c whole e =
     rw (
       catalogue-chain c.before.before.before.before.before.args.c,

@@ -1,6 +1,6 @@
 -- `catalogue_text::catalogue_lines` meets its contract: what is taken apart at each place is what the definition reads there.
 use mathlib.Core.Path.{sym, ◌∙◌}
-use Rattle.catalogue_text.specs.Parsing.{catalogueLines}
+use Rattle.catalogue_text.specs.Parsing.{catalogue_lines}
 use borrow.Author.Rules.{rules}
 use borrow.Author.Tests.{not-true, not-false}
 use Rattle.catalogue_text.proofs.catalogue_lines.Statement.{statement}
@@ -19,7 +19,7 @@ refused-requires : tie.Need-refused-requires
 refused-requires c κs = search rules
 
 returns : tie.Need-returns
-unfolding catalogueLines
+unfolding catalogue_lines
 returns c = c.refused.ensures ∙ simp (sym c.before.before.before.first-lines.ensures ∙ c.before.enum_told.given.1)
 
 season-lines-requires : tie.Need-season-lines-requires
@@ -35,7 +35,7 @@ refused-requires-2 : tie.Need-refused-requires-2
 refused-requires-2 c κs = search rules
 
 returns-2 : tie.Need-returns-2
-unfolding catalogueLines
+unfolding catalogue_lines
 returns-2 c =
     let first = c.before.before.before.before.before in
     c.refused2.ensures
@@ -57,7 +57,7 @@ refused-requires-3 : tie.Need-refused-requires-3
 refused-requires-3 c κs = search rules
 
 returns-3 : tie.Need-returns-3
-unfolding catalogueLines
+unfolding catalogue_lines
 returns-3 c =
     let dates = c.before.before.before.before.before in
     let first = dates.before.before.before.before in
@@ -75,7 +75,7 @@ refused-requires-4 : tie.Need-refused-requires-4
 refused-requires-4 c κs = search rules
 
 returns-4 : tie.Need-returns-4
-unfolding catalogueLines
+unfolding catalogue_lines
 returns-4 c =
     let lengths = c.before.before.before in
     let sum = lengths.before.before in
@@ -94,7 +94,7 @@ catalogue-of-requires : tie.Need-catalogue-of-requires
 catalogue-of-requires c κs = search rules
 
 returns-5 : tie.Need-returns-5
-unfolding catalogueLines
+unfolding catalogue_lines
 returns-5 c =
     let lengths = c.before.before.before.before in
     let sum = lengths.before.before in

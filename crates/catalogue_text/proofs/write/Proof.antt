@@ -4,7 +4,7 @@ use borrow.Author.Tests.{lt-ltb, le-ltb}
 use Rattle.refusal.specs.declared.Verdict.TheVariants.{Accepted}
 use Rattle.catalogue.specs.Catalogue.{Admitted}
 use Rattle.catalogue.proofs.Faults.{after-catalogue}
-use Rattle.catalogue_text.specs.Writing.{writeVerdict}
+use Rattle.catalogue_text.specs.Writing.{write_verdict}
 use Rattle.catalogue_text.proofs.Faults.{wrote-refused, wrote-text}
 use borrow.Author.Rules.{rules}
 use Rattle.catalogue_text.proofs.write.Statement.{statement}
@@ -17,7 +17,7 @@ enum-known-refusal : tie.Need-enum-known-refusal
 enum-known-refusal c = search rules
 
 returns : tie.Need-returns
-unfolding writeVerdict
+unfolding write_verdict
 returns c =
     let asked = c.before.before.before in
     let args = asked.before.before.args in
@@ -35,7 +35,7 @@ admitted : (c : tie.After-enum-told) → Admitted c.before.before.before.before.
 admitted c = sym c.before.before.verdict.ensures ∙ c.enum_told.given.1
 
 returns-2 : tie.Need-returns-2
-unfolding writeVerdict
+unfolding write_verdict
 returns-2 c =
     let told = c.before.before in
     let args = told.before.before.before.before.args in
@@ -49,7 +49,7 @@ same_length : tie.Need-same-length
 same_length c = search rules
 
 returns-3 : tie.Need-returns-3
-unfolding writeVerdict
+unfolding write_verdict
 returns-3 c =
     let first = c.before.before.before.before in
     let told = first.before.before in

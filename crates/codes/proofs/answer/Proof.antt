@@ -1,5 +1,5 @@
 -- `codes::answer` meets its contract: a query that the catalogue's code admits can be answered by that code.
-use Rattle.parameters.specs.Measures.{evenSizes, turnSizes}
+use Rattle.parameters.specs.Measures.{even_sizes, turn_sizes}
 use Rattle.short_scheme.proofs.Queries.{admits-row}
 use Rattle.even_answer.proofs.Admission.{admitted-answerable}
 use Rattle.turn_code.proofs.Queries.{admitted-row}
@@ -24,7 +24,7 @@ enum-told-2 : tie.Need-enum-told-2
 enum-told-2 c = search rules
 
 answer-requires-2 : tie.Need-answer-requires-2
-unfolding evenSizes
+unfolding even_sizes
 answer-requires-2 c κs =
     let start = c.before.before.before.before.before.before in
     let a = start.args in
@@ -37,7 +37,7 @@ enum-told-3 : tie.Need-enum-told-3
 enum-told-3 c = search rules
 
 answer-requires-3 : tie.Need-answer-requires-3
-unfolding turnSizes
+unfolding turn_sizes
 answer-requires-3 c κs =
     let start = c.before.before.before.before.before.before in
     let a = start.args in

@@ -1,5 +1,5 @@
 -- `codes::answer_length` meets its contract: a row of digits calls for what the short code says, a query of the even code for a whole slot.
-use Rattle.parameters.specs.Measures.{evenSizes}
+use Rattle.parameters.specs.Measures.{even_sizes}
 use Rattle.codes.proofs.Promises.{admitted-round, scheme-short, scheme-even, scheme-turn, scheme-round}
 use borrow.Author.Rules.{rules}
 use Rattle.codes.proofs.answer_length.Statement.{statement}
@@ -35,7 +35,7 @@ returns c =
     rw (scheme-short c.before.before.before.before.args.c c.before.enum_told.given.1) c.answer-length.ensures
 
 returns-2 : tie.Need-returns-2
-unfolding evenSizes
+unfolding even_sizes
 returns-2 c =
     let e = scheme-even c.before.before.before.before.args.c c.before.enum-told2.given.1 in
     rw e (rw e at c.slot.ensures)

@@ -1,7 +1,7 @@
 -- `codes::expected_length` meets its contract: the short, the turning and the round code know the length from the key and the
 -- server, and the even code's is a whole slot.
 use native.Mathlib.Omega.{arith}
-use Rattle.parameters.specs.Measures.{turnSizes, evenSizes}
+use Rattle.parameters.specs.Measures.{turn_sizes, even_sizes}
 use Rattle.codes.proofs.Promises.{admitted-round, scheme-short, scheme-even, scheme-turn, scheme-round}
 use borrow.Author.Rules.{rules}
 use Rattle.codes.proofs.expected_length.Statement.{statement}
@@ -23,7 +23,7 @@ enum-told-3 : tie.Need-enum-told-3
 enum-told-3 c = search rules
 
 expected-length-requires-2 : tie.Need-expected-length-requires-2
-unfolding turnSizes
+unfolding turn_sizes
 expected-length-requires-2 c κs =
     let start = c.before.before.before in
     let a = start.args in
@@ -47,7 +47,7 @@ returns c =
     rw (scheme-short c.before.before.before.before.args.c c.before.enum_told.given.1) c.expected-length.ensures
 
 returns-2 : tie.Need-returns-2
-unfolding evenSizes
+unfolding even_sizes
 returns-2 c =
     let e = scheme-even c.before.before.before.before.args.c c.before.enum-told2.given.1 in
     rw e (rw e at c.slot.ensures)

@@ -1,8 +1,8 @@
 -- `codes::key_good` meets its contract: each arm asks the code that the catalogue names.
 use mathlib.Core.Path.{ap, ◌∙◌}
 use Prim.Native.Nat.{ℕ}
-use Rattle.lists.specs.Distinct.{isPermutation}
-use Rattle.parameters.specs.Measures.{evenSizes, roundSizes}
+use Rattle.lists.specs.Distinct.{is_permutation}
+use Rattle.parameters.specs.Measures.{even_sizes, round_sizes}
 use Rattle.codes.proofs.Promises.{scheme-short, scheme-even, scheme-turn, scheme-round}
 use borrow.Author.Rules.{rules}
 use Rattle.codes.proofs.key_good.Statement.{statement}
@@ -18,7 +18,7 @@ enum-told-2 : tie.Need-enum-told-2
 enum-told-2 c = search rules
 
 key-good-requires-2 : tie.Need-key-good-requires-2
-unfolding evenSizes
+unfolding even_sizes
 key-good-requires-2 c κs =
     let start = c.before.before.before in
     rw (scheme-even start.args.c c.enum-told2.given.1) at start.requires.1
@@ -45,12 +45,12 @@ returns-3 : tie.Need-returns-3
 returns-3 c = rw (scheme-turn c.before.before.before.before.args.c c.before.enum-told3.given.1) c.key-good3.ensures
 
 returns-4 : tie.Need-returns-4
-unfolding roundSizes
+unfolding round_sizes
 returns-4 c =
     let start = c.before.before.before.before in
     let e = scheme-round start.args.c c.before.enum-told4.given.1 in
     let long = rw e at start.requires.1 in
-    rw e (c.is-permutation.ensures ∙ ap (λ (size : ℕ). isPermutation size start.args.key.now) long)
+    rw e (c.is-permutation.ensures ∙ ap (λ (size : ℕ). is_permutation size start.args.key.now) long)
 
 pub key-good-spec : {M : Type 1} → statement M
 key-good-spec =

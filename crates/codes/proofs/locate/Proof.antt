@@ -4,7 +4,7 @@ use mathlib.Core.List.{List}
 use Prim.Native.Nat.{ℕ}
 use native.Mathlib.Omega.{arith}
 use borrow.Author.Rules.{rules}
-use Rattle.parameters.specs.Measures.{shortSizes, turnSizes, evenSizes, roundSizes}
+use Rattle.parameters.specs.Measures.{short_sizes, turn_sizes, even_sizes, round_sizes}
 use Rattle.catalogue.specs.declared.Catalogue.{Catalogue}
 use Rattle.catalogue.specs.declared.Code.TheVariants.{Short, Even, Turn, Round}
 use Rattle.catalogue.proofs.Admitted.{admitted-numbers}
@@ -13,28 +13,28 @@ use Rattle.even_scheme.proofs.Reach.{admitted}
 use Rattle.turn_code.proofs.Queries.{admitted-row}
 use Rattle.round_code.proofs.Fits.{admitted-digits}
 use Rattle.codes.proofs.Promises.{admitted-even, admitted-round, scheme-short, scheme-even, scheme-turn, scheme-round}
-use Rattle.scheme.specs.Asked.{placeNaming}
-use Rattle.short_scheme.specs.Asked.{digitRows}
-use Rattle.even_scheme.specs.Asked.{layoutRows}
-use Rattle.round_scheme.specs.Asked.{blockRows}
+use Rattle.scheme.specs.Asked.{place_naming}
+use Rattle.short_scheme.specs.Asked.{digit_rows}
+use Rattle.even_scheme.specs.Asked.{layout_rows}
+use Rattle.round_scheme.specs.Asked.{block_rows}
 use Rattle.codes.specs.Asked.{rows_of}
 use Rattle.codes.proofs.locate.Statement.{statement}
 use Rattle.codes.proofs.locate.Tie as tie
 
 -- the rows of a catalogue whose code is known
-rows_short : (c : Catalogue) (query : List ℕ) → c.code ≡ Short → rows_of c query ≡ digitRows 0 query
+rows_short : (c : Catalogue) (query : List ℕ) → c.code ≡ Short → rows_of c query ≡ digit_rows 0 query
 unfolding rows_of
 rows_short c query e = rw e
 
-rows-even : (c : Catalogue) (query : List ℕ) → c.code ≡ Even → rows_of c query ≡ layoutRows c.servers c.messages query
+rows-even : (c : Catalogue) (query : List ℕ) → c.code ≡ Even → rows_of c query ≡ layout_rows c.servers c.messages query
 unfolding rows_of
 rows-even c query e = rw e
 
-rows-turn : (c : Catalogue) (query : List ℕ) → c.code ≡ Turn → rows_of c query ≡ digitRows 0 query
+rows-turn : (c : Catalogue) (query : List ℕ) → c.code ≡ Turn → rows_of c query ≡ digit_rows 0 query
 unfolding rows_of
 rows-turn c query e = rw e
 
-rows-round : (c : Catalogue) (query : List ℕ) → c.code ≡ Round → rows_of c query ≡ blockRows c.servers c.messages query
+rows-round : (c : Catalogue) (query : List ℕ) → c.code ≡ Round → rows_of c query ≡ block_rows c.servers c.messages query
 unfolding rows_of
 rows-round c query e = rw e
 
@@ -42,7 +42,7 @@ enum_told : tie.Need-enum-told
 enum_told c = search rules
 
 locate-requires : tie.Need-locate-requires
-unfolding shortSizes
+unfolding short_sizes
 locate-requires c κs =
     let start = c.before.before.before in
     let a = start.args in
@@ -55,7 +55,7 @@ enum-told-2 : tie.Need-enum-told-2
 enum-told-2 c = search rules
 
 locate-requires-2 : tie.Need-locate-requires-2
-unfolding evenSizes
+unfolding even_sizes
 locate-requires-2 c κs =
     let start = c.before.before.before in
     let a = start.args in
@@ -67,7 +67,7 @@ enum-told-3 : tie.Need-enum-told-3
 enum-told-3 c = search rules
 
 locate-requires-3 : tie.Need-locate-requires-3
-unfolding turnSizes shortSizes
+unfolding turn_sizes short_sizes
 locate-requires-3 c κs =
     let start = c.before.before.before in
     let a = start.args in
@@ -80,7 +80,7 @@ enum-told-4 : tie.Need-enum-told-4
 enum-told-4 c = search rules
 
 locate-requires-4 : tie.Need-locate-requires-4
-unfolding roundSizes
+unfolding round_sizes
 locate-requires-4 c κs =
     let start = c.before.before.before in
     let a = start.args in
@@ -92,25 +92,25 @@ returns : tie.Need-returns
 returns c =
     let a = c.before.before.before.before.args in
     c.locate.ensures
-    ∙ ap (placeNaming a.c.symbol a.message a.symbol) (sym (rows_short a.c a.query.now c.before.enum_told.given.1))
+    ∙ ap (place_naming a.c.symbol a.message a.symbol) (sym (rows_short a.c a.query.now c.before.enum_told.given.1))
 
 returns-2 : tie.Need-returns-2
 returns-2 c =
     let a = c.before.before.before.before.args in
     c.locate2.ensures
-    ∙ ap (placeNaming a.c.symbol a.message a.symbol) (sym (rows-even a.c a.query.now c.before.enum-told2.given.1))
+    ∙ ap (place_naming a.c.symbol a.message a.symbol) (sym (rows-even a.c a.query.now c.before.enum-told2.given.1))
 
 returns-3 : tie.Need-returns-3
 returns-3 c =
     let a = c.before.before.before.before.args in
     c.locate3.ensures
-    ∙ ap (placeNaming a.c.symbol a.message a.symbol) (sym (rows-turn a.c a.query.now c.before.enum-told3.given.1))
+    ∙ ap (place_naming a.c.symbol a.message a.symbol) (sym (rows-turn a.c a.query.now c.before.enum-told3.given.1))
 
 returns-4 : tie.Need-returns-4
 returns-4 c =
     let a = c.before.before.before.before.args in
     c.locate4.ensures
-    ∙ ap (placeNaming a.c.symbol a.message a.symbol) (sym (rows-round a.c a.query.now c.before.enum-told4.given.1))
+    ∙ ap (place_naming a.c.symbol a.message a.symbol) (sym (rows-round a.c a.query.now c.before.enum-told4.given.1))
 
 pub locate-spec : {M : Type 1} → statement M
 locate-spec =

@@ -1,7 +1,7 @@
 -- `codes::query` meets its contract: a valid key of the catalogue's code is what that code's query asks for.
 use Prim.Native.Nat.{◌-◌}
 use native.Mathlib.Omega.{arith}
-use Rattle.parameters.specs.Measures.{shortSizes, evenSizes, turnSizes, roundSizes}
+use Rattle.parameters.specs.Measures.{short_sizes, even_sizes, turn_sizes, round_sizes}
 use Rattle.parameters.proofs.Bounds.{short-bounds, even-bounds}
 use Rattle.even_sets.proofs.Fits.{layout-fits}
 use Rattle.round_code.proofs.Fits.{fits-numbers}
@@ -14,7 +14,7 @@ enum_told : tie.Need-enum-told
 enum_told c = search rules
 
 query-requires : tie.Need-query-requires
-unfolding shortSizes
+unfolding short_sizes
 query-requires c κs =
     let start = c.before.before.before.before.before in
     let a = start.args in
@@ -30,7 +30,7 @@ enum-told-2 : tie.Need-enum-told-2
 enum-told-2 c = search rules
 
 query-requires-2 : tie.Need-query-requires-2
-unfolding evenSizes
+unfolding even_sizes
 query-requires-2 c κs =
     let start = c.before.before.before.before.before in
     let a = start.args in
@@ -52,7 +52,7 @@ enum-told-3 : tie.Need-enum-told-3
 enum-told-3 c = search rules
 
 query-requires-3 : tie.Need-query-requires-3
-unfolding turnSizes shortSizes
+unfolding turn_sizes short_sizes
 query-requires-3 c κs =
     let start = c.before.before.before.before.before in
     let a = start.args in
@@ -68,7 +68,7 @@ enum-told-4 : tie.Need-enum-told-4
 enum-told-4 c = search rules
 
 query-requires-4 : tie.Need-query-requires-4
-unfolding roundSizes
+unfolding round_sizes
 query-requires-4 c κs =
     let start = c.before.before.before.before.before in
     let a = start.args in

@@ -10,7 +10,7 @@ use Rattle.refusal.proofs.Chain.{not-refused}
 use Rattle.catalogue.specs.declared.Catalogue.{Catalogue}
 use Rattle.catalogue.specs.Catalogue.{Admitted}
 use Rattle.catalogue.proofs.Admitted.{admitted-numbers, admitted-small}
-use Rattle.codes.specs.Codes.{schemeOf}
+use Rattle.codes.specs.Codes.{scheme_of}
 use Rattle.codes.proofs.Measured.{measured, unmeasured}
 use Rattle.codes.proofs.Promises.{scheme-sizes}
 use Rattle.correction.specs.declared.Edit.{Edit}
@@ -26,11 +26,11 @@ record Way (symbols size message symbol byte : ℕ) : Type 0 where
   pub begins : (message * symbols + symbol) * size < 2 ^ 32
   pub place : (message * symbols + symbol) * size + byte < 2 ^ 32
 
-way : (c : Catalogue) (e : Edit) → Admitted c → EditIn c e → (sizes : Sizes) → sizes ≡ (schemeOf c).sizes
+way : (c : Catalogue) (e : Edit) → Admitted c → EditIn c e → (sizes : Sizes) → sizes ≡ (scheme_of c).sizes
     → Way sizes.symbols c.symbol e.message e.symbol e.byte
 way c e a i sizes same =
     let S = c.symbol in
-    let symbols = (schemeOf c).sizes.symbols in
+    let symbols = (scheme_of c).sizes.symbols in
     let number = e.message * symbols + e.symbol in
     let all = c.messages * symbols in
     let low : number < all = omega (arith, slot-end e.message c.messages symbols i.message-in, i.symbol-in) in
@@ -62,7 +62,7 @@ returns c =
     not-refused c.enum_told.given.0.0
     (sym (unmeasured start.args.c from.result _ from.ensures c.enum_told.given.1) ∙ start.requires.0)
 
-sized : (c : tie.After-sizes2) → c.sizes2.given.0.0 ≡ (schemeOf c.before.before.before.args.c).sizes
+sized : (c : tie.After-sizes2) → c.sizes2.given.0.0 ≡ (scheme_of c.before.before.before.args.c).sizes
 sized c =
     let from = c.before.before in
     (measured from.before.args.c from.sizes.result c.sizes2.given.0.0 from.sizes.ensures c.sizes2.given.1).1

@@ -7,7 +7,7 @@ use lib.ListN.{length}
 use Rattle.symbol.specs.Operations.{sum_of}
 use Rattle.scheme.specs.declared.Place.{Place}
 use Rattle.scheme.specs.declared.Place.TheVariants.{At}
-use Rattle.scheme.specs.Asked.{placeNaming}
+use Rattle.scheme.specs.Asked.{place_naming}
 use Rattle.correction.specs.Moved.{shift_of, moved}
 use Rattle.codes.specs.Asked.{rows_of}
 use Rattle.codes.proofs.Asks.{asks_of}
@@ -37,7 +37,7 @@ returns c =
 
 -- the row is found
 found : (c : tie.After-at) → let a = c.before.before.before.before.before.args in
-    placeNaming a.c.symbol a.edit.message a.edit.symbol (rows_of a.c a.query.now) ≡ At c.at.given.0.0
+    place_naming a.c.symbol a.edit.message a.edit.symbol (rows_of a.c a.query.now) ≡ At c.at.given.0.0
 found c = sym c.before.before.locate.ensures ∙ c.at.given.1
 
 inside : (c : tie.After-at) → let a = c.before.before.before.before.before.args in c.at.given.0.0 + a.c.symbol ≤ length a.answer.now

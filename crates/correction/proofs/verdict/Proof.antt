@@ -6,9 +6,9 @@ use borrow.Author.Tests.{not-true, not-false}
 use Rattle.parameters.specs.declared.Sizes.{Sizes}
 use Rattle.catalogue.specs.Catalogue.{Admitted}
 use Rattle.catalogue.proofs.Faults.{after-catalogue}
-use Rattle.codes.specs.Codes.{schemeOf}
+use Rattle.codes.specs.Codes.{scheme_of}
 use Rattle.codes.proofs.Measured.{measured, unmeasured}
-use Rattle.correction.specs.Calls.{outsideOf, outside, correctVerdict}
+use Rattle.correction.specs.Calls.{outside_of, outside, correct_verdict}
 use Rattle.correction.proofs.Verdicts.{correct-accepted, server-refused, query-refused, store-refused, edit-refused, length-refused}
 use Rattle.correction.proofs.verdict.Statement.{statement}
 use Rattle.correction.proofs.verdict.Tie as tie
@@ -26,7 +26,7 @@ verdict-requires : tie.Need-verdict-requires
 verdict-requires c κs = search rules
 
 returns : tie.Need-returns
-unfolding correctVerdict
+unfolding correct_verdict
 returns c =
     let from = c.before.before.before in
     let value = from.before.before.args.c in
@@ -35,12 +35,12 @@ returns c =
     after-catalogue value _ refl c.verdict.result _ c.verdict.ensures (rw (c.verdict.ensures, refused))
 
 -- once the sizes are there: the catalogue is admitted, and they are its scheme's
-sized : (c : tie.After-sizes2) → let value = c.before.before.before.before.args.c in (Admitted value) × (c.sizes2.given.0.0 ≡ (schemeOf value).sizes)
+sized : (c : tie.After-sizes2) → let value = c.before.before.before.before.args.c in (Admitted value) × (c.sizes2.given.0.0 ≡ (scheme_of value).sizes)
 sized c =
     let from = c.before.before in
     measured from.before.before.args.c from.sizes.result c.sizes2.given.0.0 from.sizes.ensures c.sizes2.given.1
 
-store-size : (c : tie.After-sizes2) → c.sizes2.given.0.0.store ≡ (schemeOf c.before.before.before.before.args.c).sizes.store
+store-size : (c : tie.After-sizes2) → c.sizes2.given.0.0.store ≡ (scheme_of c.before.before.before.before.args.c).sizes.store
 store-size c = ap (λ (s : Sizes). s.store) (sized c).1
 
 returns-2 : tie.Need-returns-2
@@ -62,7 +62,7 @@ returns-3 c =
 
 -- the query is admitted
 good : (c : tie.Else2) → let a = c.before.before.before.before.before.before.before.before.before.args in
-    (schemeOf a.c).admits a.server a.query.now ≡ true
+    (scheme_of a.c).admits a.server a.query.now ≡ true
 good c = sym c.before.admits.ensures ∙ not-false c.before.admits.result c.if2.false
 
 returns-4 : tie.Need-returns-4
@@ -82,7 +82,7 @@ told-outside : (c : tie.After-is-outside)
 told-outside c =
     let from = c.before.before.before.before.before.before.before.before in
     let a = from.before.before.before.before.args in
-    c.is-outside.ensures ∙ ap (λ (s : Sizes). outsideOf a.c.messages s.symbols a.c.symbol a.edit) (sized from).1
+    c.is-outside.ensures ∙ ap (λ (s : Sizes). outside_of a.c.messages s.symbols a.c.symbol a.edit) (sized from).1
 
 returns-5 : tie.Need-returns-5
 returns-5 c =

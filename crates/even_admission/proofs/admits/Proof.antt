@@ -11,7 +11,7 @@ use Rattle.lists.specs.Below.{all_below}
 use Rattle.lists.specs.Distinct.{distinct}
 use Rattle.even_admission.specs.Cells.{cell_of}
 use Rattle.even_places.proofs.Positions.{positions-length, positions-below}
-use Rattle.even_scheme.specs.Even.{evenAdmits}
+use Rattle.even_scheme.specs.Even.{even_admits}
 use Rattle.even_admission.proofs.Admission.{positions-front, positions-fit, admits-pass, power-less}
 use borrow.Author.Rules.{rules}
 use Rattle.even_admission.proofs.admits.Statement.{statement}
@@ -33,7 +33,7 @@ mul-if1 c =
     omega (arith, mul-le-mul c.before.before.requires.messages-high few)
 
 returns : tie.Need-returns
-unfolding evenAdmits
+unfolding even_admits
 returns c =
     let start = c.before.before.before in
     let k = start.args.k in

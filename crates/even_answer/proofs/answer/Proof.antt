@@ -10,20 +10,20 @@ use Rattle.lists.specs.Parts.{put}
 use Rattle.lists.proofs.Writing.{Pending, pending-start, pending-as, pending_done}
 use Rattle.lists.proofs.Cuts.{to_end}
 use Rattle.lists.proofs.Puts.{rest-written}
-use Rattle.parameters.specs.Measures.{evenSizes}
+use Rattle.parameters.specs.Measures.{even_sizes}
 use Rattle.parameters.proofs.Bounds.{even-bounds}
 use Rattle.symbol.specs.Operations.{sum_of}
 use Rattle.symbol.proofs.Operations.{group_of}
-use Rattle.even_places.specs.Rule.{allSets, layout}
+use Rattle.even_places.specs.Rule.{all_sets, layout}
 use Rattle.even_places.proofs.AllSets.{layout-long}
-use Rattle.even_scheme.specs.Even.{rowAnswers, evenAnswer}
+use Rattle.even_scheme.specs.Even.{row_answers, even_answer}
 use Rattle.even_scheme.proofs.Answers.{layout-length, answers-length}
-use Rattle.even_sets.specs.Sets.{setIn}
+use Rattle.even_sets.specs.Sets.{set_in}
 use Rattle.even_sets.proofs.Blocks.{subsets-few, all-length}
 use Rattle.even_sets.proofs.Fits.{layout-fits}
 use Rattle.even_sets.proofs.SetBytes.{byte_at}
-use Rattle.even_layout.proofs.Tables.{positionsFrom}
-use Rattle.even_layout.proofs.RowRuns.{rows_from, rows_all, rows_none, numbers-all}
+use Rattle.even_layout.proofs.Tables.{positions_from}
+use Rattle.even_layout.proofs.RowRuns.{rows_from, rows_all_lem, rows_none, numbers-all}
 use Rattle.even_answer.proofs.Turns.{SetTurn, set-turn}
 use Rattle.even_answer.proofs.answer.Statement.{statement}
 use Rattle.even_answer.proofs.answer.Tie as tie
@@ -31,8 +31,8 @@ use Rattle.even_answer.proofs.answer.Tie as tie
 abbrev invariant-loop : tie.invariant-loop
 invariant-loop op n k s store query out₀ symbols sets count at₀ end₀ i₀ out at end i =
     (i ≤ count)
-    × (at + length (positionsFrom n k i) ≡ length query)
-    × Pending 0 (evenAnswer (sum_of op) n k s store query) out₀ end (rowAnswers (sum_of op) n k s store (rows_from n k i) (drop at query)) out
+    × (at + length (positions_from n k i) ≡ length query)
+    × Pending 0 (even_answer (sum_of op) n k s store query) out₀ end (row_answers (sum_of op) n k s store (rows_from n k i) (drop at query)) out
 
 abbrev decreases-loop : tie.decreases-loop
 decreases-loop op n k s store query out₀ symbols sets count at₀ end₀ i₀ out at end i = count - i
@@ -57,7 +57,7 @@ sub-count : tie.Need-overflow-sub-count invariant-loop decreases-loop
 sub-count c = omega (arith, c.power2.ensures, all-length c.before.before.before.before.before.before.args.k)
 
 loop-holds : tie.Need-loop-init invariant-loop decreases-loop
-unfolding evenAnswer evenSizes
+unfolding even_answer even_sizes
 loop-holds c =
     let start = c.before.before.before.before.before.before in
     let n = start.args.n in
@@ -69,11 +69,11 @@ loop-holds c =
     let bounds = layout-fits n k s given.fits in
     let keeps = (group_of start.args.op s).plus-length in
     let long = answers-length (sum_of start.args.op) n k s keeps store given.whole (layout-long n k) query given.named in
-    let room : 0 + length (rowAnswers (sum_of start.args.op) n k s store (layout n k) query) ≤ length start.args.out.now =
+    let room : 0 + length (row_answers (sum_of start.args.op) n k s store (layout n k) query) ≤ length start.args.out.now =
     omega (arith, ap (λ (m : ℕ). m * s) (layout-length n k bounds.servers-low bounds.messages-low), given.room) in (
       omega arith,
-      zero-add (length (positionsFrom n k 0)) ∙ numbers-all n k bounds ∙ sym given.long,
-      rw (rows_all n k) (pending-start room),
+      zero-add (length (positions_from n k 0)) ∙ numbers-all n k bounds ∙ sym given.long,
+      rw (rows_all_lem n k) (pending-start room),
     )
 
 array-read-set : tie.Need-array-read-set invariant-loop decreases-loop
@@ -90,7 +90,7 @@ rows-of-requires c κs =
     let n = start.args.n in
     let k = start.args.k in
     let bounds = layout-fits n k start.args.s start.requires.fits in
-    let inside : at.loop.i < length (allSets k) = omega (arith, at.before.power2.ensures, all-length k) in
+    let inside : at.loop.i < length (all_sets k) = omega (arith, at.before.power2.ensures, all-length k) in
     let b = byte_at n k at.loop.i at.before.before.ordered-sets.result
     _ bounds at.before.before.ordered-sets.ensures inside in
     (omega (arith, bounds.servers-low), b.some, omega (arith, b.rows, b.high))
@@ -104,7 +104,7 @@ turn-of : (c : tie.After-rows-of invariant-loop decreases-loop)
 turn-of c =
     let at = c.before.before in
     let start = at.before.before.before.before.before.before.before in
-    let inside : at.loop.i < length (allSets start.args.k) = omega (arith, at.before.power2.ensures, all-length start.args.k) in
+    let inside : at.loop.i < length (all_sets start.args.k) = omega (arith, at.before.power2.ensures, all-length start.args.k) in
     set-turn at.loop.i at.loop.at (group_of start.args.op start.args.s).plus-length start.requires
     at.before.before.ordered-sets.ensures inside c.rows_of_lem.ensures at.loop.invariant.1 at.loop.invariant.2
 
@@ -169,9 +169,9 @@ loop-again c =
     let end = at.loop.end in
     let out = at.loop.out in
     let numbers = drop at.loop.at start.args.query.now in
-    let answered = rowAnswers (sum_of start.args.op) start.args.n start.args.k start.args.s start.args.store.now
+    let answered = row_answers (sum_of start.args.op) start.args.n start.args.k start.args.s start.args.store.now
     (replicate c.before.before.before.before.before.rows_of_lem.result
-    (setIn start.args.k (get_or at.before.before.ordered-sets.result at.loop.i 0))) in
+    (set_in start.args.k (get_or at.before.before.ordered-sets.result at.loop.i 0))) in
     let made = c.before.before.answer-set.ensures ∙ ap₂ (λ (l m : List ℕ). put 0 (answered l) m) (to_end start.args.query.now at.loop.at)
     (to_end out end) in (
       omega arith,
@@ -185,12 +185,12 @@ same_length : tie.Need-same-length invariant-loop decreases-loop
 same_length c = c.before.loop.invariant.2.long
 
 returns : tie.Need-returns invariant-loop decreases-loop
-unfolding rowAnswers
+unfolding row_answers
 returns c =
     let at = c.before in
     let start = at.before.before.before.before.before.before.before in
     let k = start.args.k in
-    let over : length (allSets k) ≤ at.loop.i = omega (arith, at.before.power2.ensures, all-length k) in
+    let over : length (all_sets k) ≤ at.loop.i = omega (arith, at.before.power2.ensures, all-length k) in
     pending_done (rw (rows_none start.args.n k at.loop.i over) at at.loop.invariant.2)
 
 pub answer-spec : {M : Type 1} → statement M

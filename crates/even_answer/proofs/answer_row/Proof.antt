@@ -11,14 +11,14 @@ use lib.Dec.{eqb}
 use lib.ListN.{length, get_or, drop}
 use Rattle.lists.specs.Below.{Below}
 use Rattle.parameters.proofs.Bounds.{even-bounds}
-use Rattle.symbol.specs.Sum.{totalFrom}
+use Rattle.symbol.specs.Sum.{total_from}
 use Rattle.symbol.specs.Operations.{sum_of}
 use Rattle.symbol.proofs.Operations.{group_of}
 use Rattle.even_places.specs.Rule.{members}
 use Rattle.even_places.proofs.Positions.{members-length}
-use Rattle.even_scheme.specs.Even.{symbol_of, rowAnswer}
-use Rattle.even_sets.specs.Sets.{setIn}
-use Rattle.even_layout.proofs.Bytes.{membersFrom, members_kept, members-skipped}
+use Rattle.even_scheme.specs.Even.{symbol_of, row_answer}
+use Rattle.even_sets.specs.Sets.{set_in}
+use Rattle.even_layout.proofs.Bytes.{members_from, members_kept, members-skipped}
 use Rattle.even_answer.specs.Answering.{added}
 use Rattle.even_answer.proofs.RowLaws.{resumed, row_more, symbol-place, symbol-is, added-length}
 use Rattle.even_answer.proofs.Turns.{SymbolTurn, symbol-turn}
@@ -29,22 +29,22 @@ abbrev invariant-loop : tie.invariant-loop
 invariant-loop op n k s symbols store set numbers out₀ rest₀ taken₀ p₀ out rest taken p =
     (p ≤ k)
     × (length out ≡ s)
-    × (taken + length (membersFrom k p rest) ≡ count set)
-    × (resumed (sum_of op) (eqb taken 0) s out (zip_with (symbol_of (sum_of op) n k s store) (membersFrom k p rest) (drop taken numbers))
-    ≡ rowAnswer (sum_of op) n k s store (setIn k set) numbers)
+    × (taken + length (members_from k p rest) ≡ count set)
+    × (resumed (sum_of op) (eqb taken 0) s out (zip_with (symbol_of (sum_of op) n k s store) (members_from k p rest) (drop taken numbers))
+    ≡ row_answer (sum_of op) n k s store (set_in k set) numbers)
 
 abbrev decreases-loop : tie.decreases-loop
 decreases-loop op n k s symbols store set numbers out₀ rest₀ taken₀ p₀ out rest taken p = k - p
 
 loop-holds : tie.Need-loop-init invariant-loop decreases-loop
-unfolding rowAnswer
+unfolding row_answer
 loop-holds c =
     let start = c.before.before.before in
     let k = start.args.k in
     let set = start.args.set in (
       omega arith,
       start.requires.1,
-      rw (sub-zero k) (zero-add (length (members 0 (setIn k set))) ∙ members-length 0 (setIn k set) ∙ start.requires.0.inside),
+      rw (sub-zero k) (zero-add (length (members 0 (set_in k set))) ∙ members-length 0 (set_in k set) ∙ start.requires.0.inside),
       rw (sub-zero k) refl,
     )
 
@@ -126,7 +126,7 @@ loop-again c =
       added-length sum s group.plus-length (eqb taken 0) out x at.loop.invariant.1
           (symbol-is sum n k s store given.whole group bytes p number (omega arith) turn.number).long,
       turn.left,
-      sym (row_more sum n k s store given.whole group bytes p taken (membersFrom k (p + 1) (rest / 2)) numbers out (omega arith) turn.inside
+      sym (row_more sum n k s store given.whole group bytes p taken (members_from k (p + 1) (rest / 2)) numbers out (omega arith) turn.inside
           given.named)
           ∙ rw (members_kept k p rest (omega arith) t.0.taken) at at.loop.invariant.3,
     ))
@@ -139,7 +139,7 @@ same_length : tie.Need-same-length invariant-loop decreases-loop
 same_length c = c.before.loop.invariant.1 ∙ sym c.before.before.before.before.before.requires.1
 
 returns : tie.Need-returns invariant-loop decreases-loop
-unfolding members setIn zip_with totalFrom
+unfolding members set_in zip_with total_from
 returns c =
     let at = c.before in
     let start = at.before.before.before.before in

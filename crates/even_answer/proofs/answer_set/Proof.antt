@@ -13,9 +13,9 @@ use Rattle.lists.proofs.Puts.{put-part}
 use Rattle.lists.proofs.Writing.{Pending, pending-start, pending-as, pending_done}
 use Rattle.symbol.specs.Operations.{sum_of}
 use Rattle.symbol.proofs.Operations.{group_of}
-use Rattle.even_scheme.specs.Even.{rowAnswer, rowAnswers}
-use Rattle.even_sets.specs.Sets.{setIn}
-use Rattle.even_sets.proofs.SetBytes.{setIn-length}
+use Rattle.even_scheme.specs.Even.{row_answer, row_answers}
+use Rattle.even_sets.specs.Sets.{set_in}
+use Rattle.even_sets.proofs.SetBytes.{set_in-length}
 use Rattle.even_answer.proofs.SetRows.{set-length}
 use Rattle.even_answer.proofs.Turns.{row-turn, row-given, row-long, row_done}
 use Rattle.even_answer.proofs.answer_set.Statement.{statement}
@@ -24,8 +24,8 @@ use Rattle.even_answer.proofs.answer_set.Tie as tie
 abbrev invariant-loop : tie.invariant-loop
 invariant-loop op n k s symbols store set rows numbers out₀ size row₀ out row =
     (row ≤ rows)
-    × Pending 0 (rowAnswers (sum_of op) n k s store (replicate rows (setIn k set)) numbers) out₀ (row * s)
-    (rowAnswers (sum_of op) n k s store (replicate (rows - row) (setIn k set)) (drop (row * size) numbers)) out
+    × Pending 0 (row_answers (sum_of op) n k s store (replicate rows (set_in k set)) numbers) out₀ (row * s)
+    (row_answers (sum_of op) n k s store (replicate (rows - row) (set_in k set)) (drop (row * size) numbers)) out
 
 abbrev decreases-loop : tie.decreases-loop
 decreases-loop op n k s symbols store set rows numbers out₀ size row₀ out row = rows - row
@@ -41,12 +41,12 @@ loop-holds c =
     let s = start.args.s in
     let store = start.args.store.now in
     let rows = start.args.rows in
-    let A = setIn k start.args.set in
+    let A = set_in k start.args.set in
     let numbers = start.args.numbers.now in
     let given = start.requires.0 in
     let keeps = (group_of start.args.op s).plus-length in
-    let long = set-length (sum_of start.args.op) n k s store keeps A rows numbers given.whole (setIn-length k start.args.set) given.named in
-    let room : 0 + length (rowAnswers (sum_of start.args.op) n k s store (replicate rows A) numbers) ≤ length start.args.out.now =
+    let long = set-length (sum_of start.args.op) n k s store keeps A rows numbers given.whole (set_in-length k start.args.set) given.named in
+    let room : 0 + length (row_answers (sum_of start.args.op) n k s store (replicate rows A) numbers) ≤ length start.args.out.now =
     omega (arith, start.requires.1) in
     (omega arith, pending-as (zero-mul s) (rw (sub-zero rows, zero-mul (count start.args.set)) refl) refl (pending-start room))
 
@@ -135,8 +135,8 @@ loop-again c =
     let out = at.loop.out in
     let numbers = start.args.numbers.now in
     let read = at.loop.row * count start.args.set in
-    let answered = rowAnswer (sum_of start.args.op) start.args.n start.args.k s start.args.store.now
-    (setIn start.args.k start.args.set) in
+    let answered = row_answer (sum_of start.args.op) start.args.n start.args.k s start.args.store.now
+    (set_in start.args.k start.args.set) in
     let bytes : Below 256 start.args.store.now = λ i l. (at.before.before.before.shared-slice-known.given i).fits in
     let made = c.before.before.answer-row.ensures ∙ ap answered (to_end numbers read) in (
       omega arith,
@@ -150,7 +150,7 @@ same_length : tie.Need-same-length invariant-loop decreases-loop
 same_length c = c.before.loop.invariant.1.long
 
 returns : tie.Need-returns invariant-loop decreases-loop
-unfolding rowAnswers
+unfolding row_answers
 returns c =
     let at = c.before in
     let none : at.before.before.before.before.args.rows - at.loop.row ≡ 0 = omega arith in

@@ -4,10 +4,10 @@ use Prim.Native.Nat.{ℕ, zero, suc, ◌*◌, ◌^◌, ◌<◌}
 use native.Mathlib.Nat.{pow-zero, suc-mul}
 use native.Mathlib.Omega.{arith}
 use lib.ListN.{length}
-use Rattle.lists.specs.Distinct.{isPermutation}
+use Rattle.lists.specs.Distinct.{is_permutation}
 use Rattle.lists.specs.Parts.{cut}
 use Rattle.lists.specs.Ranges.{every}
-use Rattle.even_scheme.specs.Even.{evenKeyGood, permutation}
+use Rattle.even_scheme.specs.Even.{even_key_good, permutation}
 use Rattle.even_key.proofs.key_good.Statement.{statement}
 use Rattle.even_key.proofs.key_good.Tie as tie
 
@@ -25,11 +25,11 @@ permutations-good-requires : tie.Need-permutations-good-requires
 permutations-good-requires c κs = rw c.power.ensures c.before.before.requires
 
 returns : tie.Need-returns
-unfolding evenKeyGood permutation
+unfolding even_key_good permutation
 returns c =
     let args = c.before.before.before.args in
     c.permutations-good.ensures
-    ∙ ap (λ (size : ℕ). every args.k (λ p. isPermutation size (cut (p * size) size args.key.now))) c.before.power.ensures
+    ∙ ap (λ (size : ℕ). every args.k (λ p. is_permutation size (cut (p * size) size args.key.now))) c.before.power.ensures
 
 pub key-good-spec : {M : Type 1} → statement M
 key-good-spec = tie.close (tie.spec power-requires permutations-good-requires returns)

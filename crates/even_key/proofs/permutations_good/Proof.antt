@@ -7,7 +7,7 @@ use native.Mathlib.Nat.{add-sub_cancel_left}
 use native.Mathlib.Omega.{arith}
 use borrow.Author.Tests.{not-true, not-false}
 use lib.ListN.{length, take, drop}
-use Rattle.lists.specs.Distinct.{isPermutation}
+use Rattle.lists.specs.Distinct.{is_permutation}
 use Rattle.lists.specs.Parts.{cut}
 use Rattle.lists.specs.Ranges.{every}
 use Rattle.lists.proofs.Cuts.{slot-end, cut-length}
@@ -20,7 +20,7 @@ lent : (size p : ℕ) (key : List ℕ) → take (p * size + size - p * size) (dr
 lent size p key = ap (λ (n : ℕ). take n (drop (p * size) key)) (add-sub_cancel_left (p * size) size)
 
 abbrev invariant-loop : tie.invariant-loop
-invariant-loop size k key p₀ p = (p ≤ k) × (every p (λ q. isPermutation size (cut (q * size) size key)) ≡ true)
+invariant-loop size k key p₀ p = (p ≤ k) × (every p (λ q. is_permutation size (cut (q * size) size key)) ≡ true)
 
 abbrev decreases-loop : tie.decreases-loop
 decreases-loop size k key p₀ p = k - p
@@ -65,9 +65,9 @@ returns c =
     let at = c.before.before.before.before in
     let args = at.before.before.args in
     let p = at.loop.p in
-    let not_good : isPermutation args.size (cut (p * args.size) args.size args.key.now) ≡ false =
-    ap (isPermutation args.size) (sym (lent args.size p args.key.now)) ∙ sym c.before.is-permutation.ensures ∙ not-true _ c.if1.true in
-    sym (every-false args.k (λ q. isPermutation args.size (cut (q * args.size) args.size args.key.now)) p (omega arith) not_good)
+    let not_good : is_permutation args.size (cut (p * args.size) args.size args.key.now) ≡ false =
+    ap (is_permutation args.size) (sym (lent args.size p args.key.now)) ∙ sym c.before.is-permutation.ensures ∙ not-true _ c.if1.true in
+    sym (every-false args.k (λ q. is_permutation args.size (cut (q * args.size) args.size args.key.now)) p (omega arith) not_good)
 
 add-p : tie.Need-overflow-add-p invariant-loop decreases-loop
 add-p c = omega arith
@@ -80,16 +80,16 @@ loop-again c =
     let at = c.before.before.before.before in
     let args = at.before.before.args in
     let p = at.loop.p in
-    let good : isPermutation args.size (cut (p * args.size) args.size args.key.now) ≡ true =
-    ap (isPermutation args.size) (sym (lent args.size p args.key.now)) ∙ sym c.before.is-permutation.ensures ∙ not-false _ c.if1.false in
-    (omega arith, every_more p (λ q. isPermutation args.size (cut (q * args.size) args.size args.key.now)) at.loop.invariant.1 good)
+    let good : is_permutation args.size (cut (p * args.size) args.size args.key.now) ≡ true =
+    ap (is_permutation args.size) (sym (lent args.size p args.key.now)) ∙ sym c.before.is-permutation.ensures ∙ not-false _ c.if1.false in
+    (omega arith, every_more p (λ q. is_permutation args.size (cut (q * args.size) args.size args.key.now)) at.loop.invariant.1 good)
 
 returns-2 : tie.Need-returns-2 invariant-loop decreases-loop
 returns-2 c =
     let at = c.before in
     let args = at.before.before.args in
     let all : at.loop.p ≡ args.k = omega arith in
-    sym (ap (λ (n : ℕ). every n (λ q. isPermutation args.size (cut (q * args.size) args.size args.key.now))) (sym all) ∙ at.loop.invariant.1)
+    sym (ap (λ (n : ℕ). every n (λ q. is_permutation args.size (cut (q * args.size) args.size args.key.now))) (sym all) ∙ at.loop.invariant.1)
 
 pub permutations-good-spec : {M : Type 1} → statement M
 permutations-good-spec =

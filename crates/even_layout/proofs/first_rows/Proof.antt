@@ -4,7 +4,7 @@ use mathlib.Core.List.{[]}
 use Prim.Native.Nat.{◌-◌, ◌*◌, ◌≤◌, ◌<◌}
 use native.Mathlib.Omega.{arith}
 use lib.ListN.{length, get_or, drop, length-set, drop_of_length-le}
-use Rattle.even_places.specs.Rule.{allSets}
+use Rattle.even_places.specs.Rule.{all_sets}
 use Rattle.even_sets.specs.Sets.{rows_of}
 use Rattle.even_sets.proofs.Blocks.{subsets-few, all-length}
 use Rattle.even_sets.proofs.SetBytes.{SetByte, byte_at}
@@ -14,19 +14,19 @@ use Rattle.even_layout.proofs.first_rows.Tie as tie
 
 abbrev invariant-loop : tie.invariant-loop
 invariant-loop n k sets count firsts₀ row₀ i₀ firsts row i =
-    (i ≤ count) × (length firsts ≡ 256) × (row ≤ 256 * i) × (filled n row (drop i (allSets k)) firsts ≡ filled n 0 (allSets k) firsts₀)
+    (i ≤ count) × (length firsts ≡ 256) × (row ≤ 256 * i) × (filled n row (drop i (all_sets k)) firsts ≡ filled n 0 (all_sets k) firsts₀)
 
 abbrev decreases-loop : tie.decreases-loop
 decreases-loop n k sets count firsts₀ row₀ i₀ firsts row i = count - i
 
 -- a turn is of one of the sets, and its byte is that set's
-inside : (c : tie.In-loop invariant-loop decreases-loop) → c.before.loop.i < length (allSets c.before.before.before.before.args.k)
+inside : (c : tie.In-loop invariant-loop decreases-loop) → c.before.loop.i < length (all_sets c.before.before.before.before.args.k)
 inside c = omega (arith, c.before.before.power.ensures, all-length c.before.before.before.before.args.k)
 
 set_here : (c : tie.In-loop invariant-loop decreases-loop)
     → let a = c.before.before.before.before.args in
     let i = c.before.loop.i in
-    SetByte a.n a.k (get_or c.before.before.before.ordered-sets.result i 0) (get_or (allSets a.k) i [])
+    SetByte a.n a.k (get_or c.before.before.before.ordered-sets.result i 0) (get_or (all_sets a.k) i [])
 set_here c =
     let start = c.before.before.before.before in
     let k = start.args.k in
@@ -83,7 +83,7 @@ loop-again c =
     let a = at.before.before.before.args in
     let i = at.loop.i in
     let s = set_here c.before in
-    let rows : c.rows_of_lem.result ≡ rows_of a.n (get_or (allSets a.k) i []) = c.rows_of_lem.ensures ∙ s.rows in (
+    let rows : c.rows_of_lem.result ≡ rows_of a.n (get_or (all_sets a.k) i []) = c.rows_of_lem.ensures ∙ s.rows in (
       omega arith,
       simp length-set at.loop.invariant.1,
       omega (arith, s.high),
@@ -96,7 +96,7 @@ returns c =
     let at = c.before in
     let start = at.before.before.before in
     let k = start.args.k in
-    let none = drop_of_length-le (allSets k) {i = at.loop.i} (omega (arith, at.before.power.ensures, all-length k)) in
+    let none = drop_of_length-le (all_sets k) {i = at.loop.i} (omega (arith, at.before.power.ensures, all-length k)) in
     rw none at at.loop.invariant.3 ∙ filled-firsts start.args.n k start.requires
 
 pub first-rows-spec : {M : Type 1} → statement M

@@ -6,27 +6,27 @@ use native.Mathlib.Omega.{arith}
 use lib.ListN.{length, get_or, replicate, length-append}
 use Rattle.lists.proofs.Writing.{Pending, pending-start, pending-part, pending-as, pending_done}
 use Rattle.lists.proofs.Puts.{put-padded}
-use Rattle.even_places.specs.Rule.{allSets, positions}
+use Rattle.even_places.specs.Rule.{all_sets, positions}
 use Rattle.even_sets.proofs.Blocks.{subsets-few, all-length}
 use Rattle.even_sets.proofs.SetBytes.{SetByte, byte_at}
-use Rattle.even_layout.proofs.Tables.{setPositions, set-positions, positionsFrom, positions-all, positions-none, positions-more, positions-room}
+use Rattle.even_layout.proofs.Tables.{set_positions, set-positions, positions_from, positions-all, positions-none, positions-more, positions-room}
 use Rattle.even_layout.proofs.positions.Statement.{statement}
 use Rattle.even_layout.proofs.positions.Tie as tie
 
 abbrev invariant-loop : tie.invariant-loop
-invariant-loop n k sets count out₀ at₀ i₀ out at i = (i ≤ count) × Pending 0 (positions n k) out₀ at (positionsFrom n k i) out
+invariant-loop n k sets count out₀ at₀ i₀ out at i = (i ≤ count) × Pending 0 (positions n k) out₀ at (positions_from n k i) out
 
 abbrev decreases-loop : tie.decreases-loop
 decreases-loop n k sets count out₀ at₀ i₀ out at i = count - i
 
 -- a turn is of one of the sets, and its byte is that set's
-inside : (c : tie.In-loop invariant-loop decreases-loop) → c.before.loop.i < length (allSets c.before.before.before.before.args.k)
+inside : (c : tie.In-loop invariant-loop decreases-loop) → c.before.loop.i < length (all_sets c.before.before.before.before.args.k)
 inside c = omega (arith, c.before.before.power.ensures, all-length c.before.before.before.before.args.k)
 
 set_here : (c : tie.In-loop invariant-loop decreases-loop)
     → let a = c.before.before.before.before.args in
     let i = c.before.loop.i in
-    SetByte a.n a.k (get_or c.before.before.before.ordered-sets.result i 0) (get_or (allSets a.k) i [])
+    SetByte a.n a.k (get_or c.before.before.before.ordered-sets.result i 0) (get_or (all_sets a.k) i [])
 set_here c =
     let start = c.before.before.before.before in
     let k = start.args.k in
@@ -71,10 +71,10 @@ write-rows-requires c κs =
     let i = at.loop.i in
     let s = set_here c.before.before in
     let rows =
-    set-positions n k (get_or at.before.before.ordered-sets.result i 0) c.before.rows_of_lem.result (get_or (allSets k) i []) s
+    set-positions n k (get_or at.before.before.ordered-sets.result i 0) c.before.rows_of_lem.result (get_or (all_sets k) i []) s
     c.before.rows_of_lem.ensures in
     let p = rw (positions-more n k i (inside c.before.before)) at at.loop.invariant.1 in
-    let many = length-append (setPositions n (get_or (allSets k) i [])) (positionsFrom n k (i + 1)) in
+    let many = length-append (set_positions n (get_or (all_sets k) i [])) (positions_from n k (i + 1)) in
     (start.requires.messages-high, omega (arith, p.room, ap length rows))
 
 add-i : tie.Need-overflow-add-i invariant-loop decreases-loop
@@ -92,12 +92,12 @@ loop-again c =
     let from = c.before.before.before.before in
     let s = set_here from in
     let called = c.before.before.before.rows_of_lem in
-    let A = get_or (allSets k) i [] in
+    let A = get_or (all_sets k) i [] in
     let rows = set-positions n k (get_or at.before.before.ordered-sets.result i 0) called.result A s called.ensures in
     let p = rw (positions-more n k i (inside from)) at at.loop.invariant.1 in
     let written = c.before.write-rows in (
       omega arith,
-      pending-as (rw rows at written.ensures.0) refl (rw rows at written.ensures.1) (pending-part (setPositions n A) (positionsFrom n k (i + 1)) p),
+      pending-as (rw rows at written.ensures.0) refl (rw rows at written.ensures.1) (pending-part (set_positions n A) (positions_from n k (i + 1)) p),
     )
 
 returns : tie.Need-returns invariant-loop decreases-loop
@@ -106,7 +106,7 @@ returns c =
     let start = at.before.before.before in
     let n = start.args.n in
     let k = start.args.k in
-    let none = positions-none n k at.loop.i (let w : length (allSets k) ≤ at.loop.i = omega (arith, at.before.power.ensures, all-length k) in w) in
+    let none = positions-none n k at.loop.i (let w : length (all_sets k) ≤ at.loop.i = omega (arith, at.before.power.ensures, all-length k) in w) in
     pending_done (rw none at at.loop.invariant.1) ∙ put-padded (positions n k) 1024
 
 pub positions-spec : {M : Type 1} → statement M

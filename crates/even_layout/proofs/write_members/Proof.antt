@@ -6,13 +6,13 @@ use native.Mathlib.Nat.{sub-zero}
 use native.Mathlib.Omega.{arith}
 use Rattle.lists.proofs.Writing.{Pending, pending-start, pending-byte, pending-as, pending-ends, pending_done}
 use Rattle.even_places.specs.Rule.{members}
-use Rattle.even_sets.specs.Sets.{setIn}
-use Rattle.even_layout.proofs.Bytes.{membersFrom, members_kept, members-skipped}
+use Rattle.even_sets.specs.Sets.{set_in}
+use Rattle.even_layout.proofs.Bytes.{members_from, members_kept, members-skipped}
 use Rattle.even_layout.proofs.write_members.Statement.{statement}
 use Rattle.even_layout.proofs.write_members.Tie as tie
 
 abbrev invariant-loop : tie.invariant-loop
-invariant-loop k set out₀ at rest₀ end₀ p₀ out rest end p = (p ≤ k) × Pending at (members 0 (setIn k set)) out₀ end (membersFrom k p rest) out
+invariant-loop k set out₀ at rest₀ end₀ p₀ out rest end p = (p ≤ k) × Pending at (members 0 (set_in k set)) out₀ end (members_from k p rest) out
 
 abbrev decreases-loop : tie.decreases-loop
 decreases-loop k set out₀ at rest₀ end₀ p₀ out rest end p = k - p
@@ -58,7 +58,7 @@ same_length : tie.Need-same-length invariant-loop decreases-loop
 same_length c = c.before.loop.invariant.1.long
 
 returns : tie.Need-returns invariant-loop decreases-loop
-unfolding members setIn
+unfolding members set_in
 returns c =
     let at = c.before in
     let none : at.before.args.k - at.loop.p ≡ 0 = omega arith in

@@ -7,16 +7,16 @@ use native.Mathlib.Omega.{arith}
 use lib.ListN.{replicate, length-append}
 use Rattle.lists.proofs.Writing.{Pending, pending-start, pending-part, pending-as, pending-ends, pending_done}
 use Rattle.even_places.specs.Rule.{members}
-use Rattle.even_sets.specs.Sets.{setIn}
+use Rattle.even_sets.specs.Sets.{set_in}
 use Rattle.even_layout.proofs.Bytes.{rows_more}
 use Rattle.even_layout.proofs.write_rows.Statement.{statement}
 use Rattle.even_layout.proofs.write_rows.Tie as tie
 
-abbrev rowMembers : ℕ → ℕ → ℕ → List ℕ
-rowMembers k set count = flat_map (members 0) (replicate count (setIn k set))
+abbrev row_members : ℕ → ℕ → ℕ → List ℕ
+row_members k set count = flat_map (members 0) (replicate count (set_in k set))
 
 abbrev invariant-loop : tie.invariant-loop
-invariant-loop k set count out₀ at end₀ i₀ out end i = (i ≤ count) × Pending at (rowMembers k set count) out₀ end (rowMembers k set (count - i)) out
+invariant-loop k set count out₀ at end₀ i₀ out end i = (i ≤ count) × Pending at (row_members k set count) out₀ end (row_members k set (count - i)) out
 
 abbrev decreases-loop : tie.decreases-loop
 decreases-loop k set count out₀ at end₀ i₀ out end i = count - i
@@ -27,7 +27,7 @@ loop-holds c = (omega arith, rw (sub-zero c.before.args.count) (pending-start c.
 write-members-requires : tie.Need-write-members-requires invariant-loop decreases-loop
 write-members-requires c κs =
     let at = c.before.before in
-    let A = setIn at.before.before.args.k at.before.before.args.set in
+    let A = set_in at.before.before.args.k at.before.before.args.set in
     let count = at.before.before.args.count in
     let p = rw (rows_more A count at.loop.i (omega arith)) at at.loop.invariant.1 in
     let many = length-append (members 0 A) (flat_map (members 0) (replicate (count - (at.loop.i + 1)) A)) in
@@ -42,7 +42,7 @@ loop-less c = omega arith
 loop-again : tie.Need-loop-preserved invariant-loop decreases-loop
 loop-again c =
     let at = c.before.before.before.before.before in
-    let A = setIn at.before.before.args.k at.before.before.args.set in
+    let A = set_in at.before.before.args.k at.before.before.args.set in
     let count = at.before.before.args.count in
     let p = rw (rows_more A count at.loop.i (omega arith)) at at.loop.invariant.1 in
     let written = c.before.before.write-members in

@@ -8,23 +8,23 @@ use borrow.Author.Rules.{rules}
 use lib.Count.{ones as count, ones-le}
 use lib.ListN.{length, get_or, drop, replicate, length-drop, length-replicate}
 use Rattle.lists.proofs.Cuts.{to_end}
-use Rattle.parameters.specs.Measures.{evenSizes}
+use Rattle.parameters.specs.Measures.{even_sizes}
 use Rattle.parameters.proofs.Bounds.{even-bounds}
 use Rattle.parameters.proofs.SmallSizes.{even-small}
-use Rattle.even_places.specs.Rule.{allSets, layout}
+use Rattle.even_places.specs.Rule.{all_sets, layout}
 use Rattle.even_scheme.proofs.Answers.{layout-length}
-use Rattle.even_sets.specs.Sets.{setIn}
+use Rattle.even_sets.specs.Sets.{set_in}
 use Rattle.even_sets.proofs.Blocks.{subsets-few, all-length}
 use Rattle.even_sets.proofs.Fits.{layout-fits}
 use Rattle.even_sets.proofs.SetBytes.{byte_at}
-use Rattle.even_layout.proofs.Tables.{positionsFrom}
-use Rattle.even_layout.proofs.RowRuns.{rows_from, rows_all, rows_none, numbers-all}
+use Rattle.even_layout.proofs.Tables.{positions_from}
+use Rattle.even_layout.proofs.RowRuns.{rows_from, rows_all_lem, rows_none, numbers-all}
 use Rattle.scheme.specs.declared.Place.{Place}
 use Rattle.scheme.specs.declared.Place.TheVariants.{At, Nowhere}
-use Rattle.scheme.specs.Asked.{later, placeNaming}
-use Rattle.even_scheme.specs.Asked.{setRows, layoutRows}
+use Rattle.scheme.specs.Asked.{later, place_naming}
+use Rattle.even_scheme.specs.Asked.{set_rows, layout_rows}
 use Rattle.even_scheme.proofs.Asks.{sets-many}
-use Rattle.scheme.proofs.Places.{orLater, place-within, later-zero, later-twice}
+use Rattle.scheme.proofs.Places.{or_later, place-within, later-zero, later-twice}
 use Rattle.even_locate.proofs.Scan.{Turn, set-turn, set-decides}
 use Rattle.even_locate.proofs.locate.Statement.{statement}
 use Rattle.even_locate.proofs.locate.Tie as tie
@@ -32,9 +32,9 @@ use Rattle.even_locate.proofs.locate.Tie as tie
 abbrev invariant-loop : tie.invariant-loop
 invariant-loop n k s query message symbol sets count at₀ end₀ i₀ at end i =
     (i ≤ count)
-    × (at + length (positionsFrom n k i) ≡ length query)
+    × (at + length (positions_from n k i) ≡ length query)
     × (end + length (rows_from n k i) * s ≡ length (layout n k) * s)
-    × (placeNaming s message symbol (layoutRows n k query) ≡ later end (placeNaming s message symbol (setRows (rows_from n k i) (drop at query))))
+    × (place_naming s message symbol (layout_rows n k query) ≡ later end (place_naming s message symbol (set_rows (rows_from n k i) (drop at query))))
 
 abbrev decreases-loop : tie.decreases-loop
 decreases-loop n k s query message symbol sets count at₀ end₀ i₀ at end i = count - i
@@ -54,16 +54,16 @@ sub-count : tie.Need-overflow-sub-count invariant-loop decreases-loop
 sub-count c = omega (arith, c.power.ensures, all-length c.before.before.before.args.k)
 
 loop-holds : tie.Need-loop-init invariant-loop decreases-loop
-unfolding evenSizes
+unfolding even_sizes
 loop-holds c =
     let start = c.before.before.before in
     let a = start.args in
     let bounds = layout-fits a.n a.k a.s start.requires.0 in
-    let place = placeNaming a.s a.message a.symbol (layoutRows a.n a.k a.query.now) in (
+    let place = place_naming a.s a.message a.symbol (layout_rows a.n a.k a.query.now) in (
       omega arith,
-      zero-add (length (positionsFrom a.n a.k 0)) ∙ numbers-all a.n a.k bounds ∙ sym start.requires.1,
-      rw (rows_all a.n a.k) (zero-add (length (layout a.n a.k) * a.s)),
-      rw (rows_all a.n a.k) (sym (later-zero place)),
+      zero-add (length (positions_from a.n a.k 0)) ∙ numbers-all a.n a.k bounds ∙ sym start.requires.1,
+      rw (rows_all_lem a.n a.k) (zero-add (length (layout a.n a.k) * a.s)),
+      rw (rows_all_lem a.n a.k) (sym (later-zero place)),
     )
 
 array-read-set : tie.Need-array-read-set invariant-loop decreases-loop
@@ -80,7 +80,7 @@ rows-of-requires c κs =
     let n = start.args.n in
     let k = start.args.k in
     let bounds = layout-fits n k start.args.s start.requires.0 in
-    let inside : at.loop.i < length (allSets k) = omega (arith, at.before.power.ensures, all-length k) in
+    let inside : at.loop.i < length (all_sets k) = omega (arith, at.before.power.ensures, all-length k) in
     let b = byte_at n k at.loop.i at.before.before.ordered-sets.result
     _ bounds at.before.before.ordered-sets.ensures inside in
     (omega (arith, bounds.servers-low), b.some, omega (arith, b.rows, b.high))
@@ -95,14 +95,14 @@ turn-of c =
     let at = c.before.before in
     let start = at.before.before.before.before in
     let a = start.args in
-    let inside : at.loop.i < length (allSets a.k) = omega (arith, at.before.power.ensures, all-length a.k) in
+    let inside : at.loop.i < length (all_sets a.k) = omega (arith, at.before.power.ensures, all-length a.k) in
     set-turn a.n a.k a.s a.query.now at.before.before.ordered-sets.result at.loop.i at.loop.at at.loop.end c.rows_of_lem.result
     (layout-fits a.n a.k a.s start.requires.0) at.before.before.ordered-sets.ensures inside c.rows_of_lem.ensures
     at.loop.invariant.1 at.loop.invariant.2
 
 -- an answer is not long
 slot_small : (c : tie.Start invariant-loop decreases-loop) → let a = c.args in length (layout a.n a.k) * a.s < 2 ^ 32
-unfolding evenSizes
+unfolding even_sizes
 slot_small c =
     let a = c.args in
     let b = even-bounds a.n a.k a.s c.requires.0 in
@@ -134,15 +134,15 @@ enum-known-place c = search rules
 seen : (c : tie.After-set-place invariant-loop decreases-loop)
     → let at = c.before.before.before.before in
     let a = at.before.before.before.before.args in
-    placeNaming a.s a.message a.symbol
-    (setRows (replicate c.before.before.rows_of_lem.result (setIn a.k (get_or at.before.before.ordered-sets.result at.loop.i 0)))
+    place_naming a.s a.message a.symbol
+    (set_rows (replicate c.before.before.rows_of_lem.result (set_in a.k (get_or at.before.before.ordered-sets.result at.loop.i 0)))
     (drop at.loop.at a.query.now))
     ≡ c.set-place.result
 seen c =
     let at = c.before.before.before.before in
     let a = at.before.before.before.before.args in
-    let sets = replicate c.before.before.rows_of_lem.result (setIn a.k (get_or at.before.before.ordered-sets.result at.loop.i 0)) in
-    sym (c.set-place.ensures ∙ ap (λ (l : List ℕ). placeNaming a.s a.message a.symbol (setRows sets l)) (to_end a.query.now at.loop.at))
+    let sets = replicate c.before.before.rows_of_lem.result (set_in a.k (get_or at.before.before.ordered-sets.result at.loop.i 0)) in
+    sym (c.set-place.ensures ∙ ap (λ (l : List ℕ). place_naming a.s a.message a.symbol (set_rows sets l)) (to_end a.query.now at.loop.at))
 
 add-t26 : tie.Need-overflow-add-t26 invariant-loop decreases-loop
 add-t26 c =
@@ -151,13 +151,13 @@ add-t26 c =
     let at = rows.before.before in
     let start = at.before.before.before.before in
     let a = start.args in
-    let sets = replicate rows.rows_of_lem.result (setIn a.k (get_or at.before.before.ordered-sets.result at.loop.i 0)) in
+    let sets = replicate rows.rows_of_lem.result (set_in a.k (get_or at.before.before.ordered-sets.result at.loop.i 0)) in
     let numbers = drop at.loop.at a.query.now in
-    let many : length (setRows sets numbers) * a.s ≡ rows.rows_of_lem.result * a.s =
+    let many : length (set_rows sets numbers) * a.s ≡ rows.rows_of_lem.result * a.s =
     ap (λ (n : ℕ). n * a.s) (sets-many sets numbers ∙ length-replicate rows.rows_of_lem.result _) in
     omega (
       arith,
-      place-within a.s a.message a.symbol (setRows sets numbers) c.before.place.given.0.0 (seen asked ∙ c.before.place.given.1),
+      place-within a.s a.message a.symbol (set_rows sets numbers) c.before.place.given.0.0 (seen asked ∙ c.before.place.given.1),
       many,
       (turn-of rows).placed,
       slot_small start,
@@ -168,9 +168,9 @@ told : (c : tie.After-set-place invariant-loop decreases-loop) (place : Place) �
     → let rows = c.before.before in
     let at = rows.before.before in
     let a = at.before.before.before.before.args in
-    placeNaming a.s a.message a.symbol (layoutRows a.n a.k a.query.now)
-    ≡ later at.loop.end (orLater (rows.rows_of_lem.result * a.s) place
-    (placeNaming a.s a.message a.symbol (setRows (rows_from a.n a.k (at.loop.i + 1))
+    place_naming a.s a.message a.symbol (layout_rows a.n a.k a.query.now)
+    ≡ later at.loop.end (or_later (rows.rows_of_lem.result * a.s) place
+    (place_naming a.s a.message a.symbol (set_rows (rows_from a.n a.k (at.loop.i + 1))
     (drop (at.loop.at + rows.rows_of_lem.result * count (get_or at.before.before.ordered-sets.result at.loop.i 0)) a.query.now))))
 told c place e =
     let rows = c.before.before in
@@ -178,7 +178,7 @@ told c place e =
     let a = at.before.before.before.before.args in
     set-decides a.n a.k a.s a.message a.symbol a.query.now at.loop.i at.loop.at at.loop.end
     (get_or at.before.before.ordered-sets.result at.loop.i 0) rows.rows_of_lem.result
-    (placeNaming a.s a.message a.symbol (layoutRows a.n a.k a.query.now)) place (turn-of rows) at.loop.invariant.3 (seen c ∙ e)
+    (place_naming a.s a.message a.symbol (layout_rows a.n a.k a.query.now)) place (turn-of rows) at.loop.invariant.3 (seen c ∙ e)
 
 returns : tie.Need-returns invariant-loop decreases-loop
 returns c = sym (told c.before.before.before (At c.before.place.given.0.0) c.before.place.given.1)
@@ -221,7 +221,7 @@ loop-again c =
     let at = rows.before.before in
     let a = at.before.before.before.before.args in
     let turn = turn-of rows in
-    let rest = placeNaming a.s a.message a.symbol (setRows (rows_from a.n a.k (at.loop.i + 1))
+    let rest = place_naming a.s a.message a.symbol (set_rows (rows_from a.n a.k (at.loop.i + 1))
     (drop (at.loop.at + rows.rows_of_lem.result * count (get_or at.before.before.ordered-sets.result at.loop.i 0)) a.query.now)) in (
       omega arith,
       turn.read,
@@ -230,12 +230,12 @@ loop-again c =
     )
 
 returns-2 : tie.Need-returns-2 invariant-loop decreases-loop
-unfolding setRows placeNaming
+unfolding set_rows place_naming
 returns-2 c =
     let at = c.before in
     let start = at.before.before.before.before in
     let a = start.args in
-    let over : length (allSets a.k) ≤ at.loop.i = omega (arith, at.before.power.ensures, all-length a.k) in
+    let over : length (all_sets a.k) ≤ at.loop.i = omega (arith, at.before.power.ensures, all-length a.k) in
     sym (rw (rows_none a.n a.k at.loop.i over) at at.loop.invariant.3)
 
 pub locate-spec : {M : Type 1} → statement M

@@ -10,9 +10,9 @@ use borrow.Author.Rules.{rules}
 use lib.ListN.{length, get_or, drop}
 use Rattle.lists.specs.Sums.{bit}
 use Rattle.even_places.specs.Rule.{members}
-use Rattle.even_sets.specs.Sets.{setIn}
-use Rattle.even_layout.proofs.Bytes.{membersFrom, members_kept, members-skipped}
-use Rattle.scheme.specs.Asked.{isCell, timesIn}
+use Rattle.even_sets.specs.Sets.{set_in}
+use Rattle.even_layout.proofs.Bytes.{members_from, members_kept, members-skipped}
+use Rattle.scheme.specs.Asked.{is_cell, times_in}
 use Rattle.even_locate.proofs.Scan.{cell-next, some-named, none_named, no_cells}
 use Rattle.even_locate.proofs.row_names.Statement.{statement}
 use Rattle.even_locate.proofs.row_names.Tie as tie
@@ -20,8 +20,8 @@ use Rattle.even_locate.proofs.row_names.Tie as tie
 abbrev invariant-loop : tie.invariant-loop
 invariant-loop k set message symbol numbers rest₀ taken₀ p₀ rest taken p =
     (p ≤ k)
-    × (taken + length (membersFrom k p rest) ≤ length numbers)
-    × (timesIn message symbol (zip (membersFrom k p rest) (drop taken numbers)) ≡ timesIn message symbol (zip (members 0 (setIn k set)) numbers))
+    × (taken + length (members_from k p rest) ≤ length numbers)
+    × (times_in message symbol (zip (members_from k p rest) (drop taken numbers)) ≡ times_in message symbol (zip (members 0 (set_in k set)) numbers))
 
 abbrev decreases-loop : tie.decreases-loop
 decreases-loop k set message symbol numbers rest₀ taken₀ p₀ rest taken p = k - p
@@ -56,9 +56,9 @@ returns c =
     let p = at.loop.p in
     let taken = at.loop.taken in
     let rest = at.loop.rest in
-    let left = timesIn a.message a.symbol (zip (membersFrom a.k (p + 1) (rest / 2)) (drop (taken + 1) numbers)) in
-    let here : isCell a.message a.symbol (p, get_or numbers taken 0) ≡ _ = sym c.before.is-cell.ensures ∙ c.if2.true in
-    some-named a.message a.symbol (zip (members 0 (setIn a.k a.set)) numbers) left
+    let left = times_in a.message a.symbol (zip (members_from a.k (p + 1) (rest / 2)) (drop (taken + 1) numbers)) in
+    let here : is_cell a.message a.symbol (p, get_or numbers taken 0) ≡ _ = sym c.before.is-cell.ensures ∙ c.if2.true in
+    some-named a.message a.symbol (zip (members 0 (set_in a.k a.set)) numbers) left
     (sym at.loop.invariant.2
     ∙ cell-next a.message a.symbol a.k p rest taken numbers (omega arith) c.before.before.before.if1.true
     (next-number c.before.before.before)
@@ -86,8 +86,8 @@ loop-again c =
     (λ t.
     let kept = members_kept a.k p rest (omega arith) t.0.taken in
     let inside : taken < length numbers = omega (arith, ap length kept, at.loop.invariant.1) in
-    let left = timesIn a.message a.symbol (zip (membersFrom a.k (p + 1) (rest / 2)) (drop (taken + 1) numbers)) in
-    let other : isCell a.message a.symbol (p, get_or numbers taken 0) ≡ _ = sym t.2.ensures ∙ t.3.left in
+    let left = times_in a.message a.symbol (zip (members_from a.k (p + 1) (rest / 2)) (drop (taken + 1) numbers)) in
+    let other : is_cell a.message a.symbol (p, get_or numbers taken 0) ≡ _ = sym t.2.ensures ∙ t.3.left in
     rw t.4 (
       omega arith,
       omega (arith, ap length kept, at.loop.invariant.1),
@@ -101,12 +101,12 @@ loop-again c =
     c.if1.branch
 
 returns-2 : tie.Need-returns-2 invariant-loop decreases-loop
-unfolding members setIn
+unfolding members set_in
 returns-2 c =
     let at = c.before in
     let a = at.before.before.args in
     let none : a.k - at.loop.p ≡ 0 = omega arith in
-    none_named a.message a.symbol (zip (members 0 (setIn a.k a.set)) a.numbers.now)
+    none_named a.message a.symbol (zip (members 0 (set_in a.k a.set)) a.numbers.now)
     (sym (rw none at at.loop.invariant.2) ∙ no_cells a.message a.symbol (drop at.loop.taken a.numbers.now))
 
 pub row-names-spec : {M : Type 1} → statement M

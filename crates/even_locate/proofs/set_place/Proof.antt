@@ -11,11 +11,11 @@ use lib.Count.{ones as count, ones-le}
 use lib.ListN.{length, drop, replicate, length-drop}
 use Rattle.lists.proofs.Cuts.{slot-end, to_end}
 use Rattle.even_places.specs.Rule.{members}
-use Rattle.even_sets.specs.Sets.{setIn}
+use Rattle.even_sets.specs.Sets.{set_in}
 use Rattle.even_places.proofs.Positions.{members-length}
 use Rattle.scheme.specs.declared.Place.TheVariants.{At}
-use Rattle.scheme.specs.Asked.{named_in, later, placeNaming}
-use Rattle.even_scheme.specs.Asked.{setRows}
+use Rattle.scheme.specs.Asked.{named_in, later, place_naming}
+use Rattle.even_scheme.specs.Asked.{set_rows}
 use Rattle.scheme.proofs.Places.{later-zero, later-twice}
 use Rattle.even_locate.proofs.Scan.{row_next}
 use Rattle.even_locate.proofs.set_place.Statement.{statement}
@@ -24,8 +24,8 @@ use Rattle.even_locate.proofs.set_place.Tie as tie
 abbrev invariant-loop : tie.invariant-loop
 invariant-loop k s set rows message symbol numbers size row₀ row =
     (row ≤ rows)
-    × (placeNaming s message symbol (setRows (replicate rows (setIn k set)) numbers)
-    ≡ later (row * s) (placeNaming s message symbol (setRows (replicate (rows - row) (setIn k set)) (drop (row * size) numbers))))
+    × (place_naming s message symbol (set_rows (replicate rows (set_in k set)) numbers)
+    ≡ later (row * s) (place_naming s message symbol (set_rows (replicate (rows - row) (set_in k set)) (drop (row * size) numbers))))
 
 abbrev decreases-loop : tie.decreases-loop
 decreases-loop k s set rows message symbol numbers size row₀ row = rows - row
@@ -36,7 +36,7 @@ cast-size c = omega (arith, ones-le 8 c.before.args.set (search rules))
 loop-holds : tie.Need-loop-init invariant-loop decreases-loop
 loop-holds c =
     let a = c.before.args in
-    let place = placeNaming a.s a.message a.symbol (setRows (replicate a.rows (setIn a.k a.set)) a.numbers.now) in
+    let place = place_naming a.s a.message a.symbol (set_rows (replicate a.rows (set_in a.k a.set)) a.numbers.now) in
     (omega arith, rw (zero-mul a.s, zero-mul (count a.set), sub-zero a.rows) (sym (later-zero place)))
 
 -- the row's numbers, and its part of the answers
@@ -68,7 +68,7 @@ row-names-requires c κs =
     let a = start.args in
     let from = at.loop.row * count a.set in
     rw (to_end a.numbers.now from)
-    (omega (arith, members-length 0 (setIn a.k a.set), start.requires.0, length-drop from a.numbers.now, within c.before))
+    (omega (arith, members-length 0 (set_in a.k a.set), start.requires.0, length-drop from a.numbers.now, within c.before))
 
 mul-t18 : tie.Need-overflow-mul-t18 invariant-loop decreases-loop
 mul-t18 c =
@@ -79,10 +79,10 @@ mul-t18 c =
 row-decides : (c : tie.After-row-names invariant-loop decreases-loop) (t : Bool) → c.row-names.result ≡ t
     → let at = c.before.before.before in
     let a = at.before.before.args in
-    placeNaming a.s a.message a.symbol (setRows (replicate a.rows (setIn a.k a.set)) a.numbers.now)
+    place_naming a.s a.message a.symbol (set_rows (replicate a.rows (set_in a.k a.set)) a.numbers.now)
     ≡ later (at.loop.row * a.s) (cond t (At 0)
-    (later a.s (placeNaming a.s a.message a.symbol
-    (setRows (replicate (a.rows - (at.loop.row + 1)) (setIn a.k a.set)) (drop ((at.loop.row + 1) * count a.set) a.numbers.now)))))
+    (later a.s (place_naming a.s a.message a.symbol
+    (set_rows (replicate (a.rows - (at.loop.row + 1)) (set_in a.k a.set)) (drop ((at.loop.row + 1) * count a.set) a.numbers.now)))))
 row-decides c t e =
     let at = c.before.before.before in
     let start = at.before.before in
@@ -90,8 +90,8 @@ row-decides c t e =
     let row = at.loop.row in
     let size = count a.set in
     let numbers = a.numbers.now in
-    let A = setIn a.k a.set in
-    let rest = later a.s (placeNaming a.s a.message a.symbol (setRows (replicate (a.rows - (row + 1)) A) (drop ((row + 1) * size) numbers))) in
+    let A = set_in a.k a.set in
+    let rest = later a.s (place_naming a.s a.message a.symbol (set_rows (replicate (a.rows - (row + 1)) A) (drop ((row + 1) * size) numbers))) in
     let told : named_in a.message a.symbol (zip (members 0 A) (drop (row * size) numbers)) ≡ t =
     sym (c.row-names.ensures ∙ ap (λ (l : List ℕ). named_in a.message a.symbol (zip (members 0 A) l)) (to_end numbers (row * size))) ∙ e in
     at.loop.invariant.1
@@ -116,13 +116,13 @@ loop-again c =
     let at = c.before.before.before.before in
     let a = at.before.before.args in
     let row = at.loop.row in
-    let rest = placeNaming a.s a.message a.symbol
-    (setRows (replicate (a.rows - (row + 1)) (setIn a.k a.set)) (drop ((row + 1) * count a.set) a.numbers.now)) in
+    let rest = place_naming a.s a.message a.symbol
+    (set_rows (replicate (a.rows - (row + 1)) (set_in a.k a.set)) (drop ((row + 1) * count a.set) a.numbers.now)) in
     let next : row * a.s + a.s ≡ (row + 1) * a.s = omega (arith, suc-mul row a.s, ap (λ (n : ℕ). n * a.s) (add-one row)) in
     (omega arith, row-decides c.before _ c.if1.false ∙ later-twice (row * a.s) a.s rest ∙ ap (λ (n : ℕ). later n rest) next)
 
 returns-2 : tie.Need-returns-2 invariant-loop decreases-loop
-unfolding setRows placeNaming
+unfolding set_rows place_naming
 returns-2 c =
     let at = c.before in
     let a = at.before.before.args in

@@ -4,13 +4,13 @@ use native.Mathlib.Omega.{arith}
 use lib.ListN.{length}
 use Rattle.lists.proofs.Writing.{Pending, pending-start, pending-byte, pending_done}
 use Rattle.even_query.specs.Query.{entries}
-use Rattle.even_query.proofs.Entries.{entriesFrom, entries-start, entries-more, entries-done, entries-length}
+use Rattle.even_query.proofs.Entries.{entries_from, entries-start, entries-more, entries-done, entries-length}
 use Rattle.even_query.proofs.look_up.Statement.{statement}
 use Rattle.even_query.proofs.look_up.Tie as tie
 
 abbrev invariant-loop : tie.invariant-loop
 invariant-loop symbols key messages places out₀ i₀ out i =
-    (i ≤ length places) × Pending 0 (entries symbols key messages places) out₀ i (entriesFrom symbols key messages places i) out
+    (i ≤ length places) × Pending 0 (entries symbols key messages places) out₀ i (entries_from symbols key messages places i) out
 
 abbrev decreases-loop : tie.decreases-loop
 decreases-loop symbols key messages places out₀ i₀ out i = length places - i

@@ -8,7 +8,7 @@ use lib.ListN.{length, take, replicate}
 use Rattle.lists.specs.Parts.{put}
 use Rattle.lists.proofs.Puts.{put-padded}
 use Rattle.lists.proofs.Cuts.{front-is, front_fits}
-use Rattle.even_places.specs.Rule.{byte_of, queryCells, allSets}
+use Rattle.even_places.specs.Rule.{byte_of, query_cells, all_sets}
 use Rattle.even_sets.proofs.Blocks.{all-length, subsets-few, all-bytes}
 use Rattle.even_ranks.proofs.Steps.{totals-length, totals-below}
 use Rattle.even_query.proofs.Whole.{places-are, places-below, places-length, query-room}
@@ -17,18 +17,18 @@ use Rattle.even_query.proofs.places.Tie as tie
 
 -- the first sets of the table are all sets
 bytes_of : tie.After-power → List ℕ
-bytes_of c = map byte_of (allSets c.before.before.args.k)
+bytes_of c = map byte_of (all_sets c.before.before.args.k)
 
-moreOf : tie.After-power → List ℕ
-moreOf c = replicate (256 - length (bytes_of c)) 0
+more_of : tie.After-power → List ℕ
+more_of c = replicate (256 - length (bytes_of c)) 0
 
 sets-many : (c : tie.After-power) → length (bytes_of c) ≡ c.power.result - 1
 unfolding bytes_of
 sets-many c = all-bytes c.before.before.args.k c.power.result c.power.ensures
 
-sets-front : (c : tie.After-power) → take (c.power.result - 1) c.before.ordered-sets.result ≡ map byte_of (allSets c.before.before.args.k)
-unfolding bytes_of moreOf
-sets-front c = front-is (c.power.result - 1) c.before.ordered-sets.result (bytes_of c) (moreOf c) c.before.ordered-sets.ensures (sets-many c)
+sets-front : (c : tie.After-power) → take (c.power.result - 1) c.before.ordered-sets.result ≡ map byte_of (all_sets c.before.before.args.k)
+unfolding bytes_of more_of
+sets-front c = front-is (c.power.result - 1) c.before.ordered-sets.result (bytes_of c) (more_of c) c.before.ordered-sets.ensures (sets-many c)
 
 ordered-sets-requires : tie.Need-ordered-sets-requires
 ordered-sets-requires c κs = search rules
@@ -40,9 +40,9 @@ sub-count : tie.Need-overflow-sub-count
 sub-count c = omega (arith, c.power.ensures, all-length c.before.before.args.k)
 
 array-share-prefix-table : tie.Need-array-share-prefix-table
-unfolding bytes_of moreOf
+unfolding bytes_of more_of
 array-share-prefix-table c =
-    front_fits (c.power.result - 1) c.before.ordered-sets.result (bytes_of c) (moreOf c) c.before.ordered-sets.ensures (sets-many c)
+    front_fits (c.power.result - 1) c.before.ordered-sets.result (bytes_of c) (more_of c) c.before.ordered-sets.ensures (sets-many c)
 
 slice-aggregate-sets : tie.Need-slice-aggregate-sets
 unfolding bytes_of
@@ -102,7 +102,7 @@ returns c =
     let totals = c.before.before.before.before.before.before.before.totals in
     c.before.write-sets.ensures
     ∙ ap (λ (l : List ℕ). put 0 l (replicate 1024 0)) (places-are a.n a.k a.wanted a.server start.requires totals.result totals.ensures)
-    ∙ put-padded (map (λ cell. cell.1) (queryCells a.n a.k a.wanted a.server)) 1024
+    ∙ put-padded (map (λ cell. cell.1) (query_cells a.n a.k a.wanted a.server)) 1024
 
 pub places-spec : {M : Type 1} → statement M
 places-spec =

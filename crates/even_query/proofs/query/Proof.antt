@@ -8,7 +8,7 @@ use borrow.Author.Rules.{rules}
 use lib.ListN.{length, take, replicate}
 use Rattle.lists.specs.Parts.{put}
 use Rattle.lists.proofs.Cuts.{front-is, front_fits}
-use Rattle.even_places.specs.Rule.{queryCells, positions}
+use Rattle.even_places.specs.Rule.{query_cells, positions}
 use Rattle.even_query.proofs.Whole.{places-length, messages-length, query-room, keyed, entries-are}
 use Rattle.even_query.proofs.query.Statement.{statement}
 use Rattle.even_query.proofs.query.Tie as tie
@@ -17,11 +17,11 @@ abbrev begin : tie.After-power → tie.Start
 begin c = c.before.before.before.before.before
 
 -- the messages and the places of the rule, and how many of each there are
-abbrev messagesOf : tie.Start → List ℕ
-messagesOf s = positions s.args.n s.args.k
+abbrev messages_of : tie.Start → List ℕ
+messages_of s = positions s.args.n s.args.k
 
 abbrev places_of : tie.Start → List ℕ
-places_of s = map (λ cell. cell.1) (queryCells s.args.n s.args.k s.args.wanted s.args.server)
+places_of s = map (λ cell. cell.1) (query_cells s.args.n s.args.k s.args.wanted s.args.server)
 
 abbrev count_of : tie.After-power → ℕ
 count_of c = (begin c).args.k * c.power.result
@@ -29,15 +29,15 @@ count_of c = (begin c).args.k * c.power.result
 count-is : (c : tie.After-power) → count_of c ≡ (begin c).args.k * (begin c).args.n ^ ((begin c).args.k - 1)
 count-is c = ap (λ (x : ℕ). (begin c).args.k * x) c.power.ensures
 
-messages-many : (c : tie.After-power) → length (messagesOf (begin c)) ≡ count_of c
+messages-many : (c : tie.After-power) → length (messages_of (begin c)) ≡ count_of c
 messages-many c = let a = (begin c).args in messages-length a.n a.k a.wanted a.server (begin c).requires.0 ∙ sym (count-is c)
 
 places-many : (c : tie.After-power) → length (places_of (begin c)) ≡ count_of c
 places-many c = let a = (begin c).args in places-length a.n a.k a.wanted a.server (begin c).requires.0 ∙ sym (count-is c)
 
-messages-front : (c : tie.After-power) → take (count_of c) c.before.before.positions.result ≡ messagesOf (begin c)
+messages-front : (c : tie.After-power) → take (count_of c) c.before.before.positions.result ≡ messages_of (begin c)
 messages-front c =
-    front-is (count_of c) c.before.before.positions.result (messagesOf (begin c)) (replicate (1024 - length (messagesOf (begin c))) 0)
+    front-is (count_of c) c.before.before.positions.result (messages_of (begin c)) (replicate (1024 - length (messages_of (begin c))) 0)
     c.before.before.positions.ensures (messages-many c)
 
 places-front : (c : tie.After-power) → take (count_of c) c.before.places.result ≡ places_of (begin c)
@@ -73,7 +73,7 @@ power-requires-2 c κs = omega (arith, (begin c).requires.0.bounds.symbols-high)
 array-share-prefix-messages : tie.Need-array-share-prefix-messages
 array-share-prefix-messages c =
     let p = c.before in
-    front_fits (count_of p) p.before.before.positions.result (messagesOf (begin p)) (replicate (1024 - length (messagesOf (begin p))) 0)
+    front_fits (count_of p) p.before.before.positions.result (messages_of (begin p)) (replicate (1024 - length (messages_of (begin p))) 0)
     p.before.before.positions.ensures (messages-many p)
 
 slice-aggregate-look-up : tie.Need-slice-aggregate-look-up

@@ -9,22 +9,22 @@ use lib.ListN.{set, length-map}
 use Rattle.lists.specs.Below.{Below}
 use Rattle.lists.proofs.Writing.{Pending, pending-start, pending-byte, pending-as, pending-ends, pending_done}
 use Rattle.even_places.specs.Rule.{members}
-use Rattle.even_sets.specs.Sets.{setIn}
-use Rattle.even_layout.proofs.Bytes.{membersFrom, members_kept, members-skipped}
+use Rattle.even_sets.specs.Sets.{set_in}
+use Rattle.even_layout.proofs.Bytes.{members_from, members_kept, members-skipped}
 use Rattle.even_ranks.specs.declared.Origin.{Origin}
-use Rattle.even_ranks.specs.Walk.{originPlace}
+use Rattle.even_ranks.specs.Walk.{origin_place}
 use Rattle.even_query.proofs.write_row.Statement.{statement}
 use Rattle.even_query.proofs.write_row.Tie as tie
 
 -- the places of the set's messages from p on
-abbrev placesFrom : ℕ → ℕ → ℕ → List ℕ → List ℕ → Origin → ℕ → ℕ → List ℕ
-placesFrom n k wanted totals ranks o p rest = map (originPlace n wanted totals ranks o) (membersFrom k p rest)
+abbrev places_from : ℕ → ℕ → ℕ → List ℕ → List ℕ → Origin → ℕ → ℕ → List ℕ
+places_from n k wanted totals ranks o p rest = map (origin_place n wanted totals ranks o) (members_from k p rest)
 
 abbrev invariant-loop : tie.invariant-loop
 invariant-loop n k wanted totals taken ranks o set out₀ at rest₀ end₀ p₀ out rest end p =
     (p ≤ k)
-    × Below 256 (placesFrom n k wanted totals ranks o p rest)
-    × Pending at (map (originPlace n wanted totals ranks o) (members 0 (setIn k set))) out₀ end (placesFrom n k wanted totals ranks o p rest) out
+    × Below 256 (places_from n k wanted totals ranks o p rest)
+    × Pending at (map (origin_place n wanted totals ranks o) (members 0 (set_in k set))) out₀ end (places_from n k wanted totals ranks o p rest) out
 
 abbrev decreases-loop : tie.decreases-loop
 decreases-loop n k wanted totals taken ranks o set out₀ at rest₀ end₀ p₀ out rest end p = k - p
@@ -33,7 +33,7 @@ loop-holds : tie.Need-loop-init invariant-loop decreases-loop
 loop-holds c =
     let start = c.before.before.before.before in
     let a = start.args in
-    let many = length-map (members 0 (setIn a.k a.set)) (originPlace a.n a.wanted a.totals.now a.ranks.now a.o) in
+    let many = length-map (members 0 (set_in a.k a.set)) (origin_place a.n a.wanted a.totals.now a.ranks.now a.o) in
     (omega arith, rw (sub-zero a.k) start.requires.4, rw (sub-zero a.k) (pending-start (omega (arith, many, start.requires.5))))
 
 place-requires : tie.Need-place-requires invariant-loop decreases-loop
@@ -107,14 +107,14 @@ same_length : tie.Need-same-length invariant-loop decreases-loop
 same_length c = c.before.loop.invariant.2.long
 
 returns : tie.Need-returns invariant-loop decreases-loop
-unfolding members setIn
+unfolding members set_in
 returns c =
     let at = c.before in
     let start = at.before.before.before.before.before in
     let a = start.args in
     let none : a.k - at.loop.p ≡ 0 = omega arith in
     let left = rw none at at.loop.invariant.2 in
-    let many = length-map (members 0 (setIn a.k a.set)) (originPlace a.n a.wanted a.totals.now a.ranks.now a.o) in
+    let many = length-map (members 0 (set_in a.k a.set)) (origin_place a.n a.wanted a.totals.now a.ranks.now a.o) in
     (omega (arith, pending-ends left, many), pending_done left)
 
 pub write-row-spec : {M : Type 1} → statement M

@@ -8,8 +8,8 @@ use lib.Dec.{eqb}
 use Rattle.lists.specs.Below.{Below}
 use Rattle.lists.proofs.Writing.{Pending, pending-start, pending-as, pending-ends, pending_done}
 use Rattle.even_places.specs.Rule.{ones_in}
-use Rattle.even_sets.specs.Sets.{setIn}
-use Rattle.even_ranks.specs.Walk.{setPlaces}
+use Rattle.even_sets.specs.Sets.{set_in}
+use Rattle.even_ranks.specs.Walk.{set_places}
 use Rattle.even_ranks.proofs.Steps.{stands-count}
 use Rattle.even_query.proofs.Steps.{joined-two}
 use Rattle.even_query.proofs.Rows.{rows_fit, rows_from, rows_start, rows-done, RowTurn, row-turn}
@@ -19,8 +19,8 @@ use Rattle.even_query.proofs.write_set.Tie as tie
 abbrev invariant-loop : tie.invariant-loop
 invariant-loop n k wanted server totals taken ranks set out₀ at ones_in joins rows end₀ i₀ out end i =
     (i ≤ rows)
-    × Below 256 (rows_from n wanted server totals ranks (setIn k set) i)
-    × Pending at (setPlaces n wanted server totals ranks (setIn k set)) out₀ end (rows_from n wanted server totals ranks (setIn k set) i) out
+    × Below 256 (rows_from n wanted server totals ranks (set_in k set) i)
+    × Pending at (set_places n wanted server totals ranks (set_in k set)) out₀ end (rows_from n wanted server totals ranks (set_in k set) i) out
 
 abbrev decreases-loop : tie.decreases-loop
 decreases-loop n k wanted server totals taken ranks set out₀ at ones_in joins rows end₀ i₀ out end i = rows - i
@@ -28,7 +28,7 @@ decreases-loop n k wanted server totals taken ranks set out₀ at ones_in joins 
 -- as many turns as the set has rows
 rows_at : (c : tie.At-loop invariant-loop decreases-loop)
     → let a = c.before.before.before.before.before.before.before.args in
-    c.before.rows_of_lem.result ≡ (a.n - 1) ^ (ones_in (setIn a.k a.set) - 1)
+    c.before.rows_of_lem.result ≡ (a.n - 1) ^ (ones_in (set_in a.k a.set) - 1)
 rows_at c =
     let start = c.before.before.before.before.before.before.before in
     let a = start.args in
@@ -38,7 +38,7 @@ turn_at : (c : tie.After-origin invariant-loop decreases-loop)
     → let a = c.before.before.before.before.before.before.before.before.before.args in
     let loop = c.before.before.loop in
     RowTurn a.n a.k a.wanted a.server a.set loop.i a.totals.now a.ranks.now c.origin.result
-    a.at (setPlaces a.n a.wanted a.server a.totals.now a.ranks.now (setIn a.k a.set)) a.out.now loop.end loop.out
+    a.at (set_places a.n a.wanted a.server a.totals.now a.ranks.now (set_in a.k a.set)) a.out.now loop.end loop.out
 turn_at c =
     let at = c.before.before in
     let joined = at.before.before.is-joined in
@@ -70,7 +70,7 @@ loop-holds : tie.Need-loop-init invariant-loop decreases-loop
 loop-holds c =
     let start = c.before.before.before.before.before.before in
     let a = start.args in
-    let all = rows_start a.n a.wanted a.server a.totals.now a.ranks.now (setIn a.k a.set) in
+    let all = rows_start a.n a.wanted a.server a.totals.now a.ranks.now (set_in a.k a.set) in
     (omega arith, rw all start.requires.4, rw all (pending-start start.requires.5))
 
 origin-requires : tie.Need-origin-requires invariant-loop decreases-loop
@@ -114,7 +114,7 @@ returns : tie.Need-returns invariant-loop decreases-loop
 returns c =
     let at = c.before in
     let a = at.before.before.before.before.before.before.before.args in
-    let done = rows-done a.n a.wanted a.server a.totals.now a.ranks.now (setIn a.k a.set) at.loop.i (omega (arith, rows_at at)) in
+    let done = rows-done a.n a.wanted a.server a.totals.now a.ranks.now (set_in a.k a.set) at.loop.i (omega (arith, rows_at at)) in
     let left = rw done at at.loop.invariant.2 in
     (pending-ends left, pending_done left)
 

@@ -8,11 +8,11 @@ use lib.ListN.{length, get_or, drop, length-map}
 use Rattle.lists.specs.Below.{Below}
 use Rattle.lists.proofs.Below.{below-zeros}
 use Rattle.lists.proofs.Writing.{Pending, pending-start, pending-as, pending_done}
-use Rattle.even_places.specs.Rule.{byte_of, allSets}
-use Rattle.even_sets.specs.Sets.{setIn}
+use Rattle.even_places.specs.Rule.{byte_of, all_sets}
+use Rattle.even_sets.specs.Sets.{set_in}
 use Rattle.even_sets.proofs.Blocks.{all-length, subsets-few}
-use Rattle.even_ranks.specs.Counts.{noCounts, Stands}
-use Rattle.even_ranks.specs.Walk.{setsPlaces}
+use Rattle.even_ranks.specs.Counts.{no_counts, Stands}
+use Rattle.even_ranks.specs.Walk.{sets_places}
 use Rattle.even_ranks.proofs.Counters.{counted-length}
 use Rattle.even_ranks.proofs.Steps.{stands_at, stands-count, stands_set, Lent, lent, counted-below}
 use Rattle.even_query.proofs.Rows.{sets-done, SetTurn, set-turn}
@@ -24,8 +24,8 @@ invariant-loop n k wanted server totals taken sets out₀ counts₀ end₀ i₀ 
     (i ≤ length sets)
     × (length counts ≡ 128)
     × Below (suc i) counts
-    × Below 256 (setsPlaces n wanted server totals counts (drop i (allSets k)))
-    × Pending 0 (setsPlaces n wanted server totals noCounts (allSets k)) out₀ end (setsPlaces n wanted server totals counts (drop i (allSets k))) out
+    × Below 256 (sets_places n wanted server totals counts (drop i (all_sets k)))
+    × Pending 0 (sets_places n wanted server totals no_counts (all_sets k)) out₀ end (sets_places n wanted server totals counts (drop i (all_sets k))) out
 
 abbrev decreases-loop : tie.decreases-loop
 decreases-loop n k wanted server totals taken sets out₀ counts₀ end₀ i₀ out counts end i = length sets - i
@@ -34,17 +34,17 @@ decreases-loop n k wanted server totals taken sets out₀ counts₀ end₀ i₀ 
 stands_here : (c : tie.In-loop invariant-loop decreases-loop)
     → let a = c.before.before.before.before.before.before.args in
     let byte = get_or a.sets.now c.before.loop.i 0 in
-    Stands a.k byte × (setIn a.k byte ≡ get_or (allSets a.k) c.before.loop.i [])
+    Stands a.k byte × (set_in a.k byte ≡ get_or (all_sets a.k) c.before.loop.i [])
 stands_here c =
     let start = c.before.before.before.before.before.before in
     let a = start.args in
     let bounds = start.requires.0.bounds in
     stands_at a.k c.before.loop.i a.sets.now bounds.messages-low bounds.messages-high start.requires.2 (omega arith)
 
-inside : (c : tie.In-loop invariant-loop decreases-loop) → c.before.loop.i < length (allSets c.before.before.before.before.before.before.args.k)
+inside : (c : tie.In-loop invariant-loop decreases-loop) → c.before.loop.i < length (all_sets c.before.before.before.before.before.before.args.k)
 inside c =
     let start = c.before.before.before.before.before.before in
-    omega (arith, ap length start.requires.2, length-map (allSets start.args.k) byte_of)
+    omega (arith, ap length start.requires.2, length-map (all_sets start.args.k) byte_of)
 
 lent-here : (c : tie.After-counters-of invariant-loop decreases-loop)
     → let a = c.before.before.before.before.before.before.before.before.args in
@@ -59,13 +59,13 @@ turn-here : (c : tie.After-counters-of invariant-loop decreases-loop)
     → let a = c.before.before.before.before.before.before.before.before.args in
     let loop = c.before.before.before.loop in
     SetTurn a.n a.k a.wanted a.server (get_or a.sets.now loop.i 0) loop.i c.counters-of.result a.totals.now loop.counts
-    0 (setsPlaces a.n a.wanted a.server a.totals.now noCounts (allSets a.k)) a.out.now loop.end loop.out
+    0 (sets_places a.n a.wanted a.server a.totals.now no_counts (all_sets a.k)) a.out.now loop.end loop.out
 turn-here c =
     let loop = c.before.before.before.loop in
     set-turn (lent-here c) loop.invariant.1 (inside c.before.before) (stands_here c.before.before).1 loop.invariant.3 loop.invariant.4
 
 loop-holds : tie.Need-loop-init invariant-loop decreases-loop
-unfolding noCounts
+unfolding no_counts
 loop-holds c =
     let start = c.before.before.before.before in
     (omega arith, refl, below-zeros 1 128 (omega arith), start.requires.3, pending-start (omega (arith, start.requires.4)))
@@ -131,7 +131,7 @@ loop-again c =
     let start = from.before.before.before.before.before.before.before.before in
     let a = start.args in
     let byte = get_or a.sets.now loop.i 0 in
-    let A = setIn a.k byte in
+    let A = set_in a.k byte in
     let t = turn-here from in
     let next = c.before.count_set.ensures in
     let written = c.before.before.before.before.before.write-set.ensures in (
@@ -142,7 +142,7 @@ loop-again c =
       rw (next, add-one loop.i) (counted-below (suc loop.i) a.wanted A loop.counts loop.invariant.2),
       rw next t.rest-small,
       pending-as written.0
-          (ap (λ (d : List ℕ). setsPlaces a.n a.wanted a.server a.totals.now d (drop (loop.i + 1) (allSets a.k))) next) written.1 t.rest,
+          (ap (λ (d : List ℕ). sets_places a.n a.wanted a.server a.totals.now d (drop (loop.i + 1) (all_sets a.k))) next) written.1 t.rest,
     )
 
 same_length : tie.Need-same-length invariant-loop decreases-loop
@@ -153,8 +153,8 @@ returns c =
     let at = c.before in
     let start = at.before.before.before.before.before in
     let a = start.args in
-    let all : length (allSets a.k) ≤ at.loop.i = omega (arith, ap length start.requires.2, length-map (allSets a.k) byte_of) in
-    pending_done (rw (sets-done a.n a.wanted a.server a.totals.now at.loop.counts (allSets a.k) at.loop.i all) at at.loop.invariant.4)
+    let all : length (all_sets a.k) ≤ at.loop.i = omega (arith, ap length start.requires.2, length-map (all_sets a.k) byte_of) in
+    pending_done (rw (sets-done a.n a.wanted a.server a.totals.now at.loop.counts (all_sets a.k) at.loop.i all) at at.loop.invariant.4)
 
 pub write-sets-spec : {M : Type 1} → statement M
 write-sets-spec =

@@ -6,14 +6,14 @@ use native.Mathlib.Omega.{arith}
 use lib.ListN.{length, get_or, length-set}
 use lib.Seq.{get_or-set_other}
 use Rattle.even_places.specs.Rule.{after}
-use Rattle.even_sets.specs.Sets.{setIn}
-use Rattle.even_ranks.proofs.Steps.{countsFrom, counts_start, counts-more, counts-done}
+use Rattle.even_sets.specs.Sets.{set_in}
+use Rattle.even_ranks.proofs.Steps.{counts_from, counts_start, counts-more, counts-done}
 use Rattle.even_ranks.proofs.count_members.Statement.{statement}
 use Rattle.even_ranks.proofs.count_members.Tie as tie
 
 abbrev invariant-loop : tie.invariant-loop
 invariant-loop k set counts₀ rest₀ p₀ counts rest p =
-    (p ≤ k) × (length counts ≡ k) × ((i : ℕ) → p ≤ i → get_or counts i 0 ≡ get_or counts₀ i 0) × (countsFrom k p rest counts ≡ after (setIn k set) counts₀)
+    (p ≤ k) × (length counts ≡ k) × ((i : ℕ) → p ≤ i → get_or counts i 0 ≡ get_or counts₀ i 0) × (counts_from k p rest counts ≡ after (set_in k set) counts₀)
 
 abbrev decreases-loop : tie.decreases-loop
 decreases-loop k set counts₀ rest₀ p₀ counts rest p = k - p
@@ -65,7 +65,7 @@ returns c =
     let at = c.before in
     let counts = at.loop.counts in
     let all : at.loop.p ≡ at.before.args.k = omega arith in
-    sym (ap (λ (p : ℕ). countsFrom at.before.args.k p at.loop.rest counts) all
+    sym (ap (λ (p : ℕ). counts_from at.before.args.k p at.loop.rest counts) all
     ∙ counts-done at.before.args.k at.loop.rest counts at.loop.invariant.1)
     ∙ at.loop.invariant.3
 

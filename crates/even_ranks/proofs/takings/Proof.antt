@@ -7,13 +7,13 @@ use native.Mathlib.Omega.{arith}
 use lib.ListN.{length, take, length-set}
 use lib.Seq.{take_all}
 use Rattle.lists.proofs.Puts.{write-more}
-use Rattle.even_ranks.specs.Counts.{takenTable}
-use Rattle.even_ranks.proofs.Steps.{takenFrom, table-start, table_more, table_done}
+use Rattle.even_ranks.specs.Counts.{taken_table}
+use Rattle.even_ranks.proofs.Steps.{taken_from, table-start, table_more, table_done}
 use Rattle.even_ranks.proofs.takings.Statement.{statement}
 use Rattle.even_ranks.proofs.takings.Tie as tie
 
 abbrev invariant-loop : tie.invariant-loop
-invariant-loop n wanted totals table₀ i₀ table i = (i ≤ 64) × (length table ≡ 64) × (take i table ++ takenFrom n wanted totals i ≡ takenTable n wanted totals)
+invariant-loop n wanted totals table₀ i₀ table i = (i ≤ 64) × (length table ≡ 64) × (take i table ++ taken_from n wanted totals i ≡ taken_table n wanted totals)
 
 abbrev decreases-loop : tie.decreases-loop
 decreases-loop n wanted totals table₀ i₀ table i = 64 - i
@@ -48,8 +48,8 @@ loop-again c =
     let i = at.loop.i in (
       omega arith,
       simp length-set at.loop.invariant.1,
-      write-more i c.taken-before.result at.loop.table (takenFrom a.n a.wanted a.totals.now (i + 1)) (omega arith)
-          ∙ ap (λ (x : ℕ). take i at.loop.table ++ (x ∷ takenFrom a.n a.wanted a.totals.now (i + 1))) c.taken-before.ensures
+      write-more i c.taken-before.result at.loop.table (taken_from a.n a.wanted a.totals.now (i + 1)) (omega arith)
+          ∙ ap (λ (x : ℕ). take i at.loop.table ++ (x ∷ taken_from a.n a.wanted a.totals.now (i + 1))) c.taken-before.ensures
           ∙ ap (λ (l : List ℕ). take i at.loop.table ++ l) (sym (table_more a.n a.wanted i a.totals.now (omega arith))) ∙ at.loop.invariant.2,
     )
 
@@ -59,7 +59,7 @@ returns c =
     let a = at.before.before.args in
     let table = at.loop.table in
     let all : at.loop.i ≡ 64 = omega arith in
-    sym (ap (λ (i : ℕ). take i table ++ takenFrom a.n a.wanted a.totals.now i) all
+    sym (ap (λ (i : ℕ). take i table ++ taken_from a.n a.wanted a.totals.now i) all
     ∙ ap (λ (l : List ℕ). take 64 table ++ l) (table_done a.n a.wanted a.totals.now)
     ∙ append-nil (take 64 table)
     ∙ take_all 64 table (omega arith))

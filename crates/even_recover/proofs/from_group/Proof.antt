@@ -8,8 +8,8 @@ use lib.ListN.{length, get_or}
 use Rattle.lists.specs.Parts.{lay}
 use Rattle.lists.specs.Ranges.{range}
 use Rattle.symbol.specs.Operations.{sum_of}
-use Rattle.lists.specs.Assembled.{layAll}
-use Rattle.even_recover.specs.Rows.{groupSymbol, groupPart, groupParts}
+use Rattle.lists.specs.Assembled.{lay_all}
+use Rattle.even_recover.specs.Rows.{group_symbol, group_part, group_parts}
 use Rattle.lists.proofs.Assembled.{assemble-none, assemble-part}
 use Rattle.even_recover.proofs.from_group.Statement.{statement}
 use Rattle.even_recover.proofs.from_group.Tie as tie
@@ -19,7 +19,7 @@ invariant-loop op here group query answers message₀ count cell₀ i₀ message
     (i ≤ group.count)
     × (length message ≡ length message₀)
     × (cell ≡ group.cell + i * group.messages)
-    × (message ≡ layAll (map (groupPart (sum_of op) here group query answers) (range 0 i)) message₀)
+    × (message ≡ lay_all (map (group_part (sum_of op) here group query answers) (range 0 i)) message₀)
 
 abbrev decreases-loop : tie.decreases-loop
 decreases-loop op here group query answers message₀ count cell₀ i₀ message cell i = group.count - i
@@ -30,7 +30,7 @@ loop-holds c =
       omega arith,
       refl,
       omega (arith, zero-mul at.group.messages),
-      assemble-none lay (groupPart (sum_of at.op) at.here at.group at.query.now at.answers.now) at.message.now,
+      assemble-none lay (group_part (sum_of at.op) at.here at.group at.query.now at.answers.now) at.message.now,
     )
 
 shared-slice-read-number : tie.Need-shared-slice-read-number invariant-loop decreases-loop
@@ -61,13 +61,13 @@ loop-less : tie.Need-loop-smaller invariant-loop decreases-loop
 loop-less c = omega arith
 
 loop-again : tie.Need-loop-preserved invariant-loop decreases-loop
-unfolding groupPart
+unfolding group_part
 loop-again c =
     let turn = c.before.before.before.before.before.before.before.loop in
     let done = c.before.before.before.from_row in
     let at = c.before.before.before.before.before.before.before.before.before.before.before.args in
-    let part = groupPart (sum_of at.op) at.here at.group at.query.now at.answers.now in
-    let symbol = groupSymbol (sum_of at.op) at.here at.group at.answers.now turn.i in (
+    let part = group_part (sum_of at.op) at.here at.group at.query.now at.answers.now in
+    let symbol = group_symbol (sum_of at.op) at.here at.group at.answers.now turn.i in (
       omega arith,
       done.auto.1.1.1.1.1.1.0 ∙ turn.invariant.1,
       omega (arith, turn.invariant.2, add-mul turn.i 1 at.group.messages, one-mul at.group.messages),
@@ -80,12 +80,12 @@ same_length : tie.Need-same-length invariant-loop decreases-loop
 same_length c = c.before.loop.invariant.1
 
 returns : tie.Need-returns invariant-loop decreases-loop
-unfolding groupParts
+unfolding group_parts
 returns c =
     let at = c.before.before.before.before.before.args in
     let done : c.before.loop.i ≡ at.group.count = omega arith in
-    let part = groupPart (sum_of at.op) at.here at.group at.query.now at.answers.now in
-    c.before.loop.invariant.3 ∙ ap (λ (i : ℕ). layAll (map part (range 0 i)) at.message.now) done
+    let part = group_part (sum_of at.op) at.here at.group at.query.now at.answers.now in
+    c.before.loop.invariant.3 ∙ ap (λ (i : ℕ). lay_all (map part (range 0 i)) at.message.now) done
 
 pub from-group-spec : {M : Type 1} → statement M
 from-group-spec =

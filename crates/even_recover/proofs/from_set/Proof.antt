@@ -3,9 +3,9 @@ use mathlib.Core.Path.{ap, ◌∙◌}
 use Prim.Native.Nat.{◌/◌, ◌%◌}
 use borrow.Author.Tests.{eq-eqb, ne_eqb}
 use Rattle.symbol.specs.Operations.{sum_of}
-use Rattle.lists.specs.Assembled.{assembleBy, layAll}
+use Rattle.lists.specs.Assembled.{assemble_by, lay_all}
 use Rattle.even_recover.specs.declared.Group.{Group}
-use Rattle.even_recover.specs.Rows.{groupParts, setParts}
+use Rattle.even_recover.specs.Rows.{group_parts, set_parts}
 use borrow.Author.Rules.{rules}
 use Rattle.even_recover.proofs.from_set.Statement.{statement}
 use Rattle.even_recover.proofs.from_set.Tie as tie
@@ -26,16 +26,16 @@ same_length : tie.Need-same-length
 same_length c = search rules
 
 returns : tie.Need-returns
-unfolding setParts
+unfolding set_parts
 returns c =
     let at = c.before.before.before.before.before.before.before.before.before.before.before.args in
     c.before.before.from-group.ensures
-    ∙ ap (λ (g : Group). layAll (groupParts (sum_of at.op) at.here g at.query.now at.answers.now) at.message.now)
+    ∙ ap (λ (g : Group). lay_all (group_parts (sum_of at.op) at.here g at.query.now at.answers.now) at.message.now)
     c.before.before.before.before.group_of.ensures
     ∙ rw (eq-eqb (at.set / at.here.bit % 2) 1 c.before.before.before.before.before.if1.true)
 
 returns-2 : tie.Need-returns-2
-unfolding setParts assembleBy
+unfolding set_parts assemble_by
 returns-2 c =
     let at = c.before.before.before.before.before.before.args in
     rw (ne_eqb (at.set / at.here.bit % 2) 1 c.if1.false)

@@ -7,15 +7,15 @@ use native.Mathlib.Omega.{arith}
 use lib.ListN.{length}
 use lib.Seq.{length-take-le}
 use Rattle.parameters.proofs.Bounds.{even-bounds}
-use Rattle.parameters.specs.Measures.{evenSizes}
+use Rattle.parameters.specs.Measures.{even_sizes}
 use Rattle.symbol.specs.Operations.{sum_of}
 use Rattle.symbol.proofs.Operations.{group_of}
-use Rattle.lists.specs.Assembled.{layAll}
+use Rattle.lists.specs.Assembled.{lay_all}
 use Rattle.even_scheme.proofs.Promises.{even-written}
 use Rattle.even_sets.proofs.Blocks.{subsets-few}
 use Rattle.even_sets.proofs.Fits.{layout-fits}
-use Rattle.even_layout.specs.Layout.{firstRows}
-use Rattle.even_recover.proofs.Servers.{Front, sets-front, partsBefore, before-none, before_more, before-all}
+use Rattle.even_layout.specs.Layout.{first_rows}
+use Rattle.even_recover.proofs.Servers.{Front, sets-front, parts_before, before-none, before_more, before-all}
 use Rattle.even_recover.proofs.Started.{firsts-length}
 use Rattle.even_recover.proofs.recover.Statement.{statement}
 use Rattle.even_recover.proofs.recover.Tie as tie
@@ -25,8 +25,8 @@ invariant-loop op n k s wanted key answers message₀ sets count firsts server�
     (server ≤ n)
     × (length message ≡ length message₀)
     × Front k count sets
-    × (firsts ≡ firstRows n k)
-    × (message ≡ layAll (partsBefore (sum_of op) n k s wanted key answers server) message₀)
+    × (firsts ≡ first_rows n k)
+    × (message ≡ lay_all (parts_before (sum_of op) n k s wanted key answers server) message₀)
 
 abbrev decreases-loop : tie.decreases-loop
 decreases-loop op n k s wanted key answers message₀ sets count firsts server₀ message server = n - server
@@ -76,7 +76,7 @@ slice-aggregate-from-server-2 c =
     sym (ap length at.loop.invariant.3 ∙ firsts-length a.n a.k)
 
 from-server-requires : tie.Need-from-server-requires invariant-loop decreases-loop
-unfolding evenSizes
+unfolding even_sizes
 from-server-requires c κs =
     let test = c.before.before.before in
     let inv = test.before.loop.invariant in
@@ -116,7 +116,7 @@ returns c =
     let pre = start.requires in
     let all : c.before.loop.server ≡ at.n = omega (arith, c.before.loop.invariant.0, c.loop-test.false) in
     c.before.loop.invariant.4
-    ∙ ap (λ (l : List (ℕ × List ℕ)). layAll l at.message.now)
+    ∙ ap (λ (l : List (ℕ × List ℕ)). lay_all l at.message.now)
     (before-all (sum_of at.op) at.n at.k at.s at.wanted at.key.now at.answers.now c.before.loop.server all)
     ∙ even-written (sum_of at.op) at.n at.k at.s (group_of at.op at.s) pre.0 at.wanted pre.1.0 at.key.now pre.1.1.0
     at.answers.now pre.1.1.1 at.message.now

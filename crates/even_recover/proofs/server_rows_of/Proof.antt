@@ -1,6 +1,6 @@
 -- `server_rows_of` meets its contract: its powers are small.
 use native.Mathlib.Omega.{arith}
-use Rattle.parameters.specs.Measures.{evenRows}
+use Rattle.parameters.specs.Measures.{even_rows}
 use Rattle.parameters.proofs.Bounds.{even-bounds}
 use Rattle.even_recover.proofs.Sized.{sized}
 use borrow.Author.Rules.{rules}
@@ -47,7 +47,7 @@ cast-t12 c =
     omega (arith, small.bit_high, c.power2.ensures)
 
 returns : tie.Need-returns
-unfolding evenRows
+unfolding even_rows
 returns c = rw (c.before.power.ensures, c.power2.ensures)
 
 pub server-rows-of-spec : {M : Type 1} → statement M

@@ -8,13 +8,13 @@ use lib.ListN.{length, get_or, drop, set, replicate, length-map, drop_of_length-
 use lib.Seq.{drop-cons}
 use Rattle.lists.proofs.Writing.{Pending, pending-start, pending-byte, pending-as, pending_done}
 use Rattle.lists.proofs.Puts.{put-padded}
-use Rattle.even_places.specs.Rule.{byte_of, allSets}
+use Rattle.even_places.specs.Rule.{byte_of, all_sets}
 use Rattle.even_sets.proofs.Blocks.{subsets-few, all-length, listed-entry}
 use Rattle.even_sets.proofs.ordered_sets.Statement.{statement}
 use Rattle.even_sets.proofs.ordered_sets.Tie as tie
 
 abbrev invariant-loop : tie.invariant-loop
-invariant-loop k table first count sets₀ i₀ sets i = (i ≤ count) × Pending 0 (map byte_of (allSets k)) sets₀ i (drop i (map byte_of (allSets k))) sets
+invariant-loop k table first count sets₀ i₀ sets i = (i ≤ count) × Pending 0 (map byte_of (all_sets k)) sets₀ i (drop i (map byte_of (all_sets k))) sets
 
 abbrev decreases-loop : tie.decreases-loop
 decreases-loop k table first count sets₀ i₀ sets i = count - i
@@ -31,8 +31,8 @@ sub-count c = omega (arith, c.power.ensures, all-length c.before.before.args.k)
 loop-holds : tie.Need-loop-init invariant-loop decreases-loop
 loop-holds c =
     let k = c.before.before.args.k in
-    let room : 0 + length (map byte_of (allSets k)) ≤ length (replicate {A = ℕ} 256 0) =
-    omega (arith, length-map (allSets k) byte_of, all-length k, subsets-few k c.before.before.requires) in
+    let room : 0 + length (map byte_of (all_sets k)) ≤ length (replicate {A = ℕ} 256 0) =
+    omega (arith, length-map (all_sets k) byte_of, all-length k, subsets-few k c.before.before.requires) in
     (omega arith, pending-start room)
 
 add-place : tie.Need-overflow-add-place invariant-loop decreases-loop
@@ -72,9 +72,9 @@ loop-again c =
     let start = at.before.before.before in
     let k = start.args.k in
     let i = at.loop.i in
-    let bytes = map byte_of (allSets k) in
-    let inside : i < length (allSets k) = omega (arith, first.ensures, all-length k) in
-    let next : drop i bytes ≡ get_or bytes i 0 ∷ drop (i + 1) bytes = rw (add-one i) (drop-cons bytes i 0 (omega (arith, length-map (allSets k) byte_of))) in
+    let bytes = map byte_of (all_sets k) in
+    let inside : i < length (all_sets k) = omega (arith, first.ensures, all-length k) in
+    let next : drop i bytes ≡ get_or bytes i 0 ∷ drop (i + 1) bytes = rw (add-one i) (drop-cons bytes i 0 (omega (arith, length-map (all_sets k) byte_of))) in
     let read =
     ap₂ (λ (rows : List (List ℕ)) (n : ℕ). get_or (get_or rows ((n + i) / 8) []) ((n + i) % 8) 0) table.ensures first.ensures
     ∙ listed-entry k i [] start.requires inside in
@@ -84,8 +84,8 @@ returns : tie.Need-returns invariant-loop decreases-loop
 returns c =
     let at = c.before in
     let k = at.before.before.before.args.k in
-    let bytes = map byte_of (allSets k) in
-    let none = drop_of_length-le bytes {i = at.loop.i} (omega (arith, at.before.power.ensures, all-length k, length-map (allSets k) byte_of)) in
+    let bytes = map byte_of (all_sets k) in
+    let none = drop_of_length-le bytes {i = at.loop.i} (omega (arith, at.before.power.ensures, all-length k, length-map (all_sets k) byte_of)) in
     pending_done (rw none at at.loop.invariant.1) ∙ put-padded bytes 256
 
 pub ordered-sets-spec : {M : Type 1} → statement M

@@ -1,7 +1,7 @@
 -- `gozimpe::gozimpe_answer` meets its contract: a text that is refused ends the call, and else the answering end's outcome gets its sign.
 use mathlib.Core.Path.{sym, ap, ◌∙◌}
 use mir.Facts.{to_z-of_z}
-use Rattle.gozimpe.specs.Host.{signed, dayOf}
+use Rattle.gozimpe.specs.Host.{signed, day_of}
 use Rattle.gozimpe.proofs.Outcomes.{answer-small, text-refused, text-answered}
 use borrow.Author.Rules.{rules}
 use Rattle.gozimpe.proofs.gozimpe_answer.Statement.{statement}
@@ -21,7 +21,7 @@ returns c =
     let a = c.before.before.before.before.before.before.before.before.before.before.args in
     let from = c.before.before.before.before.before.read in
     let told = c.before.before.verdict.given in
-    let did = text-refused a.catalogue.now from.result from.ensures (dayOf a.year a.month a.day)
+    let did = text-refused a.catalogue.now from.result from.ensures (day_of a.year a.month a.day)
     a.mirror a.store.now a.request.now a.answer.now told.0.0 told.1 in
     (to_z-of_z (record { sfits = c.minus.type-inv }) ∙ c.minus.ensures ∙ ap signed did.outcome, did.buffer)
 
@@ -40,7 +40,7 @@ plus-requires c κs =
     let asked = c.before.before.before.before.before.answer in
     let told = c.before.outcome.given in
     let value = c.before.before.before.before.before.before.before.before.before.before.read.result.catalogue in
-    answer-small value (dayOf a.year a.month a.day) a.mirror a.store.now a.request.now a.answer.now
+    answer-small value (day_of a.year a.month a.day) a.mirror a.store.now a.request.now a.answer.now
     asked.result told.0.0 asked.ensures.outcome told.1
 
 enum-known-outcome-2 : tie.Need-enum-known-outcome-2
@@ -57,7 +57,7 @@ returns-2 c =
     let a = c.before.before.before.before.before.before.before.before.before.before.before.before.before.before.before.before.args in
     let from = c.before.before.before.before.before.before.before.before.before.before.before.read in
     let asked = c.before.before.before.before.before.before.answer in
-    let did = text-answered a.catalogue.now from.result from.ensures (dayOf a.year a.month a.day)
+    let did = text-answered a.catalogue.now from.result from.ensures (day_of a.year a.month a.day)
     a.mirror a.store.now a.request.now a.answer.now
     c.before.before.before.before.before.before.before.before.enum_told.given.1 asked.result _ asked.ensures in
     (to_z-of_z (record { sfits = c.plus.type-inv }) ∙ c.plus.ensures ∙ ap signed (sym c.before.before.outcome.given.1 ∙ did.outcome), did.buffer)
@@ -70,7 +70,7 @@ returns-3 c =
     let a = c.before.before.before.before.before.before.before.before.before.before.before.before.before.before.before.before.args in
     let from = c.before.before.before.before.before.before.before.before.before.before.before.read in
     let asked = c.before.before.before.before.before.before.answer in
-    let did = text-answered a.catalogue.now from.result from.ensures (dayOf a.year a.month a.day)
+    let did = text-answered a.catalogue.now from.result from.ensures (day_of a.year a.month a.day)
     a.mirror a.store.now a.request.now a.answer.now
     c.before.before.before.before.before.before.before.before.enum_told.given.1 asked.result _ asked.ensures in
     (to_z-of_z (record { sfits = c.minus2.type-inv }) ∙ c.minus2.ensures ∙ ap signed (sym c.before.before.outcome2.given.1 ∙ did.outcome), did.buffer)

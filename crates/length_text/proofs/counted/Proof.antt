@@ -6,9 +6,9 @@ use native.Mathlib.Omega.{arith}
 use borrow.Author.Rules.{rules}
 use lib.ListN.{set}
 use Rattle.text_lines.specs.declared.Line.TheVariants.{Value}
-use Rattle.text_lines.specs.Lines.{numberLine}
+use Rattle.text_lines.specs.Lines.{number_line}
 use Rattle.text_lines.proofs.RoundTrip.{line_read}
-use Rattle.length_text.specs.LengthLines.{lengthName, lengthDigits}
+use Rattle.length_text.specs.LengthLines.{length_name, length_digits}
 use Rattle.length_text.proofs.Keeping.{Taken, taken-first, taken_more, taken-past, taken_refused, taken-all}
 use Rattle.length_text.proofs.counted.Statement.{statement}
 use Rattle.length_text.proofs.counted.Tie as tie
@@ -49,14 +49,14 @@ returns c =
 -- the line that was taken apart
 line-is : (c : tie.After-value invariant-loop decreases-loop)
     → let a = c.before.before.before.before.before.before.before.args in
-    numberLine lengthDigits lengthName a.text.now c.before.before.before.before.before.loop.next
+    number_line length_digits length_name a.text.now c.before.before.before.before.before.loop.next
     ≡ Value c.value.given.0.0 c.value.given.0.1.0
 line-is c = sym c.before.before.number-line.ensures ∙ c.value.given.1
 
 cast-places : tie.Need-overflow-cast-places invariant-loop decreases-loop
 cast-places c =
     let on = c.before.before in
-    let r = line_read lengthDigits lengthName _ _ _ _ (line-is on) in
+    let r = line_read length_digits length_name _ _ _ _ (line-is on) in
     omega (arith, r.below)
 
 mul-places : tie.Need-overflow-mul-places invariant-loop decreases-loop

@@ -2,7 +2,7 @@
 use mathlib.Core.Path.{sym, ◌∙◌}
 use borrow.Author.Rules.{rules}
 use borrow.Author.Tests.{not-true, not-false}
-use Rattle.length_text.specs.LengthLines.{lengthLines}
+use Rattle.length_text.specs.LengthLines.{length_lines}
 use Rattle.length_text.proofs.length_lines.Statement.{statement}
 use Rattle.length_text.proofs.length_lines.Tie as tie
 
@@ -13,14 +13,14 @@ none-requires : tie.Need-none-requires
 none-requires c κs = search rules
 
 returns : tie.Need-returns
-unfolding lengthLines
+unfolding length_lines
 returns c = rw (sym c.before.before.line-begins.ensures ∙ not-true _ c.before.if1.true, c.none.ensures)
 
 counted-requires : tie.Need-counted-requires
 counted-requires c κs = search rules
 
 returns-2 : tie.Need-returns-2
-unfolding lengthLines
+unfolding length_lines
 returns-2 c =
     let found = c.before.before in
     let first = found.before in
@@ -37,7 +37,7 @@ out-of-form-requires : tie.Need-out-of-form-requires
 out-of-form-requires c κs = search rules
 
 returns-3 : tie.Need-returns-3
-unfolding lengthLines
+unfolding length_lines
 returns-3 c =
     let test = c.before.before.before in
     let found = test.before.before in
@@ -50,7 +50,7 @@ returns-3 c =
     ) c.out-of-form.ensures
 
 returns-4 : tie.Need-returns-4
-unfolding lengthLines
+unfolding length_lines
 returns-4 c =
     let test = c.before.before in
     let found = test.before.before in

@@ -8,15 +8,15 @@ use lib.ListN.{length, take, get_or}
 use mir.Val.{Fits}
 use mir.Syntax.{w32}
 use Rattle.text_lines.proofs.NumberLines.{number-text-most}
-use Rattle.lengths.specs.Lengths.{numbersOf}
+use Rattle.lengths.specs.Lengths.{numbers_of}
 use Rattle.lengths.proofs.Places.{places-long}
-use Rattle.length_text.specs.LengthLines.{lengthName, lengthText}
+use Rattle.length_text.specs.LengthLines.{length_name, length_text}
 use Rattle.length_text.proofs.Texts.{length_more, numbers-front}
 use Rattle.length_text.proofs.lengths_length.Statement.{statement}
 use Rattle.length_text.proofs.lengths_length.Tie as tie
 
 abbrev invariant-loop : tie.invariant-loop
-invariant-loop k lines places total₀ i₀ t7 total i = (i ≤ lines) × (lines ≤ 32) × (total ≡ length (lengthText (take i places))) × (total ≤ i * 18)
+invariant-loop k lines places total₀ i₀ t7 total i = (i ≤ lines) × (lines ≤ 32) × (total ≡ length (length_text (take i places))) × (total ≤ i * 18)
 
 abbrev decreases-loop : tie.decreases-loop
 decreases-loop k lines places total₀ i₀ t7 total i = lines - i
@@ -27,13 +27,13 @@ line-most : (c : tie.After-line-length invariant-loop decreases-loop)
 line-most c =
     let n = get_or c.before.before.before.before.before.before.args.l.places c.before.before.before.loop.i 0 in
     let word : Fits w32 n = search rules in
-    omega (arith, c.line-length.ensures, number-text-most lengthName 9 n (omega (arith, word)))
+    omega (arith, c.line-length.ensures, number-text-most length_name 9 n (omega (arith, word)))
 
 line-count-requires : tie.Need-line-count-requires invariant-loop decreases-loop
 line-count-requires c κs = search rules
 
 loop-holds : tie.Need-loop-init invariant-loop decreases-loop
-unfolding lengthText
+unfolding length_text
 loop-holds c = (omega arith, c.before.line-count.ensures.1, refl, omega arith)
 
 slice-aggregate-line-length : tie.Need-slice-aggregate-line-length invariant-loop decreases-loop
@@ -74,10 +74,10 @@ returns c =
     let start = c.before.before.before.before in
     let a = start.args in
     let counted = c.before.before.before.line-count.ensures.0 in
-    let all : take c.before.loop.i a.l.places ≡ numbersOf a.k a.l =
-    ap (λ (n : ℕ). take n a.l.places) (let e : c.before.loop.i ≡ length (numbersOf a.k a.l) = omega arith in e)
+    let all : take c.before.loop.i a.l.places ≡ numbers_of a.k a.l =
+    ap (λ (n : ℕ). take n a.l.places) (let e : c.before.loop.i ≡ length (numbers_of a.k a.l) = omega arith in e)
     ∙ sym (numbers-front a.k a.l) in
-    (c.before.loop.invariant.2 ∙ ap (λ (ns : List ℕ). length (lengthText ns)) all, omega arith)
+    (c.before.loop.invariant.2 ∙ ap (λ (ns : List ℕ). length (length_text ns)) all, omega arith)
 
 pub lengths-length-spec : {M : Type 1} → statement M
 lengths-length-spec =

@@ -4,17 +4,17 @@ use native.Mathlib.Omega.{arith}
 use borrow.Author.Tests.{not-true, not-false}
 use lib.ListN.{length}
 use lib.Seq.{length-take-le, take_all}
-use Rattle.lengths.specs.Lengths.{numbersOf}
+use Rattle.lengths.specs.Lengths.{numbers_of}
 use Rattle.lengths.proofs.Places.{places-long}
 use Rattle.length_text.proofs.line_count.Statement.{statement}
 use Rattle.length_text.proofs.line_count.Tie as tie
 
 returns : tie.Need-returns
-unfolding numbersOf
+unfolding numbers_of
 returns c = rw (not-true c.before.before.args.l.given c.if1.true) (refl, omega arith)
 
 returns-2 : tie.Need-returns-2
-unfolding numbersOf
+unfolding numbers_of
 returns-2 c =
     let start = c.before.before.before in
     let l = start.args.l in
@@ -23,7 +23,7 @@ returns-2 c =
     (sym (ap length (take_all start.args.k l.places (omega (arith, long, c.if2.true))) ∙ long), omega arith)
 
 returns-3 : tie.Need-returns-3
-unfolding numbersOf
+unfolding numbers_of
 returns-3 c =
     let start = c.before.before.before in
     let l = start.args.l in

@@ -7,24 +7,24 @@ use borrow.Author.Rules.{rules}
 use lib.ListN.{length, take, get_or}
 use Rattle.lists.specs.Parts.{put}
 use Rattle.lists.proofs.Puts.{put-nil, put_next, put-length}
-use Rattle.text_lines.specs.Lines.{numberText}
-use Rattle.lengths.specs.Lengths.{numbersOf}
+use Rattle.text_lines.specs.Lines.{number_text}
+use Rattle.lengths.specs.Lengths.{numbers_of}
 use Rattle.lengths.proofs.Places.{places-long}
-use Rattle.length_text.specs.LengthLines.{lengthName, lengthText}
+use Rattle.length_text.specs.LengthLines.{length_name, length_text}
 use Rattle.length_text.proofs.Texts.{text-more, length_more, length-within, numbers-front}
 use Rattle.length_text.proofs.put_lengths.Statement.{statement}
 use Rattle.length_text.proofs.put_lengths.Tie as tie
 
 abbrev invariant-loop : tie.invariant-loop
 invariant-loop out₀ at k lines places next₀ i₀ t9 out next i =
-    let first = lengthText (take i places) in (i ≤ lines) × (lines ≤ 32) × (next ≡ at + length first) × (out ≡ put at first out₀)
+    let first = length_text (take i places) in (i ≤ lines) × (lines ≤ 32) × (next ≡ at + length first) × (out ≡ put at first out₀)
 
 abbrev decreases-loop : tie.decreases-loop
 decreases-loop out₀ at k lines places next₀ i₀ t9 out next i = lines - i
 
 -- the numbers whose lines are written
 numbers_of : (c : tie.At-loop invariant-loop decreases-loop)
-    → let a = c.before.before.before.before.args in take c.before.before.line-count.result a.l.places ≡ numbersOf a.k a.l
+    → let a = c.before.before.before.before.args in take c.before.before.line-count.result a.l.places ≡ numbers_of a.k a.l
 numbers_of c =
     let a = c.before.before.before.before.args in
     ap (λ (n : ℕ). take n a.l.places) c.before.before.line-count.ensures.0 ∙ sym (numbers-front a.k a.l)
@@ -33,7 +33,7 @@ line-count-requires : tie.Need-line-count-requires invariant-loop decreases-loop
 line-count-requires c κs = search rules
 
 loop-holds : tie.Need-loop-init invariant-loop decreases-loop
-unfolding lengthText
+unfolding length_text
 loop-holds c =
     let a = c.before.before.before.args in
     (omega arith, c.before.line-count.ensures.1, omega arith, sym (put-nil a.at a.out.now))
@@ -58,9 +58,9 @@ put-line-requires c κs =
     let i = at.loop.i in
     let more = length_more a.l.places i (omega (arith, places-long a.l _ start.well-formed.1.1.0)) in
     let within = length-within a.l.places (i + 1) at.before.before.line-count.result (omega arith) in
-    let all = ap (λ (ns : List ℕ). length (lengthText ns)) (numbers_of at) in
+    let all = ap (λ (ns : List ℕ). length (length_text ns)) (numbers_of at) in
     let room = start.requires in
-    omega (arith, at.loop.invariant.2, ap length at.loop.invariant.3, put-length a.at (lengthText (take i a.l.places)) a.out.now (omega arith))
+    omega (arith, at.loop.invariant.2, ap length at.loop.invariant.3, put-length a.at (length_text (take i a.l.places)) a.out.now (omega arith))
 
 add-i : tie.Need-overflow-add-i invariant-loop decreases-loop
 add-i c = search rules
@@ -75,13 +75,13 @@ loop-again c =
     let a = start.args in
     let i = at.loop.i in
     let inside = let long = places-long a.l _ start.well-formed.1.1.0 in let h : i < length a.l.places = omega arith in h in
-    let line = numberText lengthName (get_or a.l.places i 0) in
+    let line = number_text length_name (get_or a.l.places i 0) in
     let room = start.requires in (
       omega arith,
       at.loop.invariant.1,
       omega (arith, length_more a.l.places i inside, at.loop.invariant.2, c.before.before.put-line.ensures.0),
       c.before.before.put-line.ensures.1
-          ∙ put_next a.at at.loop.next (lengthText (take i a.l.places)) line a.out.now at.loop.out (omega arith)
+          ∙ put_next a.at at.loop.next (length_text (take i a.l.places)) line a.out.now at.loop.out (omega arith)
           at.loop.invariant.2 at.loop.invariant.3
           ∙ ap (λ (x : List ℕ). put a.at x a.out.now) (sym (text-more a.l.places i inside)),
     )
@@ -91,9 +91,9 @@ same_length c =
     let at = c.before in
     let start = at.before.before.before.before in
     let a = start.args in
-    let first = lengthText (take at.loop.i a.l.places) in
+    let first = length_text (take at.loop.i a.l.places) in
     let within = length-within a.l.places at.loop.i at.before.before.line-count.result at.loop.invariant.0 in
-    let all = ap (λ (ns : List ℕ). length (lengthText ns)) (numbers_of at) in
+    let all = ap (λ (ns : List ℕ). length (length_text ns)) (numbers_of at) in
     let room = start.requires in
     ap length at.loop.invariant.3 ∙ put-length a.at first a.out.now (omega arith)
 
@@ -102,7 +102,7 @@ returns c =
     let at = c.before in
     let a = at.before.before.before.before.args in
     let last : at.loop.i ≡ at.before.before.line-count.result = omega arith in
-    let all : take at.loop.i a.l.places ≡ numbersOf a.k a.l = ap (λ (n : ℕ). take n a.l.places) last ∙ numbers_of at in
+    let all : take at.loop.i a.l.places ≡ numbers_of a.k a.l = ap (λ (n : ℕ). take n a.l.places) last ∙ numbers_of at in
     (rw all at at.loop.invariant.2, rw all at at.loop.invariant.3)
 
 pub put-lengths-spec : {M : Type 1} → statement M

@@ -9,13 +9,13 @@ use lib.Dec.{eqb}
 use lib.ListN.{length, get_or}
 use Rattle.lists.specs.Ranges.{every}
 use Rattle.lists.proofs.Every.{every-none, every_more, every-false}
-use Rattle.lengths.specs.Lengths.{placeFits, lengthsFit}
+use Rattle.lengths.specs.Lengths.{place_fits, lengths_fit}
 use Rattle.lengths.proofs.Places.{places-long}
 use Rattle.lengths.proofs.fit.Statement.{statement}
 use Rattle.lengths.proofs.fit.Tie as tie
 
 abbrev invariant-loop : tie.invariant-loop
-invariant-loop k whole given places i₀ i = (i ≤ 32) × (every i (λ place. placeFits given k whole place (get_or places place 0)) ≡ true)
+invariant-loop k whole given places i₀ i = (i ≤ 32) × (every i (λ place. place_fits given k whole place (get_or places place 0)) ≡ true)
 
 abbrev decreases-loop : tie.decreases-loop
 decreases-loop k whole given places i₀ i = 32 - i
@@ -33,7 +33,7 @@ place-fits-requires : tie.Need-place-fits-requires invariant-loop decreases-loop
 place-fits-requires c κs = search rules
 
 returns : tie.Need-returns invariant-loop decreases-loop
-unfolding lengthsFit
+unfolding lengths_fit
 returns c =
     let at = c.before.before.before in
     let start = c.before.before.before.before.before in
@@ -54,7 +54,7 @@ loop-again c =
     (omega arith, every_more at.loop.i _ at.loop.invariant.1 (sym c.before.place-fits.ensures ∙ not-false _ c.if1.false))
 
 returns-2 : tie.Need-returns-2 invariant-loop decreases-loop
-unfolding lengthsFit
+unfolding lengths_fit
 returns-2 c =
     let start = c.before.before.before in
     let e : c.before.loop.i ≡ 32 = omega arith in

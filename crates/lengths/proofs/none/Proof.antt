@@ -1,11 +1,11 @@
 -- `none` meets its contract by computation.
 use mathlib.Core.Path.{refl}
-use Rattle.lengths.specs.Lengths.{noLengths}
+use Rattle.lengths.specs.Lengths.{no_lengths}
 use Rattle.lengths.proofs.none.Statement.{statement}
 use Rattle.lengths.proofs.none.Tie as tie
 
 returns : tie.Need-returns
-unfolding noLengths
+unfolding no_lengths
 returns c = refl
 
 pub none_spec : {M : Type 1} → statement M

@@ -2,7 +2,7 @@
 use mathlib.Core.Path.{sym, ap, ◌∙◌}
 use native.Mathlib.Omega.{arith}
 use Rattle.lists.proofs.Cuts.{to_end}
-use Rattle.number_lists.specs.NumberLists.{numeralFrom}
+use Rattle.number_lists.specs.NumberLists.{numeral_from}
 use Rattle.number_lists.proofs.Reading.{numeral-past}
 use borrow.Author.Rules.{rules}
 use Rattle.number_lists.proofs.number_at.Statement.{statement}
@@ -26,7 +26,7 @@ numeral-requires c κs = search rules
 returns-2 : tie.Need-returns-2
 returns-2 c =
     let a = c.before.before.before.before.args in
-    c.numeral.ensures ∙ ap (numeralFrom a.at) (to_end a.text.now a.at)
+    c.numeral.ensures ∙ ap (numeral_from a.at) (to_end a.text.now a.at)
 
 pub number-at-spec : {M : Type 1} → statement M
 number-at-spec =

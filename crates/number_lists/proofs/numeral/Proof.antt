@@ -7,9 +7,9 @@ use lib.Dec.{leb}
 use lib.ListN.{length, take, length-take}
 use lib.Seq.{length-take-le}
 use Rattle.lists.proofs.Both.{both_true}
-use Rattle.text_lines.specs.Lines.{isNumeral}
+use Rattle.text_lines.specs.Lines.{is_numeral}
 use Rattle.text_lines.proofs.DigitTexts.{count-first}
-use Rattle.number_lists.specs.NumberLists.{numeralFrom}
+use Rattle.number_lists.specs.NumberLists.{numeral_from}
 use borrow.Author.Rules.{rules}
 use Rattle.number_lists.proofs.numeral.Statement.{statement}
 use Rattle.number_lists.proofs.numeral.Tie as tie
@@ -21,14 +21,14 @@ is-numeral-requires : tie.Need-is-numeral-requires
 is-numeral-requires c κs = search rules
 
 returns : tie.Need-returns
-unfolding numeralFrom
+unfolding numeral_from
 returns c = simp (sym c.before.before.digits.ensures.0, sym c.before.is-numeral.ensures ∙ not-true _ c.if1.true)
 
 slice-aggregate-value : tie.Need-slice-aggregate-value
 slice-aggregate-value c = simp length-take (omega arith)
 
 value-requires : tie.Need-value-requires
-unfolding isNumeral
+unfolding is_numeral
 value-requires c κs =
     let d = c.before.before.before.digits in
     let text = c.before.before.before.before.before.args.text.now in
@@ -41,7 +41,7 @@ add-t9 : tie.Need-overflow-add-t9
 add-t9 c = search rules
 
 returns-2 : tie.Need-returns-2
-unfolding numeralFrom
+unfolding numeral_from
 returns-2 c =
     let from = c.before.before.before in
     let rule = sym from.is-numeral.ensures ∙ not-false _ c.before.before.if1.false in

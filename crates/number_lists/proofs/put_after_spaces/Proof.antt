@@ -7,15 +7,15 @@ use lib.ListN.{length, take, get_or, length-append}
 use lib.Seq.{take_all}
 use Rattle.lists.specs.Parts.{put}
 use Rattle.lists.proofs.Puts.{put_next, put-nil}
-use Rattle.number_lists.specs.NumberLists.{afterSpace, afterSpaces}
+use Rattle.number_lists.specs.NumberLists.{after_space, after_spaces}
 use Rattle.number_lists.proofs.Spaced.{byte-length, after_none, after_more}
 use Rattle.number_lists.proofs.put_after_spaces.Statement.{statement}
 use Rattle.number_lists.proofs.put_after_spaces.Tie as tie
 
 abbrev invariant-loop : tie.invariant-loop
 invariant-loop out₀ start numbers at₀ i₀ out at i =
-    (i ≤ length numbers) × (at ≡ start + length (afterSpaces (take i numbers))) × (at ≤ start + 4 * i)
-    × (out ≡ put start (afterSpaces (take i numbers)) out₀)
+    (i ≤ length numbers) × (at ≡ start + length (after_spaces (take i numbers))) × (at ≤ start + 4 * i)
+    × (out ≡ put start (after_spaces (take i numbers)) out₀)
     × (length out ≡ length out₀)
 
 abbrev decreases-loop : tie.decreases-loop
@@ -53,15 +53,15 @@ loop-again c =
     let n = get_or numbers at.i 0 in
     let b = byte-length n (omega (arith, c.before.before.before.before.shared-slice-known2.given at.i)) in
     let more = after_more numbers at.i (omega arith) in
-    let done = afterSpaces (take at.i numbers) in
-    let l = ap length more ∙ length-append done (afterSpace n) in
+    let done = after_spaces (take at.i numbers) in
+    let l = ap length more ∙ length-append done (after_space n) in
     let e = put-it.ensures.0 in
     let k = put-it.auto.0 in (
       omega arith,
       omega arith,
       omega arith,
       put-it.ensures.1
-          ∙ put_next a.start at.at done (afterSpace n) a.out.now at.out (omega arith) at.invariant.1 at.invariant.3
+          ∙ put_next a.start at.at done (after_space n) a.out.now at.out (omega arith) at.invariant.1 at.invariant.3
           ∙ ap (λ (t : List ℕ). put a.start t a.out.now) (sym more),
       omega arith,
     )

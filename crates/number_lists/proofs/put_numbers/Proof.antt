@@ -8,9 +8,9 @@ use borrow.Author.Rules.{rules}
 use lib.ListN.{length, take, drop, set, get_or, length-set, drop_of_length-le}
 use lib.Seq.{take_all}
 use Rattle.lists.specs.Below.{all_below}
-use Rattle.lists.proofs.Below.{allBelow-below}
+use Rattle.lists.proofs.Below.{all_below-below}
 use Rattle.lists.proofs.Puts.{copy_more}
-use Rattle.number_lists.specs.NumberLists.{numbersAt, list_of}
+use Rattle.number_lists.specs.NumberLists.{numbers_at, list_of}
 use Rattle.number_lists.proofs.Reading.{numeral-within}
 use Rattle.number_lists.proofs.Scanning.{scanned-list}
 use Rattle.number_lists.proofs.Filling.{LeftAt, left-first, next-there, next-value, next-left}
@@ -31,7 +31,7 @@ record Filled (text numbers first : List ℕ) (out : List ℕ) (at i : ℕ) : Ty
   left : LeftAt text numbers at i
 
 abbrev invariant-loop : tie.invariant-loop
-invariant-loop text start out₀ at₀ i₀ out at i = Filled text (list_of (numbersAt text start)) out₀ out at i
+invariant-loop text start out₀ at₀ i₀ out at i = Filled text (list_of (numbers_at text start)) out₀ out at i
 
 abbrev decreases-loop : tie.decreases-loop
 decreases-loop text start out₀ at₀ i₀ out at i = length out₀ - i
@@ -40,7 +40,7 @@ loop-holds : tie.Need-loop-init invariant-loop decreases-loop
 loop-holds c =
     let from = c.before.before in
     let a = from.args in
-    let scanned = scanned-list (numbersAt a.text.now a.start) (length a.out.now) true from.requires in
+    let scanned = scanned-list (numbers_at a.text.now a.start) (length a.out.now) true from.requires in
     record {
       many = scanned.0;
       bytes = scanned.1;
@@ -70,7 +70,7 @@ returns : tie.Need-returns invariant-loop decreases-loop
 returns c =
     let at = c.before.before.before.before.loop in
     let a = c.before.before.before.before.before.before.before.args in
-    let numbers = list_of (numbersAt a.text.now a.start) in
+    let numbers = list_of (numbers_at a.text.now a.start) in
     let inv = at.invariant in
     next-there a.text.now numbers at.at at.i inv.left (omega arith) (sym c.before.before.number_at.ensures ∙ c.enum_told.given.1)
 
@@ -78,11 +78,11 @@ cast-out : tie.Need-overflow-cast-out invariant-loop decreases-loop
 cast-out c =
     let at = c.before.before.before.before.before.loop in
     let a = c.before.before.before.before.before.before.before.before.args in
-    let numbers = list_of (numbersAt a.text.now a.start) in
+    let numbers = list_of (numbers_at a.text.now a.start) in
     let inv = at.invariant in
     let here = sym c.before.before.before.number_at.ensures ∙ c.before.value.given.1 in
     let v = next-value a.text.now numbers at.at at.i inv.left (omega arith) _ _ here in
-    let b = allBelow-below 256 numbers inv.bytes at.i (omega arith) in
+    let b = all_below-below 256 numbers inv.bytes at.i (omega arith) in
     omega arith
 
 slice-write-out : tie.Need-slice-write-out invariant-loop decreases-loop
@@ -109,7 +109,7 @@ loop-again : tie.Need-loop-preserved invariant-loop decreases-loop
 loop-again c =
     let at = c.before.before.before.before.before.loop in
     let a = c.before.before.before.before.before.before.before.before.args in
-    let numbers = list_of (numbersAt a.text.now a.start) in
+    let numbers = list_of (numbers_at a.text.now a.start) in
     let inv = at.invariant in
     let here = sym c.before.before.before.number_at.ensures ∙ c.before.value.given.1 in
     let v = next-value a.text.now numbers at.at at.i inv.left (omega arith) _ _ here in
@@ -133,7 +133,7 @@ returns-2 : tie.Need-returns-2 invariant-loop decreases-loop
 returns-2 c =
     let at = c.before.loop in
     let a = c.before.before.before.before.args in
-    let numbers = list_of (numbersAt a.text.now a.start) in
+    let numbers = list_of (numbers_at a.text.now a.start) in
     let inv = at.invariant in
     let end : at.i ≡ length a.out.now = omega arith in
     inv.written ∙ filled numbers a.out.now at.i (omega arith) (omega arith)

@@ -8,7 +8,7 @@ use Rattle.lists.specs.Parts.{put}
 use Rattle.lists.proofs.Cuts.{to_end}
 use Rattle.lists.proofs.Puts.{put_next, put-nil}
 use Rattle.text_lines.specs.Decimal.{decimal}
-use Rattle.number_lists.specs.NumberLists.{afterSpaces, spaced}
+use Rattle.number_lists.specs.NumberLists.{after_spaces, spaced}
 use Rattle.number_lists.proofs.Spaced.{byte-length, spaced-none, spaced-some}
 use borrow.Author.Rules.{rules}
 use Rattle.number_lists.proofs.put_spaced.Statement.{statement}
@@ -61,14 +61,14 @@ returns-2 c =
     let rest = c.before.before.put-after-spaces in
     let byte = c.before.before.before.before.before.before.before.before.before.shared-slice-known2.given 0 in
     let b = byte-length (get_or numbers 0 0) (omega (arith, byte)) in
-    let others = afterSpaces (drop 1 numbers) in
+    let others = after_spaces (drop 1 numbers) in
     let whole = spaced-some numbers (omega arith) in
     let l = ap length whole ∙ length-append (decimal (get_or numbers 0 0)) others in
     let d = length-drop 1 numbers in
     let end = to_end numbers 1 in
     let e = first.ensures.0 in
     let f : rest.result ≡ first.result + length others =
-    rest.ensures.0 ∙ ap (λ (t : List ℕ). first.result + length (afterSpaces t)) end
+    rest.ensures.0 ∙ ap (λ (t : List ℕ). first.result + length (after_spaces t)) end
     in
     let g = rest.ensures.1.0 in
     let h = ap length end in (
@@ -76,7 +76,7 @@ returns-2 c =
       (
         omega arith,
         rest.ensures.1.1
-            ∙ ap (λ (t : List ℕ). put first.result (afterSpaces t) first.new.0) end
+            ∙ ap (λ (t : List ℕ). put first.result (after_spaces t) first.new.0) end
             ∙ put_next a.at first.result (decimal (get_or numbers 0 0)) others a.out.now first.new.0 (omega arith) e first.ensures.1
             ∙ ap (λ (t : List ℕ). put a.at t a.out.now) (sym whole),
       ),

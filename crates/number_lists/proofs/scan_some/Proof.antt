@@ -6,14 +6,14 @@ use borrow.Author.Rules.{rules}
 use borrow.Author.Tests.{eq-eqb, ne_eqb}
 use lib.ListN.{length}
 use Rattle.number_lists.specs.declared.Scanned.TheVariants.{Of}
-use Rattle.number_lists.specs.NumberLists.{numbersFrom, scanOf}
+use Rattle.number_lists.specs.NumberLists.{numbers_from, scan_of}
 use Rattle.number_lists.proofs.Reading.{numeral-within, numeral-past}
-use Rattle.number_lists.proofs.Scanning.{scanLeft, scan-starts, scan-none, scan-last, scan-other, scan-past, scan-more}
+use Rattle.number_lists.proofs.Scanning.{scan_left, scan-starts, scan-none, scan-last, scan-other, scan-past, scan-more}
 use Rattle.number_lists.proofs.scan_some.Statement.{statement}
 use Rattle.number_lists.proofs.scan_some.Tie as tie
 
 abbrev invariant-loop : tie.invariant-loop
-invariant-loop text start at₀ count₀ bytes₀ at count bytes = (count ≤ at) × (scanOf (numbersFrom (length text) text start) ≡ scanLeft text at count bytes)
+invariant-loop text start at₀ count₀ bytes₀ at count bytes = (count ≤ at) × (scan_of (numbers_from (length text) text start) ≡ scan_left text at count bytes)
 
 abbrev decreases-loop : tie.decreases-loop
 decreases-loop text start at₀ count₀ bytes₀ at count bytes = length text - at
@@ -103,7 +103,7 @@ loop-again c =
     let on = sym c.before.before.before.before.ends.ensures ∙ c.before.before.before.if1.false in
     let more = scan-more text at.at at.count at.bytes _ _ (omega arith) here on (eq-eqb _ _ c.if3.false) in
     let still = sym c.before.before.before.before.before.still-bytes.ensures in
-    (omega arith, at.invariant.1 ∙ more ∙ ap (scanLeft text _ (at.count + 1)) still)
+    (omega arith, at.invariant.1 ∙ more ∙ ap (scan_left text _ (at.count + 1)) still)
 
 returns-5 : tie.Need-returns-5 invariant-loop decreases-loop
 returns-5 c =

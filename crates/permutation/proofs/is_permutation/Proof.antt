@@ -4,13 +4,13 @@ use mathlib.Core.Bool.{Bool, false}
 use Prim.Native.Nat.{◌-◌, ◌≤◌}
 use native.Mathlib.Omega.{arith}
 use lib.ListN.{length, drop, length-set, length-replicate}
-use Rattle.lists.specs.Distinct.{isPermutation}
+use Rattle.lists.specs.Distinct.{is_permutation}
 use Rattle.lists.proofs.Passes.{passes, passes-high, passes-seen, passes-more, passes-end, permutation-passes}
 use Rattle.permutation.proofs.is_permutation.Statement.{statement}
 use Rattle.permutation.proofs.is_permutation.Tie as tie
 
 abbrev invariant-loop : tie.invariant-loop
-invariant-loop size bytes seen₀ i₀ seen i = (i ≤ length bytes) × (length seen ≡ 256) × (isPermutation size bytes ≡ passes size seen (drop i bytes))
+invariant-loop size bytes seen₀ i₀ seen i = (i ≤ length bytes) × (length seen ≡ 256) × (is_permutation size bytes ≡ passes size seen (drop i bytes))
 
 abbrev decreases-loop : tie.decreases-loop
 decreases-loop size bytes seen₀ i₀ seen i = length bytes - i

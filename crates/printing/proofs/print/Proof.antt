@@ -7,15 +7,15 @@ use borrow.Author.Rules.{rules}
 use lib.ListN.{length, drop, length-append}
 use Rattle.lists.specs.Parts.{put}
 use Rattle.lists.proofs.Puts.{put-padded}
-use Rattle.codes.specs.Codes.{schemeOf}
+use Rattle.codes.specs.Codes.{scheme_of}
 use Rattle.printing.specs.declared.Page.{Page}
-use Rattle.printing.specs.Output.{printed, pageBytes, blank, page_of}
+use Rattle.printing.specs.Output.{printed, page_bytes, blank, page_of}
 use Rattle.printing.proofs.print.Statement.{statement}
 use Rattle.printing.proofs.print.Tie as tie
 
 page-is : (text bytes : List ℕ) (n : ℕ) → n ≡ length text → bytes ≡ put 0 text blank → ◌≡◌ {A = Page} (record { bytes = bytes; length = n }) (page_of text)
 unfolding page_of blank
-page-is text bytes n e f = rw (e, f ∙ put-padded text pageBytes)
+page-is text bytes n e f = rw (e, f ∙ put-padded text page_bytes)
 
 -- what was written without changing the buffer's length fits it
 page-fits : (text before after : List ℕ) → after ≡ put 0 text before → length after ≡ length before → length text ≤ length before
@@ -33,7 +33,7 @@ put-page-requires c κs = search rules
 
 returns : tie.Need-returns
 returns c =
-    let text = printed schemeOf c.before.before.before.before.before.args.input.now in
+    let text = printed scheme_of c.before.before.before.before.before.args.input.now in
     let page = c.before.put-page in
     let zeros = c.before.before.before.blank-bytes in
     let same = page.auto.1.0 in

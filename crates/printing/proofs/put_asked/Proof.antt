@@ -1,8 +1,8 @@
 -- `printing::put_asked` meets its contract: the checks refuse, or the key's numbers are as many as are due and all bytes.
 use mathlib.Core.Path.{sym, ◌∙◌}
 use borrow.Author.Rules.{rules}
-use Rattle.codes.specs.Codes.{schemeOf}
-use Rattle.number_lists.specs.NumberLists.{numbersAt, list_of}
+use Rattle.codes.specs.Codes.{scheme_of}
+use Rattle.number_lists.specs.NumberLists.{numbers_at, list_of}
 use Rattle.printing.proofs.Answers.{value-given, value-refused, check-passed, answer-refused}
 use Rattle.printing.proofs.Parts.{written_as}
 use Rattle.number_lists.proofs.Scanning.{scanned-list}
@@ -20,7 +20,7 @@ put-checked-requires c κs =
     let from = c.before.before.before.before.before.before.before in
     let a = from.args in
     let given = value-given _ _ _ (sym c.before.before.before.before.check.ensures ∙ c.before.before.outcome.given.1) in
-    let bytes = (check-passed schemeOf a.c a.wanted a.count a.bytes given.0).1 in
+    let bytes = (check-passed scheme_of a.c a.wanted a.count a.bytes given.0).1 in
     (rw bytes at given.0, (rw bytes at from.requires.0, (given.1, from.requires.1)))
 
 enum-known-outcome-2 : tie.Need-enum-known-outcome-2
@@ -42,12 +42,12 @@ returns-2 : tie.Need-returns-2
 returns-2 c =
     let from = c.before.before.before.before.before.before.before.before.before.before in
     let a = from.args in
-    let numbers = numbersAt a.text.now a.at in
+    let numbers = numbers_at a.text.now a.at in
     let told = c.before.before.before.before.before in
     let refused = value-refused _ _ _ (sym told.before.before.check.ensures ∙ told.outcome2.given.1) in
     let found = scanned-list numbers a.count a.bytes from.requires.0 in
     written_as _ _ a.out.now _ _
-    (answer-refused schemeOf a.c a.wanted (list_of numbers) _ (rw (found.0, found.1) refused))
+    (answer-refused scheme_of a.c a.wanted (list_of numbers) _ (rw (found.0, found.1) refused))
     c.before.before.put-refusal.ensures
 
 pub put-asked-spec : {M : Type 1} → statement M

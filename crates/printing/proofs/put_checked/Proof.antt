@@ -9,12 +9,12 @@ use lib.ListN.{length, take, drop, length-append}
 use lib.Seq.{length-take-le, take_at}
 use Rattle.lists.specs.Below.{all_below}
 use Rattle.lists.specs.Parts.{put}
-use Rattle.codes.specs.Codes.{schemeOf}
+use Rattle.codes.specs.Codes.{scheme_of}
 use Rattle.number_lists.specs.declared.Scanned.TheVariants.{Of}
-use Rattle.number_lists.specs.NumberLists.{numbersAt, list_of}
+use Rattle.number_lists.specs.NumberLists.{numbers_at, list_of}
 use Rattle.printing.specs.Input.{asked}
-use Rattle.printing.specs.Output.{answerTo}
-use Rattle.printing.specs.Steps.{blankPlaces}
+use Rattle.printing.specs.Output.{answer_to}
+use Rattle.printing.specs.Steps.{blank_places}
 use Rattle.printing.proofs.Answers.{Checked, check-passed}
 use Rattle.printing.proofs.Room.{places-many, key_fits}
 use Rattle.number_lists.proofs.Scanning.{scanned-list}
@@ -22,15 +22,15 @@ use Rattle.printing.proofs.put_checked.Statement.{statement}
 use Rattle.printing.proofs.put_checked.Tie as tie
 
 -- what is known of the key, and of the part of the blank places that is lent for it
-module _ (from : tie.Start) (zeros : List ℕ) (blank : zeros ≡ blankPlaces) where
+module _ (from : tie.Start) (zeros : List ℕ) (blank : zeros ≡ blank_places) where
   abbrev numbers : List ℕ
-  numbers = list_of (numbersAt from.args.text.now from.args.at)
+  numbers = list_of (numbers_at from.args.text.now from.args.at)
 
   found : (length numbers ≡ from.args.count) × (all_below 256 numbers ≡ true)
-  found = scanned-list (numbersAt from.args.text.now from.args.at) from.args.count true from.pre.1.0
+  found = scanned-list (numbers_at from.args.text.now from.args.at) from.args.count true from.pre.1.0
 
-  checked : Checked schemeOf from.args.c from.args.wanted from.args.count
-  checked = (check-passed schemeOf from.args.c from.args.wanted from.args.count true from.pre.0).0
+  checked : Checked scheme_of from.args.c from.args.wanted from.args.count
+  checked = (check-passed scheme_of from.args.c from.args.wanted from.args.count true from.pre.0).0
 
   fits : from.args.count ≤ length zeros
   fits =
@@ -95,8 +95,8 @@ returns c =
     let zeros = c.before.before.before.before.before.before.before.before.zeros in
     let done = c.before.before.put-keyed in
     let part = part-is from zeros.result zeros.ensures read.new.1.1.0 read.ensures in (
-      done.ensures.0 ∙ ap (λ (key : List ℕ). length (answerTo schemeOf (asked a.c a.wanted key))) part,
-      done.ensures.1 ∙ ap (λ (key : List ℕ). put 0 (answerTo schemeOf (asked a.c a.wanted key)) a.out.now) part,
+      done.ensures.0 ∙ ap (λ (key : List ℕ). length (answer_to scheme_of (asked a.c a.wanted key))) part,
+      done.ensures.1 ∙ ap (λ (key : List ℕ). put 0 (answer_to scheme_of (asked a.c a.wanted key)) a.out.now) part,
     )
 
 pub put-checked-spec : {M : Type 1} → statement M

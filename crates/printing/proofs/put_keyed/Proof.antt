@@ -5,8 +5,8 @@ use borrow.Author.Rules.{rules}
 use borrow.Author.Tests.{not-true, not-false}
 use lib.ListN.{length}
 use Rattle.refusal.specs.declared.Verdict.TheVariants.{Accepted}
-use Rattle.codes.specs.Codes.{schemeOf}
-use Rattle.session.specs.Calls.{beginVerdict}
+use Rattle.codes.specs.Codes.{scheme_of}
+use Rattle.session.specs.Calls.{begin_verdict}
 use Rattle.session.proofs.Begin.{begin-accepted}
 use Rattle.printing.proofs.Answers.{Checked, answer-bad-key, answer-queries}
 use Rattle.printing.proofs.Parts.{written_as}
@@ -27,15 +27,15 @@ returns c =
     let from = c.before.before.before.before.before.before.before.before in
     let a = from.args in
     let bad = sym c.before.before.before.before.before.key-good.ensures ∙ not-true _ c.before.before.before.before.if1.true in
-    let checked : Checked schemeOf a.c a.wanted (length a.key.now) =
+    let checked : Checked scheme_of a.c a.wanted (length a.key.now) =
     record { admitted = from.requires.0.0; inside = from.requires.0.1; long = from.requires.1.0.0 } in
-    written_as _ _ a.out.now _ _ (answer-bad-key schemeOf a.c a.wanted a.key.now checked bad) c.before.before.put-refusal.ensures
+    written_as _ _ a.out.now _ _ (answer-bad-key scheme_of a.c a.wanted a.key.now checked bad) c.before.before.put-refusal.ensures
 
 -- begin accepts a key whose entries are good
-accepted : (from : tie.Start) → (schemeOf from.args.c).keyGood from.args.key.now ≡ true
-    → beginVerdict schemeOf from.args.c from.args.wanted from.args.key.now ≡ Accepted
+accepted : (from : tie.Start) → (scheme_of from.args.c).key_good from.args.key.now ≡ true
+    → begin_verdict scheme_of from.args.c from.args.wanted from.args.key.now ≡ Accepted
 accepted from good =
-    begin-accepted schemeOf from.args.c from.args.wanted from.args.key.now
+    begin-accepted scheme_of from.args.c from.args.wanted from.args.key.now
     (record { admitted = from.requires.0.0; inside = from.requires.0.1; valid = record { long = from.requires.1.0.0; good = good } })
 
 put-queries-requires : tie.Need-put-queries-requires
@@ -52,7 +52,7 @@ returns-2 c =
     let from = c.before.before.before.before.before.before.before.before in
     let a = from.args in
     let good = sym c.before.before.before.before.before.key-good.ensures ∙ not-false _ c.before.before.before.before.if1.false in
-    let e = answer-queries schemeOf a.c a.wanted a.key.now (accepted from good) from.requires.1.0.1 in
+    let e = answer-queries scheme_of a.c a.wanted a.key.now (accepted from good) from.requires.1.0.1 in
     written_as _ _ a.out.now _ _ e c.before.before.put-queries.ensures
 
 pub put-keyed-spec : {M : Type 1} → statement M

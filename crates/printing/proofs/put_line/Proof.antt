@@ -5,7 +5,7 @@ use mathlib.Core.List.{◌++◌}
 use Rattle.lists.specs.Ascii.{ascii}
 use Rattle.text_lines.proofs.Decimal.{length_most}
 use Rattle.number_lists.specs.NumberLists.{spaced}
-use Rattle.printing.specs.Output.{queryHead, queryLine}
+use Rattle.printing.specs.Output.{query_head, query_line}
 use Rattle.lists.proofs.Puts.{put_three}
 use Rattle.printing.proofs.Writing.{head-length}
 use borrow.Author.Rules.{rules}
@@ -40,7 +40,7 @@ same_length : tie.Need-same-length
 same_length c = search rules
 
 returns : tie.Need-returns
-unfolding queryLine
+unfolding query_line
 returns c =
     let a = c.before.before.before.before.before.before.before.before.before.before.before.before.before.before.before.args in
     let query = a.query.now in
@@ -53,10 +53,10 @@ returns c =
     let f = second.ensures.0 in
     let g = third.ensures.0 in
     let h = second.ensures.1.0 in
-    let m = length-append (queryHead a.server) (spaced query ++ ascii "\n") in
+    let m = length-append (query_head a.server) (spaced query ++ ascii "\n") in
     let n = length-append (spaced query) (ascii "\n") in
     let written =
-    put_three a.at (queryHead a.server) (spaced query) (ascii "\n")
+    put_three a.at (query_head a.server) (spaced query) (ascii "\n")
     a.out.now first.new.0 second.new.0 third.new.0
     first.result second.result (omega arith) e f
     first.ensures.1 second.ensures.1.1 third.ensures.1 in

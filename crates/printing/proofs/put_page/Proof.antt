@@ -7,10 +7,10 @@ use borrow.Author.Rules.{rules}
 use borrow.Author.Tests.{lt-ltb, le-ltb}
 use lib.ListN.{length}
 use Rattle.refusal.specs.declared.Refusal.TheVariants.{Text}
-use Rattle.codes.specs.Codes.{schemeOf}
-use Rattle.number_lists.specs.NumberLists.{numbersAt, scanOf, list_of}
-use Rattle.printing.specs.Input.{asked, keyLine, linesAsk, inputAsks}
-use Rattle.printing.specs.Output.{refusalLine, answerTo, printed}
+use Rattle.codes.specs.Codes.{scheme_of}
+use Rattle.number_lists.specs.NumberLists.{numbers_at, scan_of, list_of}
+use Rattle.printing.specs.Input.{asked, key_line, lines_ask, input_asks}
+use Rattle.printing.specs.Output.{refusal_line, answer_to, printed}
 use Rattle.printing.proofs.Parts.{written_as}
 use Rattle.number_lists.proofs.Scanning.{scan-refused, scanned-some}
 use Rattle.printing.proofs.KeyLine.{key-line-read}
@@ -24,11 +24,11 @@ same_length : tie.Need-same-length
 same_length c = search rules
 
 returns : tie.Need-returns
-unfolding printed inputAsks linesAsk
+unfolding printed input_asks lines_ask
 returns c =
     let a = c.before.before.before.before.before.before.before.args in
     let long : 65536 < length a.input.now = omega (arith, c.before.before.before.before.if1.true) in
-    let e : printed schemeOf a.input.now ≡ refusalLine Text = simp (lt-ltb _ _ long) in
+    let e : printed scheme_of a.input.now ≡ refusal_line Text = simp (lt-ltb _ _ long) in
     written_as _ _ a.out.now _ _ e c.before.before.put-refusal.ensures
 
 catalogue-lines-requires : tie.Need-catalogue-lines-requires
@@ -47,12 +47,12 @@ same-length-2 : tie.Need-same-length-2
 same-length-2 c = search rules
 
 returns-2 : tie.Need-returns-2
-unfolding printed inputAsks linesAsk
+unfolding printed input_asks lines_ask
 returns-2 c =
     let lines = c.before.before.before.before.before.before.before in
     let short = lines.before in
     let a = short.before.before.before.args in
-    let e : printed schemeOf a.input.now ≡ refusalLine Text =
+    let e : printed scheme_of a.input.now ≡ refusal_line Text =
     simp (le-ltb _ _ short.if1.false, sym lines.catalogue-lines.ensures, c.before.before.before.before.enum-told2.given.1) in
     written_as _ _ a.out.now _ _ e c.before.before.put-refusal2.ensures
 
@@ -75,7 +75,7 @@ same-length-3 : tie.Need-same-length-3
 same-length-3 c = search rules
 
 returns-3 : tie.Need-returns-3
-unfolding printed inputAsks linesAsk
+unfolding printed input_asks lines_ask
 returns-3 c =
     let line = c.before.before.before.before.before.before in
     let found = line.before.before in
@@ -83,7 +83,7 @@ returns-3 c =
     let short = lines.before in
     let a = short.before.before.before.args in
     let wanted = sym line.number-line.ensures ∙ c.before.before.before.before.enum-told3.given.1 in
-    let e : printed schemeOf a.input.now ≡ refusalLine Text =
+    let e : printed scheme_of a.input.now ≡ refusal_line Text =
     simp (le-ltb _ _ short.if1.false, sym lines.catalogue-lines.ensures, found.enum_told.given.1, wanted) in
     written_as _ _ a.out.now _ _ e c.before.before.put-refusal3.ensures
 
@@ -103,7 +103,7 @@ same-length-4 : tie.Need-same-length-4
 same-length-4 c = search rules
 
 returns-4 : tie.Need-returns-4
-unfolding printed inputAsks linesAsk
+unfolding printed input_asks lines_ask
 returns-4 c =
     let scanned = c.before.before.before.before.before.before in
     let asks = scanned.before.before in
@@ -115,8 +115,8 @@ returns-4 c =
     let text = a.input.now in
     let wanted = sym line.number-line.ensures ∙ asks.wanted.given.1 in
     let none = sym scanned.scan-key.ensures ∙ c.before.before.before.before.enum-told4.given.1 in
-    let key = scan-refused (keyLine text asks.wanted.given.0.1.0) none in
-    let e : printed schemeOf text ≡ refusalLine Text =
+    let key = scan-refused (key_line text asks.wanted.given.0.1.0) none in
+    let e : printed scheme_of text ≡ refusal_line Text =
     simp (le-ltb _ _ short.if1.false, sym lines.catalogue-lines.ensures, found.enum_told.given.1, wanted, key) in
     written_as _ _ a.out.now _ _ e c.before.before.put-refusal4.ensures
 
@@ -131,13 +131,13 @@ put-asked-requires c κs =
     let found = scanned.before.before.before.before.before.before in
     let start = found.before.before.before.before.before.before.before in
     let told = sym scanned.scan-key.ensures ∙ c.before.before.count.given.1 in
-    (ap scanOf (sym (key-line-read _ _ _ _ told).1) ∙ told, start.requires)
+    (ap scan_of (sym (key-line-read _ _ _ _ told).1) ∙ told, start.requires)
 
 same-length-5 : tie.Need-same-length-5
 same-length-5 c = search rules
 
 returns-5 : tie.Need-returns-5
-unfolding printed inputAsks linesAsk
+unfolding printed input_asks lines_ask
 returns-5 c =
     let scanned = c.before.before.before.before.before.before.before in
     let asks = scanned.before.before in
@@ -150,10 +150,10 @@ returns-5 c =
     let told = sym scanned.scan-key.ensures ∙ c.before.before.before.before.before.count.given.1 in
     let numbers = (key-line-read _ _ _ _ told).1 in
     let wanted = sym line.number-line.ensures ∙ asks.wanted.given.1 in
-    let key = numbers ∙ scanned-some _ _ _ (ap scanOf (sym numbers) ∙ told) in
+    let key = numbers ∙ scanned-some _ _ _ (ap scan_of (sym numbers) ∙ told) in
     let at = asks.wanted.given.0.1.0 + 4 in
-    let ask = asked lines.catalogue-lines.result.catalogue asks.wanted.given.0.0 (list_of (numbersAt text at)) in
-    let e : printed schemeOf text ≡ answerTo schemeOf ask =
+    let ask = asked lines.catalogue-lines.result.catalogue asks.wanted.given.0.0 (list_of (numbers_at text at)) in
+    let e : printed scheme_of text ≡ answer_to scheme_of ask =
     simp (le-ltb _ _ short.if1.false, sym lines.catalogue-lines.ensures, found.enum_told.given.1, wanted, key) in
     written_as _ _ a.out.now _ _ e c.before.before.put-asked.ensures
 

@@ -8,23 +8,23 @@ use lib.ListN.{length, take, drop, length-append}
 use lib.Seq.{length-take-le, take_at}
 use Rattle.lists.specs.Parts.{put}
 use Rattle.catalogue.proofs.Admitted.{admitted-numbers}
-use Rattle.codes.specs.Codes.{schemeOf}
+use Rattle.codes.specs.Codes.{scheme_of}
 use Rattle.codes.proofs.Promises.{promises}
 use Rattle.session.proofs.Begin.{Begins, begin-passed}
-use Rattle.printing.specs.Output.{queryLine}
-use Rattle.printing.specs.Steps.{blankPlaces}
+use Rattle.printing.specs.Output.{query_line}
+use Rattle.printing.specs.Steps.{blank_places}
 use Rattle.lists.proofs.Puts.{put_whole}
 use Rattle.printing.proofs.Room.{places-many, query-fits}
 use Rattle.printing.proofs.put_query.Statement.{statement}
 use Rattle.printing.proofs.put_query.Tie as tie
 
 -- what is known of the query, and of the part of the blank places that is lent for it
-module _ (from : tie.Start) (zeros : List ℕ) (blank : zeros ≡ blankPlaces) where
+module _ (from : tie.Start) (zeros : List ℕ) (blank : zeros ≡ blank_places) where
   abbrev query : List ℕ
-  query = (schemeOf from.args.c).query from.args.wanted from.args.server from.args.key.now
+  query = (scheme_of from.args.c).query from.args.wanted from.args.server from.args.key.now
 
-  begun : Begins schemeOf from.args.c from.args.wanted from.args.key.now
-  begun = begin-passed schemeOf from.args.c from.args.wanted from.args.key.now from.pre.0
+  begun : Begins scheme_of from.args.c from.args.wanted from.args.key.now
+  begun = begin-passed scheme_of from.args.c from.args.wanted from.args.key.now from.pre.0
 
   fits : from.args.size ≤ length zeros
   fits =
@@ -112,8 +112,8 @@ returns c =
     let part = part-is from zeros.result zeros.ensures made.new.1.1.1.1.0 made.ensures in
     let l = filled-length from zeros.result zeros.ensures made.new.1.1.1.1.0 made.ensures in
     let most = line.ensures.1.0 in (
-      line.ensures.0 ∙ ap (λ (q : List ℕ). a.at + length (queryLine a.server q)) part,
-      (omega arith, line.ensures.1.1 ∙ ap (λ (q : List ℕ). put a.at (queryLine a.server q) a.out.now) part),
+      line.ensures.0 ∙ ap (λ (q : List ℕ). a.at + length (query_line a.server q)) part,
+      (omega arith, line.ensures.1.1 ∙ ap (λ (q : List ℕ). put a.at (query_line a.server q) a.out.now) part),
     )
 
 pub put-query-spec : {M : Type 1} → statement M

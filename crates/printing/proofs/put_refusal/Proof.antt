@@ -6,9 +6,9 @@ use native.Mathlib.Omega.{arith}
 use lib.ListN.{length}
 use Rattle.lists.specs.Ascii.{ascii}
 use Rattle.lists.specs.Parts.{put}
-use Rattle.text_lines.specs.Lines.{numberText}
+use Rattle.text_lines.specs.Lines.{number_text}
 use Rattle.text_lines.proofs.NumberLines.{number-text-most}
-use Rattle.printing.specs.Output.{refusalLine}
+use Rattle.printing.specs.Output.{refusal_line}
 use Rattle.printing.proofs.Writing.{refusal-most}
 use borrow.Author.Rules.{rules}
 use Rattle.printing.proofs.put_refusal.Statement.{statement}
@@ -34,13 +34,13 @@ same_length : tie.Need-same-length
 same_length c = search rules
 
 returns : tie.Need-returns
-unfolding refusalLine
+unfolding refusal_line
 returns c =
     let line = c.before.before.put-line in
     let number = c.before.before.before.before.before.number in
     let out = c.before.before.before.before.before.before.before.args.out.now in (
-      line.ensures.0 ∙ zero-add _ ∙ ap (λ (n : ℕ). length (numberText (ascii "refused=") n)) number.ensures,
-      line.ensures.1 ∙ ap (λ (n : ℕ). put 0 (numberText (ascii "refused=") n) out) number.ensures,
+      line.ensures.0 ∙ zero-add _ ∙ ap (λ (n : ℕ). length (number_text (ascii "refused=") n)) number.ensures,
+      line.ensures.1 ∙ ap (λ (n : ℕ). put 0 (number_text (ascii "refused=") n) out) number.ensures,
     )
 
 pub put-refusal-spec : {M : Type 1} → statement M

@@ -9,15 +9,15 @@ use lib.ListN.{length}
 use Rattle.lists.specs.Parts.{put}
 use Rattle.lists.specs.Ranges.{range}
 use Rattle.lists.proofs.Cuts.{slot-end}
-use Rattle.lists.proofs.Joined.{flatMap-next}
+use Rattle.lists.proofs.Joined.{flat_map-next}
 use Rattle.lists.proofs.Puts.{put-length, put_next}
 use Rattle.parameters.specs.Bounds.{blocks}
-use Rattle.parameters.specs.Measures.{roundSizes}
+use Rattle.parameters.specs.Measures.{round_sizes}
 use Rattle.parameters.proofs.Bounds.{round-bounds}
 use Rattle.symbol.specs.Operations.{sum_of}
 use Rattle.symbol.proofs.Operations.{group_of}
-use Rattle.short_scheme.specs.Short.{shortAnswerLength, stridedAnswer}
-use Rattle.round_scheme.specs.Round.{row, rowLength, lengthBefore, rowAnswer, roundAnswer}
+use Rattle.short_scheme.specs.Short.{short_answer_length, strided_answer}
+use Rattle.round_scheme.specs.Round.{row, row_length, length_before, row_answer, round_answer}
 use Rattle.round_scheme.proofs.Stored.{row-stored}
 use Rattle.round_scheme.proofs.Lengths.{row-long, before-long, before-none, before-next, before-grows}
 use Rattle.round_code.specs.Steps.{RoundNumbers}
@@ -28,8 +28,8 @@ use Rattle.round_code.proofs.answer.Tie as tie
 
 abbrev invariant-loop : tie.invariant-loop
 invariant-loop op n k s store query out₀ v stride at₀ i₀ out at i =
-    (i ≤ v) × (at ≡ lengthBefore k s query i) × (length out ≡ length out₀)
-    × (out ≡ put 0 (flat_map (rowAnswer (sum_of op) n k s store query) (range 0 i)) out₀)
+    (i ≤ v) × (at ≡ length_before k s query i) × (length out ≡ length out₀)
+    × (out ≡ put 0 (flat_map (row_answer (sum_of op) n k s store query) (range 0 i)) out₀)
 
 abbrev decreases-loop : tie.decreases-loop
 decreases-loop op n k s store query out₀ v stride at₀ i₀ out at i = v - i
@@ -105,7 +105,7 @@ part-answer-row-end : tie.Need-slice-bounds-answer-row-end invariant-loop decrea
 part-answer-row-end c = omega (arith, (digits-inside c).0)
 
 answer-row-requires : tie.Need-answer-row-requires invariant-loop decreases-loop
-unfolding roundSizes rowLength
+unfolding round_sizes row_length
 answer-row-requires c κs =
     let turn = c.before.before in
     let begun = start turn in
@@ -128,7 +128,7 @@ loop-less : tie.Need-loop-smaller invariant-loop decreases-loop
 loop-less c = omega arith
 
 loop-again : tie.Need-loop-preserved invariant-loop decreases-loop
-unfolding roundSizes rowLength rowAnswer
+unfolding round_sizes row_length row_answer
 loop-again c =
     let made = c.before.before in
     let turn = made.before.before.before in
@@ -138,7 +138,7 @@ loop-again c =
     let query = a.query.now in
     let out = at.loop.out in
     let j = i turn in
-    let f = rowAnswer (sum_of a.op) a.n a.k a.s a.store.now query in
+    let f = row_answer (sum_of a.op) a.n a.k a.s a.store.now query in
     let keeps = (group_of a.op a.s).plus-length in
     let lent = row-lent a.k query j in
     let rows = begun.pre.1.1.0.rows in
@@ -147,31 +147,31 @@ loop-again c =
     let room = before-grows a.k a.s query j (blocks a.n a.k) (low turn) in
     let written =
     made.answer-row.ensures.1
-    ∙ ap₂ (λ (v : ℕ) (l : List ℕ). put at.loop.at (stridedAnswer (sum_of a.op) (j * (a.n - 1)) (v * (a.n - 1)) a.s a.store.now l) out)
+    ∙ ap₂ (λ (v : ℕ) (l : List ℕ). put at.loop.at (strided_answer (sum_of a.op) (j * (a.n - 1)) (v * (a.n - 1)) a.s a.store.now l) out)
     at.before.power.ensures lent in (
       omega arith,
       made.answer-row.ensures.0
-          ∙ ap₂ (λ (n : ℕ) (l : List ℕ). n + shortAnswerLength a.s l) at.loop.invariant.1 lent
+          ∙ ap₂ (λ (n : ℕ) (l : List ℕ). n + short_answer_length a.s l) at.loop.invariant.1 lent
           ∙ sym (before-next a.k a.s query j),
       ap length written
           ∙ put-length at.loop.at (f j) out (omega (arith, one, room, at.loop.invariant.1, at.loop.invariant.2, begun.pre.1.1.1))
           ∙ at.loop.invariant.2,
       written
           ∙ put_next 0 at.loop.at (flat_map f (range 0 j)) (f j) a.out.now out (omega arith) (omega (arith, long, at.loop.invariant.1)) at.loop.invariant.3
-          ∙ ap (λ (l : List ℕ). put 0 l a.out.now) (sym (flatMap-next f j) ∙ ap (λ (n : ℕ). flat_map f (range 0 n)) (sym (add-one j))),
+          ∙ ap (λ (l : List ℕ). put 0 l a.out.now) (sym (flat_map-next f j) ∙ ap (λ (n : ℕ). flat_map f (range 0 n)) (sym (add-one j))),
     )
 
 same_length : tie.Need-same-length invariant-loop decreases-loop
 same_length c = c.before.loop.invariant.2
 
 returns : tie.Need-returns invariant-loop decreases-loop
-unfolding roundAnswer
+unfolding round_answer
 returns c =
     let at = c.before in
     let a = at.before.before.before.before.before.args in
     let last : at.loop.i ≡ blocks a.n a.k = omega (arith, at.before.power.ensures) in
     at.loop.invariant.3
-    ∙ ap (λ (n : ℕ). put 0 (flat_map (rowAnswer (sum_of a.op) a.n a.k a.s a.store.now a.query.now) (range 0 n)) a.out.now) last
+    ∙ ap (λ (n : ℕ). put 0 (flat_map (row_answer (sum_of a.op) a.n a.k a.s a.store.now a.query.now) (range 0 n)) a.out.now) last
 
 pub answer-spec : {M : Type 1} → statement M
 answer-spec =

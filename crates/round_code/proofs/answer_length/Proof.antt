@@ -2,7 +2,7 @@
 use mathlib.Core.Path.{ap, ◌∙◌}
 use native.Mathlib.Omega.{arith}
 use Rattle.parameters.proofs.Bounds.{round-bounds}
-use Rattle.round_scheme.specs.Round.{lengthBefore}
+use Rattle.round_scheme.specs.Round.{length_before}
 use Rattle.round_code.specs.Steps.{RoundNumbers}
 use Rattle.round_code.proofs.Fits.{fits-numbers, blocks-fit}
 use Rattle.round_code.proofs.answer_length.Statement.{statement}
@@ -27,7 +27,7 @@ length-before-requires c κs =
 returns : tie.Need-returns
 returns c =
     let a = c.before.before.before.args in
-    c.length_before.ensures ∙ ap (lengthBefore a.k a.s a.query.now) c.before.power.ensures
+    c.length_before.ensures ∙ ap (length_before a.k a.s a.query.now) c.before.power.ensures
 
 pub answer-length-spec : {M : Type 1} → statement M
 answer-length-spec = tie.close (tie.spec sub-power power-requires length-before-requires returns)

@@ -6,7 +6,7 @@ use lib.ListN.{length}
 use Rattle.lists.proofs.Arranged.{Permutation, permutation-facts}
 use Rattle.parameters.specs.Bounds.{blocks}
 use Rattle.parameters.proofs.Bounds.{round-bounds}
-use Rattle.round_scheme.specs.Round.{roundQuery, lengthBefore}
+use Rattle.round_scheme.specs.Round.{round_query, length_before}
 use Rattle.round_scheme.proofs.Queries.{query-admitted}
 use Rattle.round_scheme.proofs.Lengths.{first-sent, other_length}
 use Rattle.round_code.specs.Steps.{RoundNumbers}
@@ -41,7 +41,7 @@ returns c =
     let some : 0 < a.n = omega (arith, (numbers start).servers-low) in
     ap (λ (v : ℕ). (v - 1) * a.s) (all start).long
     ∙ sym (first-sent a.n a.k a.s a.wanted some start.requires.1.0.0 key (all start))
-    ∙ ap (λ (n : ℕ). lengthBefore a.k a.s (roundQuery a.n a.k a.wanted n key) (blocks a.n a.k)) (sym c.if1.true)
+    ∙ ap (λ (n : ℕ). length_before a.k a.s (round_query a.n a.k a.wanted n key) (blocks a.n a.k)) (sym c.if1.true)
 
 mul-result-2 : tie.Need-overflow-mul-result-2
 mul-result-2 c =
@@ -56,7 +56,7 @@ returns-2 c =
     let other : 0 < a.server = omega (arith, c.if1.false) in
     let admitted = query-admitted a.n a.k some key (all start) a.wanted a.server start.requires.1.0.0 start.requires.1.0.1 in
     ap (λ (v : ℕ). v * a.s) (all start).long
-    ∙ sym (other_length a.n a.k a.s a.server (roundQuery a.n a.k a.wanted a.server key) admitted other)
+    ∙ sym (other_length a.n a.k a.s a.server (round_query a.n a.k a.wanted a.server key) admitted other)
 
 pub expected-length-spec : {M : Type 1} → statement M
 expected-length-spec =

@@ -3,13 +3,13 @@ use mathlib.Core.Path.{◌≡◌, sym, ap, ap₂, ◌∙◌}
 use Prim.Native.Nat.{ℕ, ◌+◌, ◌-◌, ◌*◌, ◌≤◌}
 use native.Mathlib.Nat.{mul-le-mul}
 use native.Mathlib.Omega.{arith}
-use Rattle.round_scheme.specs.Round.{lengthBefore}
+use Rattle.round_scheme.specs.Round.{length_before}
 use Rattle.round_scheme.proofs.Lengths.{before-none, before-next, row-short, before-short}
 use Rattle.round_code.proofs.length_before.Statement.{statement}
 use Rattle.round_code.proofs.length_before.Tie as tie
 
 abbrev invariant-loop : tie.invariant-loop
-invariant-loop k s query count total₀ i₀ total i = (i ≤ count) × (total ≡ lengthBefore k s query i)
+invariant-loop k s query count total₀ i₀ total i = (i ≤ count) × (total ≡ length_before k s query i)
 
 abbrev decreases-loop : tie.decreases-loop
 decreases-loop k s query count total₀ i₀ total i = count - i
@@ -55,7 +55,7 @@ returns c =
     let at = c.before in
     let a = at.before.before.args in
     let last : at.loop.i ≡ a.count = omega arith in
-    at.loop.invariant.1 ∙ ap (lengthBefore a.k a.s a.query.now) last
+    at.loop.invariant.1 ∙ ap (length_before a.k a.s a.query.now) last
 
 pub length-before-spec : {M : Type 1} → statement M
 length-before-spec =

@@ -11,10 +11,10 @@ use lib.ListN.{get_or}
 use Rattle.lists.proofs.Cuts.{cut_at, slot-end}
 use Rattle.parameters.specs.Bounds.{blocks}
 use Rattle.parameters.proofs.Bounds.{round-bounds}
-use Rattle.round_scheme.specs.Round.{row, lengthBefore}
+use Rattle.round_scheme.specs.Round.{row, length_before}
 use Rattle.scheme.specs.declared.Place.TheVariants.{At, Nowhere}
-use Rattle.scheme.specs.Asked.{placeNaming}
-use Rattle.round_scheme.specs.Asked.{blockRows}
+use Rattle.scheme.specs.Asked.{place_naming}
+use Rattle.round_scheme.specs.Asked.{block_rows}
 use Rattle.round_scheme.proofs.Located.{round-located}
 use Rattle.round_code.proofs.Fits.{fits-numbers}
 use Rattle.round_code.proofs.locate.Statement.{statement}
@@ -81,8 +81,8 @@ add-if1 c =
 -- what the digit tells
 told : (c : tie.Start) (t : Bool) → let a = c.args in
     eqb (get_or a.query.now (a.symbol / (a.n - 1) * a.k + a.message) 0) (suc (a.symbol % (a.n - 1))) ≡ t
-    → placeNaming a.s a.message a.symbol (blockRows a.n a.k a.query.now)
-    ≡ cond t (At (lengthBefore a.k a.s a.query.now (a.symbol / (a.n - 1)))) Nowhere
+    → place_naming a.s a.message a.symbol (block_rows a.n a.k a.query.now)
+    ≡ cond t (At (length_before a.k a.s a.query.now (a.symbol / (a.n - 1)))) Nowhere
 unfolding row
 told c t e =
     let a = c.args in
@@ -90,8 +90,8 @@ told c t e =
     let query = a.query.now in
     let b = a.symbol / (a.n - 1) in
     let d = a.symbol % (a.n - 1) in
-    let at = At (lengthBefore a.k a.s query b) in
-    ap (λ (y : ℕ). placeNaming a.s a.message y (blockRows a.n a.k query)) (sym f.whole)
+    let at = At (length_before a.k a.s query b) in
+    ap (λ (y : ℕ). place_naming a.s a.message y (block_rows a.n a.k query)) (sym f.whole)
     ∙ round-located a.n a.k a.s query c.requires.1.0.rows (omega (arith, f.divisor)) a.message b d f.block f.digit
     ∙ ap (λ (x : ℕ). cond (eqb x (suc d)) at Nowhere) (cut_at (b * a.k) a.k a.message query c.requires.1.1.0)
     ∙ ap (λ (u : Bool). cond u at Nowhere) e

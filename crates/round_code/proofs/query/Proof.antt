@@ -10,18 +10,18 @@ use Rattle.lists.specs.Parts.{put}
 use Rattle.lists.specs.Ranges.{range}
 use Rattle.lists.proofs.Arranged.{Permutation, permutation-facts}
 use Rattle.lists.proofs.Cuts.{cut-length, slot-end}
-use Rattle.lists.proofs.Joined.{flatMap-next}
+use Rattle.lists.proofs.Joined.{flat_map-next}
 use Rattle.lists.proofs.Puts.{put-length, put_next, put-part}
 use Rattle.parameters.specs.Bounds.{blocks}
-use Rattle.short_scheme.specs.Short.{shortQuery}
-use Rattle.round_scheme.specs.Round.{shortKey, roundQuery}
+use Rattle.short_scheme.specs.Short.{short_query}
+use Rattle.round_scheme.specs.Round.{short_key, round_query}
 use Rattle.round_scheme.proofs.Queries.{asked-long, rows_long}
 use Rattle.round_code.proofs.Fits.{rows-small}
 use Rattle.round_code.proofs.query.Statement.{statement}
 use Rattle.round_code.proofs.query.Tie as tie
 
 abbrev asked : ℕ → ℕ → ℕ → ℕ → List ℕ → ℕ → List ℕ
-asked n k wanted server key i = shortQuery n wanted server (shortKey n k key i)
+asked n k wanted server key i = short_query n wanted server (short_key n k key i)
 
 abbrev invariant-loop : tie.invariant-loop
 invariant-loop n k wanted server key out₀ i₀ out i =
@@ -95,7 +95,7 @@ loop-less : tie.Need-loop-smaller invariant-loop decreases-loop
 loop-less c = omega arith
 
 loop-again : tie.Need-loop-preserved invariant-loop decreases-loop
-unfolding shortKey
+unfolding short_key
 loop-again c =
     let made = c.before.before in
     let turn = made.before.before.before in
@@ -118,14 +118,14 @@ loop-again c =
       ap length written ∙ put-length (i * a.k) (f i) out (omega (arith, (inside turn).0, at.loop.invariant.1)) ∙ at.loop.invariant.1,
       written
           ∙ put_next 0 (i * a.k) (flat_map f (range 0 i)) (f i) a.out.now out (omega arith) (omega (arith, before)) at.loop.invariant.2
-          ∙ ap (λ (l : List ℕ). put 0 l a.out.now) (sym (flatMap-next f i) ∙ ap (λ (n : ℕ). flat_map f (range 0 n)) (sym (add-one i))),
+          ∙ ap (λ (l : List ℕ). put 0 l a.out.now) (sym (flat_map-next f i) ∙ ap (λ (n : ℕ). flat_map f (range 0 n)) (sym (add-one i))),
     )
 
 same_length : tie.Need-same-length invariant-loop decreases-loop
 same_length c = c.before.loop.invariant.1
 
 returns : tie.Need-returns invariant-loop decreases-loop
-unfolding roundQuery
+unfolding round_query
 returns c =
     let at = c.before in
     let start = at.before.before.before in

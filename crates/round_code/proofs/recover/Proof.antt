@@ -10,17 +10,17 @@ use lib.ListN.{length, get_or}
 use Rattle.lists.specs.Below.{Below}
 use Rattle.lists.specs.Parts.{lay}
 use Rattle.lists.specs.Ranges.{range}
-use Rattle.lists.proofs.Joined.{flatMap-next}
+use Rattle.lists.proofs.Joined.{flat_map-next}
 use Rattle.lists.proofs.Laid.{lay-nil, lay-length, lay-next}
 use Rattle.parameters.specs.Bounds.{blocks}
-use Rattle.parameters.specs.Measures.{roundSizes}
+use Rattle.parameters.specs.Measures.{round_sizes}
 use Rattle.symbol.specs.Operations.{sum_of}
 use Rattle.symbol.proofs.Operations.{group_of}
-use Rattle.round_scheme.specs.Round.{roundQuery}
+use Rattle.round_scheme.specs.Round.{round_query}
 use Rattle.round_scheme.proofs.Lengths.{before-none, before-short}
-use Rattle.round_code.specs.Steps.{rowStarts, blockFrom}
+use Rattle.round_code.specs.Steps.{row_starts, block_from}
 use Rattle.round_code.proofs.Fits.{fits-numbers}
-use Rattle.round_code.proofs.Blocks.{firstBefore, block_at, Given, bounds, all, wide, symbols-low, block-low, before-inside, first_next}
+use Rattle.round_code.proofs.Blocks.{first_before, block_at, Given, bounds, all, wide, symbols-low, block-low, before-inside, first_next}
 use Rattle.round_code.proofs.Blocks.{blocks-long, blocks-recovered}
 use borrow.Author.Rules.{rules}
 use Rattle.round_code.proofs.recover.Statement.{statement}
@@ -28,7 +28,7 @@ use Rattle.round_code.proofs.recover.Tie as tie
 
 abbrev invariant-loop : tie.invariant-loop
 invariant-loop op n k s wanted key answers message₀ slot block before₀ i₀ message before i =
-    (i ≤ length key) × (before ≡ firstBefore n k s wanted key i)
+    (i ≤ length key) × (before ≡ first_before n k s wanted key i)
     × (message ≡ lay 0 (flat_map (block_at (sum_of op) n k s wanted key answers) (range 0 i)) message₀)
 
 abbrev decreases-loop : tie.decreases-loop
@@ -59,7 +59,7 @@ unfolding range flat_map
 loop-holds c =
     let a = c.before.before.before.args in (
       omega arith,
-      sym (before-none a.k a.s (roundQuery a.n a.k a.wanted 0 a.key.now)),
+      sym (before-none a.k a.s (round_query a.n a.k a.wanted 0 a.key.now)),
       sym (lay-nil 0 a.message.now),
     )
 
@@ -90,7 +90,7 @@ mul-recover-block : tie.Need-overflow-mul-recover-block invariant-loop decreases
 mul-recover-block c = let turn = c.before in omega (arith, symbols-low (given (begun turn)) (i turn) (omega (arith, low turn)))
 
 recover-block-requires : tie.Need-recover-block-requires invariant-loop decreases-loop
-unfolding roundSizes
+unfolding round_sizes
 recover-block-requires c κs =
     let turn = c.before.before in
     let start = begun turn in
@@ -115,7 +115,7 @@ first-length-requires c κs = search rules
 row-added : (c : tie.After-first-length invariant-loop decreases-loop)
     → let turn = c.before.before.before.before.before.before in
     let a = (begun turn).args in
-    turn.before.loop.before + c.first-length.result ≡ firstBefore a.n a.k a.s a.wanted a.key.now (i turn + 1)
+    turn.before.loop.before + c.first-length.result ≡ first_before a.n a.k a.s a.wanted a.key.now (i turn + 1)
 row-added c =
     let turn = c.before.before.before.before.before.before in
     ap₂ (λ (m r : ℕ). m + r) turn.before.loop.invariant.1 c.first-length.ensures ∙ first_next (given (begun turn)) (i turn) (low turn)
@@ -124,7 +124,7 @@ add-before : tie.Need-overflow-add-before invariant-loop decreases-loop
 add-before c =
     let turn = c.before.before.before.before.before.before in
     let a = (begun turn).args in
-    let next = before-short a.k a.s (roundQuery a.n a.k a.wanted 0 a.key.now) (i turn + 1) in
+    let next = before-short a.k a.s (round_query a.n a.k a.wanted 0 a.key.now) (i turn + 1) in
     let few = symbols-low (given (begun turn)) (i turn + 1) (omega (arith, low turn)) in
     record { fits = omega (arith, row-added c) }
 
@@ -148,14 +148,14 @@ loop-again c =
     let written =
     made.recover-block.ensures
     ∙ ap₂ (λ (v b : ℕ).
-    lay (j * size) (blockFrom (sum_of a.op) a.n a.k a.s (get_or a.key.now j 0) (rowStarts (v * a.s) b (j * a.s)) a.answers.now) message)
+    lay (j * size) (block_from (sum_of a.op) a.n a.k a.s (get_or a.key.now j 0) (row_starts (v * a.s) b (j * a.s)) a.answers.now) message)
     (all (given start)).long turn.before.loop.invariant.1 in (
       omega arith,
       row-added c,
       written
           ∙ lay-next 0 (j * size) (flat_map f (range 0 j)) (f j) a.message.now message (sym (zero-add (length (flat_map f (range 0 j))) ∙ long))
           turn.before.loop.invariant.2
-          ∙ ap (λ (l : List ℕ). lay 0 l a.message.now) (sym (flatMap-next f j) ∙ ap (λ (m : ℕ). flat_map f (range 0 m)) (sym (add-one j))),
+          ∙ ap (λ (l : List ℕ). lay 0 l a.message.now) (sym (flat_map-next f j) ∙ ap (λ (m : ℕ). flat_map f (range 0 m)) (sym (add-one j))),
     )
 
 same_length : tie.Need-same-length invariant-loop decreases-loop

@@ -8,17 +8,17 @@ use native.Mathlib.Omega.{arith}
 use borrow.Author.Tests.{eqb-true, eqb-false, not-true, not-false}
 use lib.Dec.{eqb}
 use lib.ListN.{length, get_or, set, drop, length-set, length-replicate}
-use Rattle.lists.specs.Distinct.{isPermutation}
-use Rattle.lists.specs.Inserts.{removeAt}
-use Rattle.lists.proofs.Below.{allBelow-below}
+use Rattle.lists.specs.Distinct.{is_permutation}
+use Rattle.lists.specs.Inserts.{remove_at}
+use Rattle.lists.proofs.Below.{all_below-below}
 use Rattle.lists.proofs.Cuts.{slot-end}
 use Rattle.lists.proofs.Passes.{passes, passes-seen, passes-more, passes-end, permutation-passes}
 use Rattle.parameters.specs.Bounds.{blocks}
-use Rattle.short_scheme.specs.Short.{digitSum, shortAdmits}
+use Rattle.short_scheme.specs.Short.{digit_sum, short_admits}
 use Rattle.short_scheme.proofs.Queries.{admits-sum, key-long, key_below}
 use Rattle.round_scheme.specs.Round.{number, row}
 use Rattle.round_scheme.proofs.Numbers.{number-below}
-use Rattle.round_scheme.proofs.Exchange.{roundKey, key-at, key-length}
+use Rattle.round_scheme.proofs.Exchange.{round_key, key-at, key-length}
 use Rattle.round_scheme.proofs.Once.{row-refused, repeat-refused, fresh-admitted}
 use Rattle.round_code.proofs.Fits.{blocks-fit, rows-small}
 use Rattle.round_code.proofs.RowParts.{row-lent, rest-lent}
@@ -28,8 +28,8 @@ use Rattle.round_code.proofs.rows_fresh.Tie as tie
 
 abbrev invariant-loop : tie.invariant-loop
 invariant-loop n k server query v seen₀ i₀ seen i =
-    (i ≤ v) × (length seen ≡ 64) × ((j : ℕ) → j < i → shortAdmits n k server (row k query j) ≡ true)
-    × (isPermutation v (roundKey n k 0 query) ≡ passes v seen (drop i (roundKey n k 0 query)))
+    (i ≤ v) × (length seen ≡ 64) × ((j : ℕ) → j < i → short_admits n k server (row k query j) ≡ true)
+    × (is_permutation v (round_key n k 0 query) ≡ passes v seen (drop i (round_key n k 0 query)))
 
 abbrev decreases-loop : tie.decreases-loop
 decreases-loop n k server query v seen₀ i₀ seen i = v - i
@@ -41,7 +41,7 @@ loop-holds c =
       omega arith,
       length-replicate {A = Bool} 64 false,
       λ j h. absurd (not-suc-le-zero h),
-      permutation-passes a.v 64 (roundKey a.n a.k 0 a.query.now) (key-length a.n a.k 0 a.query.now ∙ sym start.requires.1.0),
+      permutation-passes a.v 64 (round_key a.n a.k 0 a.query.now) (key-length a.n a.k 0 a.query.now ∙ sym start.requires.1.0),
     )
 
 -- the row of a turn
@@ -82,11 +82,11 @@ admits-requires c κs = search rules
 tested : (c : tie.After-admits invariant-loop decreases-loop)
     → let turn = c.before.before in
     let a = (start turn).args in
-    c.admits.result ≡ shortAdmits a.n a.k a.server (row a.k a.query.now (i turn))
+    c.admits.result ≡ short_admits a.n a.k a.server (row a.k a.query.now (i turn))
 tested c =
     let turn = c.before.before in
     let a = (start turn).args in
-    c.admits.ensures ∙ ap (shortAdmits a.n a.k a.server) (row-lent a.k a.query.now (i turn))
+    c.admits.ensures ∙ ap (short_admits a.n a.k a.server) (row-lent a.k a.query.now (i turn))
 
 returns : tie.Need-returns invariant-loop decreases-loop
 returns c =
@@ -106,7 +106,7 @@ module _ (c : tie.Else1 invariant-loop decreases-loop) where
   abbrev here : List ℕ
   here = row begun.args.k begun.args.query.now (i turn)
 
-  own : shortAdmits begun.args.n begun.args.k begun.args.server here ≡ true
+  own : short_admits begun.args.n begun.args.k begun.args.server here ≡ true
   own = sym (tested c.before) ∙ not-false c.before.admits.result c.if1.false
 
   known : 0 < begun.args.k
@@ -115,15 +115,15 @@ module _ (c : tie.Else1 invariant-loop decreases-loop) where
   there : begun.args.server < begun.args.n
   there =
       let a = begun.args in
-      let m : digitSum here % a.n < a.n = mod-lt (digitSum here) (omega (arith, begun.pre.0.servers-low)) in
+      let m : digit_sum here % a.n < a.n = mod-lt (digit_sum here) (omega (arith, begun.pre.0.servers-low)) in
       omega (arith, admits-sum a.n a.k a.server here own)
 
-  rest-low : number begun.args.n (removeAt 0 here) < blocks begun.args.n begun.args.k
+  rest-low : number begun.args.n (remove_at 0 here) < blocks begun.args.n begun.args.k
   rest-low =
       let a = begun.args in
-      subst (λ (m : ℕ). number a.n (removeAt 0 here) < a.n ^ m) (key-long a.n a.k 0 a.server here known there own)
-      (number-below a.n (omega (arith, begun.pre.0.servers-low)) (removeAt 0 here)
-      (allBelow-below a.n (removeAt 0 here) (key_below a.n a.k 0 a.server here known there own)))
+      subst (λ (m : ℕ). number a.n (remove_at 0 here) < a.n ^ m) (key-long a.n a.k 0 a.server here known there own)
+      (number-below a.n (omega (arith, begun.pre.0.servers-low)) (remove_at 0 here)
+      (all_below-below a.n (remove_at 0 here) (key_below a.n a.k 0 a.server here known there own)))
 
 add-number-of : tie.Need-overflow-add-number-of invariant-loop decreases-loop
 add-number-of c = omega (arith, (inside (turn c)).1)
@@ -152,19 +152,19 @@ module _ (c : tie.After-number-of invariant-loop decreases-loop) where
   abbrev at : tie.Else1 invariant-loop decreases-loop
   at = c.before.before
 
-  rest-number : c.number_of.result ≡ number (begun at).args.n (removeAt 0 (here at))
+  rest-number : c.number_of.result ≡ number (begun at).args.n (remove_at 0 (here at))
   rest-number =
       let a = (begun at).args in
       c.number_of.ensures ∙ ap (number a.n) (rest-lent a.k a.query.now (i (turn at)) (known at) (inside (turn at)).0)
 
-  marked : c.number_of.result ≡ get_or (roundKey (begun at).args.n (begun at).args.k 0 (begun at).args.query.now) (i (turn at)) 0
+  marked : c.number_of.result ≡ get_or (round_key (begun at).args.n (begun at).args.k 0 (begun at).args.query.now) (i (turn at)) 0
   marked =
       let a = (begun at).args in rest-number ∙ sym (key-at a.n a.k 0 a.query.now (i (turn at)) (low (turn at)))
 
   mark-low : c.number_of.result < (begun at).args.v
   mark-low = omega (arith, rest-number, rest-low at, (begun at).pre.1.0)
 
-  numbers-left : i (turn at) < length (roundKey (begun at).args.n (begun at).args.k 0 (begun at).args.query.now)
+  numbers-left : i (turn at) < length (round_key (begun at).args.n (begun at).args.k 0 (begun at).args.query.now)
   numbers-left = let a = (begun at).args in omega (arith, key-length a.n a.k 0 a.query.now, low (turn at))
 
 array-read-if2 : tie.Need-array-read-if2 invariant-loop decreases-loop
@@ -176,13 +176,13 @@ returns-2 c =
     let from = begun (at made) in
     let a = from.args in
     let loop = (turn (at made)).before.loop in
-    let keys = roundKey a.n a.k 0 a.query.now in
-    let again : isPermutation a.v keys ≡ false =
+    let keys = round_key a.n a.k 0 a.query.now in
+    let again : is_permutation a.v keys ≡ false =
     loop.inv.3
     ∙ passes-seen a.v loop.seen keys loop.i (numbers-left made)
     (ap (λ (m : ℕ). get_or loop.seen m false) (sym (marked made)) ∙ c.if2.true) in
     sym (repeat-refused a.n a.k a.server a.query.now (known (at made)) (there (at made))
-    (ap (λ (v : ℕ). isPermutation v keys) (sym from.pre.1.0) ∙ again))
+    (ap (λ (v : ℕ). is_permutation v keys) (sym from.pre.1.0) ∙ again))
 
 array-write-seen : tie.Need-array-write-seen invariant-loop decreases-loop
 array-write-seen c =
@@ -196,10 +196,10 @@ loop-less c = omega arith
 
 -- the rows before the next one are the server's, too
 each : (c : tie.Else1 invariant-loop decreases-loop) (j : ℕ) → j < i (turn c) + 1 → (t : Bool) → eqb j (i (turn c)) ≡ t
-    → shortAdmits (begun c).args.n (begun c).args.k (begun c).args.server (row (begun c).args.k (begun c).args.query.now j) ≡ true
+    → short_admits (begun c).args.n (begun c).args.k (begun c).args.server (row (begun c).args.k (begun c).args.query.now j) ≡ true
 each c j h true e =
     let a = (begun c).args in
-    ap (λ (m : ℕ). shortAdmits a.n a.k a.server (row a.k a.query.now m)) (eqb-true j (i (turn c)) e) ∙ own c
+    ap (λ (m : ℕ). short_admits a.n a.k a.server (row a.k a.query.now m)) (eqb-true j (i (turn c)) e) ∙ own c
 each c j h false e = let d : j ≡ i (turn c) → ⊥ = eqb-false j (i (turn c)) e in (turn c).before.loop.invariant.2 j (omega arith)
 
 loop-again : tie.Need-loop-preserved invariant-loop decreases-loop
@@ -208,7 +208,7 @@ loop-again c =
     let from = begun (at made) in
     let a = from.args in
     let loop = (turn (at made)).before.loop in
-    let keys = roundKey a.n a.k 0 a.query.now in
+    let keys = round_key a.n a.k 0 a.query.now in
     let mark = marked made in (
       omega arith,
       simp length-set loop.inv.1,
@@ -225,12 +225,12 @@ returns-3 c =
     let loop = c.before.loop in
     let from = c.before.before.before in
     let a = from.args in
-    let keys = roundKey a.n a.k 0 a.query.now in
+    let keys = round_key a.n a.k 0 a.query.now in
     let last : loop.i ≡ length keys = omega (arith, key-length a.n a.k 0 a.query.now, from.requires.1.0) in
-    let fresh : isPermutation a.v keys ≡ true = loop.invariant.3 ∙ passes-end a.v loop.seen keys loop.i last in
+    let fresh : is_permutation a.v keys ≡ true = loop.invariant.3 ∙ passes-end a.v loop.seen keys loop.i last in
     sym (fresh-admitted a.n a.k a.server a.query.now (omega (arith, from.requires.0.servers-low))
     (from.requires.1.1 ∙ ap (λ (v : ℕ). v * a.k) from.requires.1.0) (λ j h. loop.invariant.2 j (omega (arith, from.requires.1.0)))
-    (ap (λ (v : ℕ). isPermutation v keys) (sym from.requires.1.0) ∙ fresh))
+    (ap (λ (v : ℕ). is_permutation v keys) (sym from.requires.1.0) ∙ fresh))
 
 pub rows-fresh-spec : {M : Type 1} → statement M
 rows-fresh-spec =

@@ -5,8 +5,8 @@ use Prim.Native.Nat.{ℕ}
 use borrow.Author.Rules.{rules}
 use borrow.Author.Tests.{not-true, not-false}
 use Rattle.text_lines.specs.Lines.{begins}
-use Rattle.calendar.specs.Calendar.{realDay}
-use Rattle.season_text.specs.DayLines.{dayText, dayIn, dayAt}
+use Rattle.calendar.specs.Calendar.{real_day}
+use Rattle.season_text.specs.DayLines.{day_text, day_in, day_at}
 use Rattle.season_text.proofs.DayTexts.{text-length}
 use Rattle.season_text.proofs.DayLines.{day-short}
 use Rattle.season_text.proofs.day.Statement.{statement}
@@ -33,23 +33,23 @@ starts-requires c κs = search rules
 -- what the tests say
 real-there : (c : tie.After-starts)
     → let from = c.before.before.before in
-    from.is_real.result ≡ realDay (dayIn from.before.before.before.before.args.text.now)
-real-there c = let from = c.before.before.before in from.is_real.ensures ∙ ap realDay from.before.day-in.ensures
+    from.is_real.result ≡ real_day (day_in from.before.before.before.before.args.text.now)
+real-there c = let from = c.before.before.before in from.is_real.ensures ∙ ap real_day from.before.day-in.ensures
 
 same-there : (c : tie.After-starts)
-    → let text = c.before.before.before.before.before.before.before.args.text.now in c.starts.result ≡ begins (dayText (dayIn text)) text
+    → let text = c.before.before.before.before.before.before.before.args.text.now in c.starts.result ≡ begins (day_text (day_in text)) text
 same-there c =
     let from = c.before.before in
     let text = from.before.before.before.before.before.args.text.now in
     c.starts.ensures
-    ∙ ap (λ (l : List ℕ). begins l text) (from.day-text.ensures ∙ ap dayText from.before.before.day-in.ensures)
+    ∙ ap (λ (l : List ℕ). begins l text) (from.day-text.ensures ∙ ap day_text from.before.before.day-in.ensures)
 
 returns-2 : tie.Need-returns-2
-unfolding dayAt
+unfolding day_at
 returns-2 c = simp (sym (real-there c.before) ∙ not-true _ c.if2.true)
 
 returns-3 : tie.Need-returns-3
-unfolding dayAt
+unfolding day_at
 returns-3 c =
     let from = c.before.before in
     simp (sym (real-there from) ∙ not-false _ c.before.if2.false, sym (same-there from) ∙ not-true _ c.if3.true)
@@ -58,7 +58,7 @@ add-t6 : tie.Need-overflow-add-t6
 add-t6 c = search rules
 
 returns-4 : tie.Need-returns-4
-unfolding dayAt
+unfolding day_at
 returns-4 c =
     let from = c.before.before in
     let d = from.before.before.before.before.day-in in

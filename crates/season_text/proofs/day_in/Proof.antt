@@ -1,7 +1,7 @@
 -- `season_text::day_in` meets its contract: the numbers are taken two digits at a time.
 use native.Mathlib.Omega.{arith}
 use borrow.Author.Rules.{rules}
-use Rattle.season_text.specs.DayLines.{dayIn}
+use Rattle.season_text.specs.DayLines.{day_in}
 use Rattle.season_text.proofs.DayTexts.{year-value}
 use Rattle.season_text.proofs.day_in.Statement.{statement}
 use Rattle.season_text.proofs.day_in.Tie as tie
@@ -25,7 +25,7 @@ pair-in-requires-4 : tie.Need-pair-in-requires-4
 pair-in-requires-4 c κs = search rules
 
 returns : tie.Need-returns
-unfolding dayIn
+unfolding day_in
 returns c =
     let text = c.before.before.before.before.before.args.text.now in
     simp (

@@ -9,7 +9,7 @@ use lib.ListN.{length, drop, length-take, length-drop}
 use Rattle.lists.proofs.Cuts.{to_end}
 use Rattle.text_lines.specs.Lines.{begins}
 use Rattle.text_lines.proofs.NumberLines.{name-within}
-use Rattle.season_text.specs.DayLines.{dayAt, dayLine}
+use Rattle.season_text.specs.DayLines.{day_at, day_line}
 use Rattle.season_text.proofs.DayLines.{past_end}
 use Rattle.season_text.proofs.day_line.Statement.{statement}
 use Rattle.season_text.proofs.day_line.Tie as tie
@@ -47,7 +47,7 @@ starts-requires : tie.Need-starts-requires
 starts-requires c κs = search rules
 
 returns-2 : tie.Need-returns-2
-unfolding dayLine
+unfolding day_line
 returns-2 c = simp (sym (tested c.before) ∙ not-true _ c.if2.true)
 
 add_start : tie.Need-overflow-add-start
@@ -68,11 +68,11 @@ day-requires c κs =
     simp (length-take, length-drop) (omega (arith, c.before.before.before.before.before.before.before.well-formed))
 
 returns-3 : tie.Need-returns-3
-unfolding dayLine
+unfolding day_line
 returns-3 c =
     let a = c.before.before.before.before.before.before.before.before.args in
     let start = a.at + length a.name.now in
-    c.day.ensures ∙ ap (dayAt start) (to_end a.text.now start) ∙ simp (found c.before.before)
+    c.day.ensures ∙ ap (day_at start) (to_end a.text.now start) ∙ simp (found c.before.before)
 
 pub day-line-spec : {M : Type 1} → statement M
 day-line-spec =

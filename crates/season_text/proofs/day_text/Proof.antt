@@ -1,6 +1,6 @@
 -- `season_text::day_text` meets its contract, character by character.
 use borrow.Author.Rules.{rules}
-use Rattle.season_text.specs.DayLines.{dayText}
+use Rattle.season_text.specs.DayLines.{day_text}
 use Rattle.season_text.proofs.day_text.Statement.{statement}
 use Rattle.season_text.proofs.day_text.Tie as tie
 
@@ -29,7 +29,7 @@ last-digit-requires-8 : tie.Need-last-digit-requires-8
 last-digit-requires-8 c κs = search rules
 
 returns : tie.Need-returns
-unfolding dayText
+unfolding day_text
 returns c =
     let month = c.before.before.before in
     let year = month.before.before.before in

@@ -7,7 +7,7 @@ use borrow.Author.Rules.{rules}
 use lib.ListN.{length, length-append}
 use Rattle.lists.specs.Parts.{put}
 use Rattle.lists.proofs.Puts.{put_next}
-use Rattle.season_text.specs.DayLines.{dayText}
+use Rattle.season_text.specs.DayLines.{day_text}
 use Rattle.season_text.proofs.put_day_line.Statement.{statement}
 use Rattle.season_text.proofs.put_day_line.Tie as tie
 
@@ -17,7 +17,7 @@ day-text-requires c κs = search rules
 put-bytes-requires : tie.Need-put-bytes-requires
 put-bytes-requires c κs =
     let from = c.before.before.before.before in
-    let l = length-append from.args.name.now (dayText from.args.d) in
+    let l = length-append from.args.name.now (day_text from.args.d) in
     let p = from.requires in
     omega arith
 
@@ -29,7 +29,7 @@ put-bytes-requires-2 c κs =
     let name = c.before.before.before.before.put-bytes in
     let day = c.before.before.before.before.before.before.day-text in
     let from = c.before.before.before.before.before.before.before.before.before in
-    let l = length-append from.args.name.now (dayText from.args.d) in
+    let l = length-append from.args.name.now (day_text from.args.d) in
     let d = ap length day.ensures in
     let p = from.requires in
     let e = name.ensures.0 in
@@ -47,7 +47,7 @@ returns c =
     let from = c.before.before.before.before.before.before.before.before.before.before.before.before in
     let a = from.args in
     let written = a.name.now in
-    let l = length-append written (dayText a.d) in
+    let l = length-append written (day_text a.d) in
     let d = ap length day.ensures in
     let p = from.requires in
     let start : name.result ≡ a.at + length written = name.ensures.0 in

@@ -7,8 +7,8 @@ use borrow.Author.Rules.{rules}
 use lib.ListN.{length}
 use Rattle.lists.specs.Parts.{put}
 use Rattle.lists.proofs.Puts.{put-nil, put_next}
-use Rattle.season_text.specs.DayLines.{dayLineText}
-use Rattle.season_text.specs.SeasonLines.{openName, closeName}
+use Rattle.season_text.specs.DayLines.{day_line_text}
+use Rattle.season_text.specs.SeasonLines.{open_name, close_name}
 use Rattle.season_text.proofs.SeasonLines.{text-none, text-lines, parts-length}
 use Rattle.season_text.proofs.put_season.Statement.{statement}
 use Rattle.season_text.proofs.put_season.Tie as tie
@@ -58,8 +58,8 @@ returns-2 c =
     let test = c.before.before.before.before.before.before.before.before.before.before in
     let from = test.before.before.before in
     let a = from.args in
-    let x = dayLineText openName a.opening in
-    let y = dayLineText closeName a.closing in
+    let x = day_line_text open_name a.opening in
+    let y = day_line_text close_name a.closing in
     let dated = sym test.before.are-none.ensures ∙ test.if1.false in
     let l = parts-length a.opening a.closing dated in
     let p = from.requires in

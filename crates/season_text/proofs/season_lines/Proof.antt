@@ -5,7 +5,7 @@ use borrow.Author.Rules.{rules}
 use borrow.Author.Tests.{not-true, not-false}
 use lib.ListN.{drop, drop_of_length-le}
 use Rattle.lists.proofs.Cuts.{to_end}
-use Rattle.season_text.specs.SeasonLines.{dateBegins, seasonLines}
+use Rattle.season_text.specs.SeasonLines.{date_begins, season_lines}
 use Rattle.season_text.proofs.SeasonLines.{nothing-begins}
 use Rattle.season_text.proofs.season_lines.Statement.{statement}
 use Rattle.season_text.proofs.season_lines.Tie as tie
@@ -14,7 +14,7 @@ none-requires : tie.Need-none-requires
 none-requires c κs = search rules
 
 returns : tie.Need-returns
-unfolding seasonLines
+unfolding season_lines
 returns c =
     let a = c.before.before.before.args in
     simp (c.before.none.ensures, drop_of_length-le a.text.now {i = a.at} (omega arith), nothing-begins)
@@ -33,13 +33,13 @@ date-begins-requires c κs = search rules
 
 -- what the test of the names says
 begun : (c : tie.After-date-begins)
-    → let a = c.before.before.before.before.before.args in c.date-begins.result ≡ dateBegins (drop a.at a.text.now)
+    → let a = c.before.before.before.before.before.args in c.date-begins.result ≡ date_begins (drop a.at a.text.now)
 begun c =
     let a = c.before.before.before.before.before.args in
-    c.date-begins.ensures ∙ ap dateBegins (to_end a.text.now a.at)
+    c.date-begins.ensures ∙ ap date_begins (to_end a.text.now a.at)
 
 returns-2 : tie.Need-returns-2
-unfolding seasonLines
+unfolding season_lines
 returns-2 c = simp (c.before.before.before.before.none.ensures, sym (begun c.before) ∙ not-true _ c.if2.true)
 
 slice-aggregate-day-line : tie.Need-slice-aggregate-day-line
@@ -55,7 +55,7 @@ enum_told : tie.Need-enum-told
 enum_told c = search rules
 
 returns-3 : tie.Need-returns-3
-unfolding seasonLines
+unfolding season_lines
 returns-3 c =
     let test = c.before.before.before.before in
     simp (
@@ -76,7 +76,7 @@ enum-told-2 : tie.Need-enum-told-2
 enum-told-2 c = search rules
 
 returns-4 : tie.Need-returns-4
-unfolding seasonLines
+unfolding season_lines
 returns-4 c =
     let first = c.before.before.before.before.before in
     let test = first.before.before.before.before in
@@ -87,7 +87,7 @@ returns-4 c =
     )
 
 returns-5 : tie.Need-returns-5
-unfolding seasonLines
+unfolding season_lines
 returns-5 c =
     let last = c.before in
     let first = last.before.before.before.before.before in

@@ -2,7 +2,7 @@
 use mathlib.Core.Path.{sym, ◌∙◌}
 use lib.ListN.{length}
 use borrow.Author.Rules.{rules}
-use Rattle.codes.specs.Codes.{schemeOf}
+use Rattle.codes.specs.Codes.{scheme_of}
 use Rattle.server.proofs.Laws.{Answers, answer-passed, answer-refused, answer-done}
 use Rattle.server.proofs.answer.Statement.{statement}
 use Rattle.server.proofs.answer.Tie as tie
@@ -18,7 +18,7 @@ returns c =
     let a = c.before.before.before.before.before.before.before.args in
     let asked = c.before.before.before.verdict in
     let told = c.before.refusal.given in
-    answer-refused schemeOf a.c a.today a.server a.store.now a.query.now a.out.now asked.result told.0.0 asked.ensures told.1
+    answer-refused scheme_of a.c a.today a.server a.store.now a.query.now a.out.now asked.result told.0.0 asked.ensures told.1
 
 enum_told : tie.Need-enum-told
 enum_told c = search rules
@@ -26,10 +26,10 @@ enum_told c = search rules
 -- once the verdict is accepted
 passed : (c : tie.After-enum-told) →
     let a = c.before.before.before.before.before.before.args in
-    Answers schemeOf a.c a.today a.server (length a.store.now) a.query.now (length a.out.now)
+    Answers scheme_of a.c a.today a.server (length a.store.now) a.query.now (length a.out.now)
 passed c =
     let a = c.before.before.before.before.before.before.args in
-    answer-passed schemeOf a.c a.today a.server (length a.store.now) a.query.now (length a.out.now)
+    answer-passed scheme_of a.c a.today a.server (length a.store.now) a.query.now (length a.out.now)
     (sym c.before.before.verdict.ensures ∙ c.enum_told.given.1)
 
 answer-requires : tie.Need-answer-requires
@@ -47,7 +47,7 @@ returns-2 c =
     let a = c.before.before.before.before.before.before.before.before.before.before.before.args in
     let told = c.before.before.before.before.before in
     let asked = told.before.before.verdict in
-    answer-done schemeOf a.c a.today a.server a.store.now a.query.now a.out.now asked.result c.answer-length.result _
+    answer-done scheme_of a.c a.today a.server a.store.now a.query.now a.out.now asked.result c.answer-length.result _
     asked.ensures told.enum_told.given.1 c.answer-length.ensures c.before.before.before.answer.ensures
 
 pub answer-spec : {M : Type 1} → statement M

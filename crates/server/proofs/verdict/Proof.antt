@@ -7,9 +7,9 @@ use Rattle.parameters.specs.declared.Sizes.{Sizes}
 use Rattle.catalogue.specs.Catalogue.{Admitted}
 use Rattle.catalogue.specs.Days.{Served}
 use Rattle.catalogue.proofs.Faults.{after-catalogue}
-use Rattle.codes.specs.Codes.{schemeOf}
+use Rattle.codes.specs.Codes.{scheme_of}
 use Rattle.codes.proofs.Measured.{measured, unmeasured}
-use Rattle.server.specs.Answering.{answerVerdict}
+use Rattle.server.specs.Answering.{answer_verdict}
 use Rattle.server.proofs.Laws.{answer-accepted}
 use Rattle.server.proofs.Refusals.{day-refused, server-refused, query-refused, store-refused, room-refused}
 use Rattle.server.proofs.verdict.Statement.{statement}
@@ -28,7 +28,7 @@ verdict-requires : tie.Need-verdict-requires
 verdict-requires c κs = search rules
 
 returns : tie.Need-returns
-unfolding answerVerdict
+unfolding answer_verdict
 returns c =
     let from = c.before.before.before in
     let value = from.before.before.args.c in
@@ -42,7 +42,7 @@ admitted c =
     let from = c.before.before in
     (measured from.before.before.args.c from.sizes.result c.sizes2.given.0.0 from.sizes.ensures c.sizes2.given.1).0
 
-store-size : (c : tie.After-sizes2) → c.sizes2.given.0.0.store ≡ (schemeOf c.before.before.before.before.args.c).sizes.store
+store-size : (c : tie.After-sizes2) → c.sizes2.given.0.0.store ≡ (scheme_of c.before.before.before.before.args.c).sizes.store
 store-size c =
     let from = c.before.before in
     let told = c.sizes2.given in
@@ -59,7 +59,7 @@ returns-2 c =
     let sized = c.before.before.before.before.before in
     let a = sized.before.before.before.before.args in
     let asked = c.before.before.before.day-verdict in
-    day-refused schemeOf a.c a.today a.server a.stored a.query.now a.room (admitted sized)
+    day-refused scheme_of a.c a.today a.server a.stored a.query.now a.room (admitted sized)
     c.before.refusal.given.0.0 (sym asked.ensures ∙ c.before.refusal.given.1)
 
 enum-told-2 : tie.Need-enum-told-2
@@ -74,7 +74,7 @@ returns-3 c =
     let day = c.before.before in
     let sized = day.before.before.before.before in
     let a = sized.before.before.before.before.args in
-    server-refused schemeOf a.c a.today a.server a.stored a.query.now a.room (admitted sized) (served day) c.if1.true
+    server-refused scheme_of a.c a.today a.server a.stored a.query.now a.room (admitted sized) (served day) c.if1.true
 
 admits-requires : tie.Need-admits-requires
 admits-requires c κs = admitted c.before.before.before.before.before.before
@@ -85,12 +85,12 @@ returns-4 c =
     let sized = day.before.before.before.before in
     let a = sized.before.before.before.before.args in
     let asked = c.before.admits in
-    query-refused schemeOf a.c a.today a.server a.stored a.query.now a.room (admitted sized) (served day)
+    query-refused scheme_of a.c a.today a.server a.stored a.query.now a.room (admitted sized) (served day)
     c.before.before.if1.false (sym asked.ensures ∙ not-true asked.result c.if2.true)
 
 -- the query is admitted
 good : (c : tie.Else2) → let a = c.before.before.before.before.before.before.before.before.before.before.before.before.args in
-    (schemeOf a.c).admits a.server a.query.now ≡ true
+    (scheme_of a.c).admits a.server a.query.now ≡ true
 good c = sym c.before.admits.ensures ∙ not-false c.before.admits.result c.if2.false
 
 returns-5 : tie.Need-returns-5
@@ -98,7 +98,7 @@ returns-5 c =
     let day = c.before.before.before.before.before.before in
     let sized = day.before.before.before.before in
     let a = sized.before.before.before.before.args in
-    store-refused schemeOf a.c a.today a.server a.stored a.query.now a.room (admitted sized) (served day)
+    store-refused scheme_of a.c a.today a.server a.stored a.query.now a.room (admitted sized) (served day)
     c.before.before.before.before.if1.false (good c.before.before) (λ e. c.if3.true (e ∙ sym (store-size sized)))
 
 answer-length-requires : tie.Need-answer-length-requires
@@ -109,7 +109,7 @@ returns-6 c =
     let day = c.before.before.before.before.before.before.before.before in
     let sized = day.before.before.before.before in
     let a = sized.before.before.before.before.args in
-    room-refused schemeOf a.c a.today a.server a.stored a.query.now a.room (admitted sized) (served day)
+    room-refused scheme_of a.c a.today a.server a.stored a.query.now a.room (admitted sized) (served day)
     c.before.before.before.before.before.before.if1.false (good c.before.before.before.before) (c.before.before.if3.false ∙ store-size sized)
     (rw c.before.answer-length.ensures at c.if4.true)
 
@@ -118,7 +118,7 @@ returns-7 c =
     let day = c.before.before.before.before.before.before.before.before in
     let sized = day.before.before.before.before in
     let a = sized.before.before.before.before.args in
-    sym (answer-accepted schemeOf a.c a.today a.server a.stored a.query.now a.room (record {
+    sym (answer-accepted scheme_of a.c a.today a.server a.stored a.query.now a.room (record {
       admitted = admitted sized;
       served = served day;
       below = c.before.before.before.before.before.before.if1.false;

@@ -5,7 +5,7 @@ use native.Mathlib.Omega.{arith}
 use borrow.Author.Rules.{rules}
 use Rattle.refusal.specs.declared.Outcome.TheVariants.{Value}
 use Rattle.parameters.specs.declared.Sizes.{Sizes}
-use Rattle.codes.specs.Codes.{schemeOf}
+use Rattle.codes.specs.Codes.{scheme_of}
 use Rattle.session_checks.proofs.Keys.{sizes-small}
 use Rattle.session.proofs.ByteBound.{bound-done, bound-refused}
 use Rattle.session.proofs.bound.Statement.{statement}
@@ -23,7 +23,7 @@ returns c =
     let asked = told.before.before in
     let start = asked.before in
     let v = asked.verdict in
-    sym (bound-refused schemeOf start.args.catalogue v.result _ v.ensures told.refusal.given.1)
+    sym (bound-refused scheme_of start.args.catalogue v.result _ v.ensures told.refusal.given.1)
 
 enum_told : tie.Need-enum-told
 enum_told c = search rules
@@ -49,7 +49,7 @@ returns-2 c =
     let catalogue = start.args.catalogue in
     let v = asked.verdict in
     ap (λ (sizes : Sizes). Value (catalogue.servers * sizes.slot)) sized.sizes-of.ensures
-    ∙ sym (bound-done schemeOf catalogue v.result v.ensures told.enum_told.given.1)
+    ∙ sym (bound-done scheme_of catalogue v.result v.ensures told.enum_told.given.1)
 
 pub bound-spec : {M : Type 1} → statement M
 bound-spec =

@@ -1,6 +1,6 @@
 -- `session::new_session` meets its contract: its key is what `padded_key` gives, its marks are not set, and its meters are 0.
 use borrow.Author.Rules.{rules}
-use Rattle.session_parts.specs.Marks.{noMarks}
+use Rattle.session_parts.specs.Marks.{no_marks}
 use Rattle.session.proofs.new_session.Statement.{statement}
 use Rattle.session.proofs.new_session.Tie as tie
 
@@ -11,7 +11,7 @@ no-meters-requires : tie.Need-no-meters-requires
 no-meters-requires c κs = search rules
 
 returns : tie.Need-returns
-unfolding noMarks
+unfolding no_marks
 returns c = rw (c.no-meters.ensures, c.before.padded-key.ensures)
 
 pub new-session-spec : {M : Type 1} → statement M

@@ -3,8 +3,8 @@ use borrow.Author.Rules.{rules}
 use borrow.Author.Tests.{not-true, not-false}
 use Rattle.session_parts.specs.Marks.{marked}
 use Rattle.refusal.proofs.Chain.{chain-after}
-use Rattle.codes.specs.Codes.{schemeOf}
-use Rattle.session_checks.specs.Checks.{historyFaults, dueFaults}
+use Rattle.codes.specs.Codes.{scheme_of}
+use Rattle.session_checks.specs.Checks.{history_faults, due_faults}
 use Rattle.session_checks.proofs.due_verdict.Statement.{statement}
 use Rattle.session_checks.proofs.due_verdict.Tie as tie
 
@@ -18,8 +18,8 @@ returns : tie.Need-returns
 returns c =
     let asked = c.before.before.before in
     let args = asked.before.before.args in
-    let past = historyFaults schemeOf args.c args.wanted args.key.now args.issued.now args.taken.now args.m in
-    let due = dueFaults args.issued.now args.taken.now args.server in
+    let past = history_faults scheme_of args.c args.wanted args.key.now args.issued.now args.taken.now args.m in
+    let due = due_faults args.issued.now args.taken.now args.server in
     chain-after past due _ _ asked.history-verdict.ensures (rw c.before.refusal.given.1)
 
 enum_told : tie.Need-enum-told
@@ -33,8 +33,8 @@ returns-2 c =
     let told = c.before.before in
     let asked = told.before.before in
     let args = asked.before.before.args in
-    let past = historyFaults schemeOf args.c args.wanted args.key.now args.issued.now args.taken.now args.m in
-    let due = dueFaults args.issued.now args.taken.now args.server in
+    let past = history_faults scheme_of args.c args.wanted args.key.now args.issued.now args.taken.now args.m in
+    let due = due_faults args.issued.now args.taken.now args.server in
     chain-after past due _ _ asked.history-verdict.ensures
     (rw (told.enum_told.given.1, not-true (marked args.issued.now args.server) c.if1.true))
 
@@ -47,8 +47,8 @@ returns-3 c =
     let told = first.before.before in
     let asked = told.before.before in
     let args = asked.before.before.args in
-    let past = historyFaults schemeOf args.c args.wanted args.key.now args.issued.now args.taken.now args.m in
-    let due = dueFaults args.issued.now args.taken.now args.server in
+    let past = history_faults scheme_of args.c args.wanted args.key.now args.issued.now args.taken.now args.m in
+    let due = due_faults args.issued.now args.taken.now args.server in
     chain-after past due _ _ asked.history-verdict.ensures
     (rw (told.enum_told.given.1, not-false (marked args.issued.now args.server) first.if1.false, c.if2.true))
 
@@ -58,8 +58,8 @@ returns-4 c =
     let told = first.before.before in
     let asked = told.before.before in
     let args = asked.before.before.args in
-    let past = historyFaults schemeOf args.c args.wanted args.key.now args.issued.now args.taken.now args.m in
-    let due = dueFaults args.issued.now args.taken.now args.server in
+    let past = history_faults scheme_of args.c args.wanted args.key.now args.issued.now args.taken.now args.m in
+    let due = due_faults args.issued.now args.taken.now args.server in
     chain-after past due _ _ asked.history-verdict.ensures
     (rw (told.enum_told.given.1, not-false (marked args.issued.now args.server) first.if1.false, c.if2.false))
 

@@ -5,9 +5,9 @@ use mathlib.Core.List.{[], ◌∷◌}
 use borrow.Author.Rules.{rules}
 use borrow.Author.Tests.{not-true, not-false}
 use Rattle.refusal.proofs.Chain.{chain-after}
-use Rattle.session_parts.specs.Marks.{allTaken}
-use Rattle.codes.specs.Codes.{schemeOf}
-use Rattle.session_checks.specs.Checks.{historyFaults, missingFault}
+use Rattle.session_parts.specs.Marks.{all_taken}
+use Rattle.codes.specs.Codes.{scheme_of}
+use Rattle.session_checks.specs.Checks.{history_faults, missing_fault}
 use Rattle.session_checks.proofs.missing_verdict.Statement.{statement}
 use Rattle.session_checks.proofs.missing_verdict.Tie as tie
 
@@ -21,8 +21,8 @@ returns : tie.Need-returns
 returns c =
     let asked = c.before.before.before in
     let args = asked.before.before.args in
-    let past = historyFaults schemeOf args.c args.wanted args.key.now args.issued.now args.taken.now args.m in
-    let missing = missingFault args.c.servers args.taken.now ∷ [] in
+    let past = history_faults scheme_of args.c args.wanted args.key.now args.issued.now args.taken.now args.m in
+    let missing = missing_fault args.c.servers args.taken.now ∷ [] in
     chain-after past missing _ _ asked.history-verdict.ensures (rw c.before.refusal.given.1)
 
 enum_told : tie.Need-enum-told
@@ -37,9 +37,9 @@ returns-2 c =
     let told = checked.before in
     let asked = told.before.before in
     let args = asked.before.before.args in
-    let all : allTaken args.c.servers args.taken.now ≡ false = sym checked.all-taken.ensures ∙ not-true _ c.if1.true in
-    let past = historyFaults schemeOf args.c args.wanted args.key.now args.issued.now args.taken.now args.m in
-    let missing = missingFault args.c.servers args.taken.now ∷ [] in
+    let all : all_taken args.c.servers args.taken.now ≡ false = sym checked.all-taken.ensures ∙ not-true _ c.if1.true in
+    let past = history_faults scheme_of args.c args.wanted args.key.now args.issued.now args.taken.now args.m in
+    let missing = missing_fault args.c.servers args.taken.now ∷ [] in
     chain-after past missing _ _ asked.history-verdict.ensures
     (rw (told.enum_told.given.1, all))
 
@@ -49,9 +49,9 @@ returns-3 c =
     let told = checked.before in
     let asked = told.before.before in
     let args = asked.before.before.args in
-    let all : allTaken args.c.servers args.taken.now ≡ true = sym checked.all-taken.ensures ∙ not-false _ c.if1.false in
-    let past = historyFaults schemeOf args.c args.wanted args.key.now args.issued.now args.taken.now args.m in
-    let missing = missingFault args.c.servers args.taken.now ∷ [] in
+    let all : all_taken args.c.servers args.taken.now ≡ true = sym checked.all-taken.ensures ∙ not-false _ c.if1.false in
+    let past = history_faults scheme_of args.c args.wanted args.key.now args.issued.now args.taken.now args.m in
+    let missing = missing_fault args.c.servers args.taken.now ∷ [] in
     chain-after past missing _ _ asked.history-verdict.ensures
     (rw (told.enum_told.given.1, all))
 

@@ -4,8 +4,8 @@ use mathlib.Core.List.{[], ◌∷◌}
 use native.Mathlib.Omega.{arith}
 use borrow.Author.Rules.{rules}
 use Rattle.refusal.proofs.Chain.{chain-after}
-use Rattle.codes.specs.Codes.{schemeOf}
-use Rattle.session_checks.specs.Checks.{historyFaults, fullFault}
+use Rattle.codes.specs.Codes.{scheme_of}
+use Rattle.session_checks.specs.Checks.{history_faults, full_fault}
 use Rattle.session_checks.proofs.Keys.{sizes-small}
 use Rattle.session_checks.proofs.sent_verdict.Statement.{statement}
 use Rattle.session_checks.proofs.sent_verdict.Tie as tie
@@ -20,8 +20,8 @@ returns : tie.Need-returns
 returns c =
     let asked = c.before.before.before in
     let args = asked.before.before.args in
-    let past = historyFaults schemeOf args.c args.wanted args.key.now args.issued.now args.taken.now args.m in
-    let full = fullFault args.m args.server (schemeOf args.c).sizes.query ∷ [] in
+    let past = history_faults scheme_of args.c args.wanted args.key.now args.issued.now args.taken.now args.m in
+    let full = full_fault args.m args.server (scheme_of args.c).sizes.query ∷ [] in
     chain-after past full _ _ asked.history-verdict.ensures (rw c.before.refusal.given.1)
 
 enum_told : tie.Need-enum-told
@@ -31,7 +31,7 @@ meter-full-requires : tie.Need-meter-full-requires
 meter-full-requires c κs =
     let start = c.before.before.before.before in
     let pre = start.requires in
-    (pre.1.1.1.1, omega (arith, pre.1.0, (sizes-small start.args.c (schemeOf start.args.c).sizes pre.0 refl).query))
+    (pre.1.1.1.1, omega (arith, pre.1.0, (sizes-small start.args.c (scheme_of start.args.c).sizes pre.0 refl).query))
 
 returns-2 : tie.Need-returns-2
 returns-2 c =
@@ -40,8 +40,8 @@ returns-2 c =
     let asked = told.before.before in
     let start = asked.before.before in
     let args = start.args in
-    let past = historyFaults schemeOf args.c args.wanted args.key.now args.issued.now args.taken.now args.m in
-    let full = fullFault args.m args.server (schemeOf args.c).sizes.query ∷ [] in
+    let past = history_faults scheme_of args.c args.wanted args.key.now args.issued.now args.taken.now args.m in
+    let full = full_fault args.m args.server (scheme_of args.c).sizes.query ∷ [] in
     chain-after past full _ _ asked.history-verdict.ensures
     (rw (told.enum_told.given.1, ← start.requires.1.0, sym checked.meter-full.ensures ∙ c.if1.true))
 
@@ -52,8 +52,8 @@ returns-3 c =
     let asked = told.before.before in
     let start = asked.before.before in
     let args = start.args in
-    let past = historyFaults schemeOf args.c args.wanted args.key.now args.issued.now args.taken.now args.m in
-    let full = fullFault args.m args.server (schemeOf args.c).sizes.query ∷ [] in
+    let past = history_faults scheme_of args.c args.wanted args.key.now args.issued.now args.taken.now args.m in
+    let full = full_fault args.m args.server (scheme_of args.c).sizes.query ∷ [] in
     chain-after past full _ _ asked.history-verdict.ensures
     (rw (told.enum_told.given.1, ← start.requires.1.0, sym checked.meter-full.ensures ∙ c.if1.false))
 

@@ -6,7 +6,7 @@ use native.Mathlib.Omega.{arith}
 use borrow.Author.Tests.{not-true, not-false}
 use Rattle.lists.specs.Ranges.{every}
 use Rattle.lists.proofs.Every.{every-none, every_more, every-false}
-use Rattle.session_parts.specs.Marks.{marked, allTaken}
+use Rattle.session_parts.specs.Marks.{marked, all_taken}
 use Rattle.session_parts.proofs.all_taken.Statement.{statement}
 use Rattle.session_parts.proofs.all_taken.Tie as tie
 
@@ -23,7 +23,7 @@ element-copy-out-if1 : tie.Need-element-copy-out-if1 invariant-loop decreases-lo
 element-copy-out-if1 c = omega arith
 
 returns : tie.Need-returns invariant-loop decreases-loop
-unfolding allTaken
+unfolding all_taken
 returns c =
     let at = c.before.before.before in
     sym (every-false at.before.args.servers _ at.loop.i (omega arith) (not-true _ c.if1.true))
@@ -40,7 +40,7 @@ loop-again c =
     (omega arith, every_more at.loop.i _ at.loop.invariant.1 (not-false _ c.if1.false))
 
 returns-2 : tie.Need-returns-2 invariant-loop decreases-loop
-unfolding allTaken
+unfolding all_taken
 returns-2 c =
     let e : c.before.loop.i ≡ c.before.before.args.servers = omega arith in
     sym (rw e at c.before.loop.invariant.1)

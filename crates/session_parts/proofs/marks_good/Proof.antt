@@ -7,12 +7,12 @@ use borrow.Author.Rules.{rules}
 use borrow.Author.Tests.{not-true, not-false}
 use Rattle.lists.specs.Ranges.{every}
 use Rattle.lists.proofs.Every.{every-none, every_more, every-false}
-use Rattle.session_parts.specs.Marks.{marked, markGood, marksGood}
+use Rattle.session_parts.specs.Marks.{marked, mark_good, marks_good}
 use Rattle.session_parts.proofs.marks_good.Statement.{statement}
 use Rattle.session_parts.proofs.marks_good.Tie as tie
 
 abbrev invariant-loop : tie.invariant-loop
-invariant-loop servers issued taken i₀ i = (i ≤ 16) × (every i (λ place. markGood servers place (marked issued place) (marked taken place)) ≡ true)
+invariant-loop servers issued taken i₀ i = (i ≤ 16) × (every i (λ place. mark_good servers place (marked issued place) (marked taken place)) ≡ true)
 
 abbrev decreases-loop : tie.decreases-loop
 decreases-loop servers issued taken i₀ i = 16 - i
@@ -30,7 +30,7 @@ mark-good-requires : tie.Need-mark-good-requires invariant-loop decreases-loop
 mark-good-requires c κs = search rules
 
 returns : tie.Need-returns invariant-loop decreases-loop
-unfolding marksGood
+unfolding marks_good
 returns c =
     let at = c.before.before.before.before.before in
     sym (every-false 16 _ at.loop.i (omega arith) (sym c.before.mark-good.ensures ∙ not-true _ c.if1.true))
@@ -47,7 +47,7 @@ loop-again c =
     (omega arith, every_more at.loop.i _ at.loop.invariant.1 (sym c.before.mark-good.ensures ∙ not-false _ c.if1.false))
 
 returns-2 : tie.Need-returns-2 invariant-loop decreases-loop
-unfolding marksGood
+unfolding marks_good
 returns-2 c =
     let e : c.before.loop.i ≡ 16 = omega arith in
     sym (rw e at c.before.loop.invariant.1)

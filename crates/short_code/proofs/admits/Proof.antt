@@ -7,19 +7,19 @@ use borrow.Author.Tests.{eq-eqb, ne_eqb, not-true, not-false}
 use lib.Dec.{eqb}
 use lib.ListN.{length}
 use Rattle.lists.specs.Below.{all_below}
-use Rattle.short_scheme.specs.Short.{shortAdmits}
+use Rattle.short_scheme.specs.Short.{short_admits}
 use Rattle.short_code.proofs.admits.Statement.{statement}
 use Rattle.short_code.proofs.admits.Tie as tie
 
 returns : tie.Need-returns
-unfolding shortAdmits
+unfolding short_admits
 returns c = let a = c.before.before.args in rw (ne_eqb (length a.query.now) a.k c.if1.true)
 
 all-below-requires : tie.Need-all-below-requires
 all-below-requires c κs = search rules
 
 returns-2 : tie.Need-returns-2
-unfolding shortAdmits
+unfolding short_admits
 returns-2 c =
     let a = c.before.before.before.before.args in
     let below : all_below a.n a.query.now ≡ false = sym c.before.all-below.ensures ∙ not-true c.before.all-below.result c.if2.true in
@@ -29,7 +29,7 @@ digit-sum-requires : tie.Need-digit-sum-requires
 digit-sum-requires c κs = sym c.before.all-below.ensures ∙ not-false c.before.all-below.result c.if2.false
 
 returns-3 : tie.Need-returns-3
-unfolding shortAdmits
+unfolding short_admits
 returns-3 c =
     let at = c.before in
     let a = at.before.before.before.before.args in

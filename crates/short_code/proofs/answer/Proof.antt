@@ -1,8 +1,8 @@
 -- `short_code::answer` meets its contract: the digits of a query name symbols of the store, n - 1 for each message.
 use native.Mathlib.Omega.{arith}
-use Rattle.parameters.specs.Measures.{shortSizes}
+use Rattle.parameters.specs.Measures.{short_sizes}
 use Rattle.parameters.proofs.Bounds.{short-bounds}
-use Rattle.short_scheme.specs.Short.{shortAnswer}
+use Rattle.short_scheme.specs.Short.{short_answer}
 use Rattle.short_scheme.proofs.Named.{query-stored}
 use borrow.Author.Rules.{rules}
 use Rattle.short_code.proofs.answer.Statement.{statement}
@@ -15,7 +15,7 @@ sub-answer c =
     omega arith
 
 answer-requires : tie.Need-answer-requires
-unfolding shortSizes
+unfolding short_sizes
 answer-requires c κs =
     let start = c.before.before.before.before in
     let a = start.args in
@@ -26,7 +26,7 @@ same_length : tie.Need-same-length
 same_length c = search rules
 
 returns : tie.Need-returns
-unfolding shortAnswer
+unfolding short_answer
 returns c = c.before.before.answer.ensures.1
 
 pub answer-spec : {M : Type 1} → statement M

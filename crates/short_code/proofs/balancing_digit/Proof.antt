@@ -3,7 +3,7 @@ use mathlib.Core.Path.{ap, ◌∙◌}
 use Prim.Native.Nat.{ℕ, ◌+◌, ◌-◌, ◌%◌, ◌<◌}
 use native.Mathlib.Nat.{mod-lt}
 use native.Mathlib.Omega.{arith}
-use Rattle.short_scheme.specs.Short.{digitSum}
+use Rattle.short_scheme.specs.Short.{digit_sum}
 use Rattle.short_code.proofs.balancing_digit.Statement.{statement}
 use Rattle.short_code.proofs.balancing_digit.Tie as tie
 
@@ -14,7 +14,7 @@ subtract-modulo-requires : tie.Need-subtract-modulo-requires
 subtract-modulo-requires c κs =
     let start = c.before.before in
     let a = start.args in
-    let m : digitSum a.key.now % a.n < a.n = mod-lt (digitSum a.key.now) (omega arith) in
+    let m : digit_sum a.key.now % a.n < a.n = mod-lt (digit_sum a.key.now) (omega arith) in
     (start.requires.0, omega (arith, c.digit-sum.ensures.0))
 
 returns : tie.Need-returns

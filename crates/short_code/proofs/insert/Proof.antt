@@ -5,7 +5,7 @@ use Prim.Native.Nat.{ℕ, suc, ◌-◌, ◌≤◌}
 use native.Mathlib.Omega.{arith}
 use lib.ListN.{length, take, drop, set, length-set}
 use lib.Seq.{take_all}
-use Rattle.lists.specs.Inserts.{insertAt}
+use Rattle.lists.specs.Inserts.{insert_at}
 use Rattle.lists.proofs.Inserts.{insert-length}
 use Rattle.lists.proofs.Puts.{copy_more}
 use Rattle.short_code.proofs.insert.Statement.{statement}
@@ -13,7 +13,7 @@ use Rattle.short_code.proofs.insert.Tie as tie
 
 abbrev invariant-loop : tie.invariant-loop
 invariant-loop wanted digit key out₀ last p₀ out p =
-    (p ≤ suc (length key)) × (length out ≡ length out₀) × (out ≡ take p (insertAt wanted digit key) ++ drop p out₀)
+    (p ≤ suc (length key)) × (length out ≡ length out₀) × (out ≡ take p (insert_at wanted digit key) ++ drop p out₀)
 
 abbrev decreases-loop : tie.decreases-loop
 decreases-loop wanted digit key out₀ last p₀ out p = suc (length key) - p
@@ -37,7 +37,7 @@ loop-again : tie.Need-loop-preserved invariant-loop decreases-loop
 loop-again c =
     let at = c.before.before in
     let a = at.before.before.before.args in
-    let q = insertAt a.wanted a.digit a.key.now in
+    let q = insert_at a.wanted a.digit a.key.now in
     let l = insert-length a.wanted a.digit a.key.now in
     let p = at.loop.p in (
       omega arith,
@@ -53,7 +53,7 @@ returns : tie.Need-returns invariant-loop decreases-loop
 returns c =
     let at = c.before in
     let a = at.before.before.before.args in
-    let q = insertAt a.wanted a.digit a.key.now in
+    let q = insert_at a.wanted a.digit a.key.now in
     let l = insert-length a.wanted a.digit a.key.now in
     let e : at.loop.p ≡ length q = omega arith in
     at.loop.invariant.2

@@ -3,9 +3,9 @@ use mathlib.Core.Path.{◌≡◌, ap, ◌∙◌}
 use Prim.Native.Nat.{ℕ, ◌<◌}
 use native.Mathlib.Omega.{arith}
 use borrow.Author.Rules.{rules}
-use Rattle.lists.specs.Inserts.{insertAt}
+use Rattle.lists.specs.Inserts.{insert_at}
 use Rattle.lists.specs.Parts.{put}
-use Rattle.short_scheme.specs.Short.{balancing, shortQuery}
+use Rattle.short_scheme.specs.Short.{balancing, short_query}
 use Rattle.short_scheme.proofs.Digits.{balance-below}
 use Rattle.short_code.proofs.query.Statement.{statement}
 use Rattle.short_code.proofs.query.Tie as tie
@@ -27,12 +27,12 @@ same_length : tie.Need-same-length
 same_length c = search rules
 
 returns : tie.Need-returns
-unfolding shortQuery
+unfolding short_query
 returns c =
     let at = c.before.before in
     let a = at.before.before.before.before.before.args in
     at.insert.ensures
-    ∙ ap (λ (d : ℕ). put 0 (insertAt a.wanted d a.key.now) a.out.now) at.before.before.balancing-digit.ensures
+    ∙ ap (λ (d : ℕ). put 0 (insert_at a.wanted d a.key.now) a.out.now) at.before.before.balancing-digit.ensures
 
 pub query-spec : {M : Type 1} → statement M
 query-spec =

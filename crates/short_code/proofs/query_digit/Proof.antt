@@ -4,7 +4,7 @@ use Prim.Native.Nat.{ℕ, suc, ◌-◌}
 use native.Mathlib.Omega.{arith}
 use borrow.Author.Rules.{rules}
 use lib.ListN.{get_or}
-use Rattle.lists.specs.Inserts.{insertAt}
+use Rattle.lists.specs.Inserts.{insert_at}
 use Rattle.lists.proofs.Inserts.{insert-before, insert-here, insert-behind}
 use Rattle.short_code.proofs.query_digit.Statement.{statement}
 use Rattle.short_code.proofs.query_digit.Tie as tie
@@ -20,7 +20,7 @@ returns c =
 returns-2 : tie.Need-returns-2
 returns-2 c =
     let a = c.before.before.args in
-    let q = insertAt a.wanted a.digit a.key.now in
+    let q = insert_at a.wanted a.digit a.key.now in
     let e : a.p ≡ a.wanted = omega arith in
     sym (ap (λ (x : ℕ). get_or q x 0) e ∙ insert-here a.wanted a.digit a.key.now (omega arith))
 
@@ -33,7 +33,7 @@ shared-slice-read-result-2 c = search rules
 returns-3 : tie.Need-returns-3
 returns-3 c =
     let a = c.before.before.before.args in
-    let q = insertAt a.wanted a.digit a.key.now in
+    let q = insert_at a.wanted a.digit a.key.now in
     let e : a.p ≡ suc (a.p - 1) = omega arith in
     sym (ap (λ (x : ℕ). get_or q x 0) e ∙ insert-behind a.wanted a.digit a.key.now (a.p - 1) (omega arith) (omega arith))
 

@@ -8,13 +8,13 @@ use borrow.Author.Rules.{rules}
 use lib.Bits.{bit_xor}
 use lib.ListN.{length, take, set, get_or, length-set}
 use lib.Seq.{take_all}
-use Rattle.symbol.specs.Xor.{xorBytes}
+use Rattle.symbol.specs.Xor.{xor_bytes}
 use Rattle.symbol.proofs.XorBytes.{xor-nil, xor-more}
 use Rattle.symbol.proofs.exclusive_or.Statement.{statement}
 use Rattle.symbol.proofs.exclusive_or.Tie as tie
 
 abbrev invariant-loop : tie.invariant-loop
-invariant-loop dst₀ src i₀ dst i = (i ≤ length src) × (length dst ≡ length dst₀) × (dst ≡ xorBytes dst₀ (take i src))
+invariant-loop dst₀ src i₀ dst i = (i ≤ length src) × (length dst ≡ length dst₀) × (dst ≡ xor_bytes dst₀ (take i src))
 
 abbrev decreases-loop : tie.decreases-loop
 decreases-loop dst₀ src i₀ dst i = length src - i
@@ -46,7 +46,7 @@ loop-again c =
       omega arith,
       simp length-set at.loop.invariant.1,
       ap (λ (l : List ℕ). set l i (bit_xor (get_or l i 0) (get_or s i 0))) at.loop.invariant.2
-          ∙ xor-more d s i (omega arith) (omega arith) ∙ ap (λ (n : ℕ). xorBytes d (take n s)) (sym (add-one i)),
+          ∙ xor-more d s i (omega arith) (omega arith) ∙ ap (λ (n : ℕ). xor_bytes d (take n s)) (sym (add-one i)),
     )
 
 same_length : tie.Need-same-length invariant-loop decreases-loop
@@ -55,7 +55,7 @@ same_length c = search rules
 returns : tie.Need-returns invariant-loop decreases-loop
 returns c =
     let at = c.before in
-    at.loop.invariant.2 ∙ ap (xorBytes _) (take_all at.loop.i at.before.args.src.now (omega arith))
+    at.loop.invariant.2 ∙ ap (xor_bytes _) (take_all at.loop.i at.before.args.src.now (omega arith))
 
 pub exclusive-or-spec : {M : Type 1} → statement M
 exclusive-or-spec =

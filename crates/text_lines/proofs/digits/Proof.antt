@@ -3,13 +3,13 @@ use mathlib.Core.Path.{◌≡◌}
 use Prim.Native.Nat.{◌+◌, ◌-◌, ◌≤◌}
 use native.Mathlib.Omega.{arith}
 use lib.ListN.{length, drop}
-use Rattle.text_lines.specs.Decimal.{digitCount}
+use Rattle.text_lines.specs.Decimal.{digit_count}
 use Rattle.text_lines.proofs.DigitTexts.{is_digit, below-digits, above-digits, count-more, count-stop, count-end}
 use Rattle.text_lines.proofs.digits.Statement.{statement}
 use Rattle.text_lines.proofs.digits.Tie as tie
 
 abbrev invariant-loop : tie.invariant-loop
-invariant-loop text i₀ i = (i ≤ length text) × (digitCount text ≡ i + digitCount (drop i text))
+invariant-loop text i₀ i = (i ≤ length text) × (digit_count text ≡ i + digit_count (drop i text))
 
 abbrev decreases-loop : tie.decreases-loop
 decreases-loop text i₀ i = length text - i

@@ -4,28 +4,28 @@ use native.Mathlib.Omega.{arith}
 use borrow.Author.Rules.{rules}
 use borrow.Author.Tests.{le-leb, lt-leb, lt-ltb, le-ltb}
 use lib.ListN.{get_or-eq_default}
-use Rattle.text_lines.specs.Lines.{isNumeral}
+use Rattle.text_lines.specs.Lines.{is_numeral}
 use Rattle.text_lines.proofs.is_numeral.Statement.{statement}
 use Rattle.text_lines.proofs.is_numeral.Tie as tie
 
 returns : tie.Need-returns
-unfolding isNumeral
+unfolding is_numeral
 returns c = simp (lt-leb _ _ c.if1.true)
 
 returns-2 : tie.Need-returns-2
-unfolding isNumeral
+unfolding is_numeral
 returns-2 c =
     let many : c.before.before.args.most < c.before.before.args.count = omega (arith, c.if2.true) in
     simp (le-leb _ _ c.before.if1.false, lt-leb _ _ many)
 
 returns-3 : tie.Need-returns-3
-unfolding isNumeral
+unfolding is_numeral
 returns-3 c =
     let few : c.before.before.before.args.count ≤ c.before.before.before.args.most = omega (arith, c.if3.true) in
     simp (le-leb _ _ c.before.before.if1.false, le-leb _ _ few, le-ltb _ _ c.if3.true)
 
 returns-4 : tie.Need-returns-4
-unfolding isNumeral
+unfolding is_numeral
 returns-4 c =
     let from = c.before.before.before in
     let text = from.before.args.text.now in
@@ -37,7 +37,7 @@ shared-slice-read-result : tie.Need-shared-slice-read-result
 shared-slice-read-result c = search rules
 
 returns-5 : tie.Need-returns-5
-unfolding isNumeral
+unfolding is_numeral
 returns-5 c =
     let from = c.before.before.before.before in
     let few : from.before.args.count ≤ from.before.args.most = omega (arith, c.before.before.before.if2.false) in

@@ -8,7 +8,7 @@ use lib.Dec.{leb}
 use lib.ListN.{length, take, length-take, get_or-eq_default}
 use lib.Seq.{length-take-le}
 use Rattle.lists.proofs.Both.{both_true}
-use Rattle.text_lines.specs.Lines.{isNumeral, number_at}
+use Rattle.text_lines.specs.Lines.{is_numeral, number_at}
 use Rattle.text_lines.proofs.DigitTexts.{count-first}
 use Rattle.text_lines.proofs.number.Statement.{statement}
 use Rattle.text_lines.proofs.number.Tie as tie
@@ -46,7 +46,7 @@ slice-aggregate-value : tie.Need-slice-aggregate-value
 slice-aggregate-value c = simp length-take (omega arith)
 
 value-requires : tie.Need-value-requires
-unfolding isNumeral
+unfolding is_numeral
 value-requires c κs =
     let from = c.before.before.before.before.before in
     let d = from.before.digits in

@@ -7,7 +7,7 @@ use borrow.Author.Rules.{rules}
 use borrow.Author.Tests.{not-true, not-false}
 use lib.ListN.{length, drop, length-take, length-drop}
 use Rattle.lists.proofs.Cuts.{to_end}
-use Rattle.text_lines.specs.Lines.{begins, number_at, numberLine}
+use Rattle.text_lines.specs.Lines.{begins, number_at, number_line}
 use Rattle.text_lines.proofs.NumberLines.{past_end, name-within}
 use Rattle.text_lines.proofs.number_line.Statement.{statement}
 use Rattle.text_lines.proofs.number_line.Tie as tie
@@ -45,7 +45,7 @@ starts-requires : tie.Need-starts-requires
 starts-requires c κs = search rules
 
 returns-2 : tie.Need-returns-2
-unfolding numberLine
+unfolding number_line
 returns-2 c = simp (sym (tested c.before) ∙ not-true _ c.if2.true)
 
 add_start : tie.Need-overflow-add-start
@@ -66,7 +66,7 @@ number-requires c κs =
     simp (length-take, length-drop) (omega (arith, c.before.before.before.before.before.before.before.well-formed))
 
 returns-3 : tie.Need-returns-3
-unfolding numberLine
+unfolding number_line
 returns-3 c =
     let a = c.before.before.before.before.before.before.before.before.args in
     let start = a.at + length a.name.now in

@@ -6,13 +6,13 @@ use native.Mathlib.Numerals.{add-one}
 use native.Mathlib.Omega.{arith}
 use lib.ListN.{length, drop, get_or}
 use Rattle.lists.proofs.Each.{All-get}
-use Rattle.text_lines.specs.Decimal.{valueFrom}
+use Rattle.text_lines.specs.Decimal.{value_from}
 use Rattle.text_lines.proofs.DigitTexts.{digit-range, all_digits, value-more, value-end}
 use Rattle.text_lines.proofs.value.Statement.{statement}
 use Rattle.text_lines.proofs.value.Tie as tie
 
 abbrev invariant-loop : tie.invariant-loop
-invariant-loop text n₀ i₀ n i = (i ≤ length text) × (n < 10 ^ i) × (valueFrom 0 text ≡ valueFrom n (drop i text))
+invariant-loop text n₀ i₀ n i = (i ≤ length text) × (n < 10 ^ i) × (value_from 0 text ≡ value_from n (drop i text))
 
 abbrev decreases-loop : tie.decreases-loop
 decreases-loop text n₀ i₀ n i = length text - i

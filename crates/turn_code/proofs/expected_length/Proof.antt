@@ -3,8 +3,8 @@ use mathlib.Core.Path.{sym, ap, ◌∙◌}
 use Prim.Native.Nat.{ℕ}
 use native.Mathlib.Omega.{arith}
 use borrow.Author.Rules.{rules}
-use Rattle.short_scheme.specs.Short.{shortQuery, shortAnswerLength}
-use Rattle.turn_code.specs.Turn.{otherDigits, turnQuery}
+use Rattle.short_scheme.specs.Short.{short_query, short_answer_length}
+use Rattle.turn_code.specs.Turn.{other_digits, turn_query}
 use Rattle.turn_code.proofs.Keys.{others-length}
 use Rattle.turn_code.proofs.Parts.{part-below}
 use Rattle.turn_code.proofs.expected_length.Statement.{statement}
@@ -25,12 +25,12 @@ expected-length-requires c κs =
     omega (arith, c.before.part.ensures, part-below a.n a.key.now (omega arith) a.server)
 
 returns : tie.Need-returns
-unfolding turnQuery
+unfolding turn_query
 returns c =
     let played = c.before.before in
     let a = played.before.before.args in
     c.expected-length.ensures
-    ∙ ap (λ (n : ℕ). shortAnswerLength a.s (shortQuery a.n a.wanted n (otherDigits a.key.now))) played.part.ensures
+    ∙ ap (λ (n : ℕ). short_answer_length a.s (short_query a.n a.wanted n (other_digits a.key.now))) played.part.ensures
 
 pub expected-length-spec : {M : Type 1} → statement M
 expected-length-spec =

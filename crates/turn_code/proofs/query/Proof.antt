@@ -4,8 +4,8 @@ use Prim.Native.Nat.{ℕ, ◌<◌}
 use native.Mathlib.Omega.{arith}
 use borrow.Author.Rules.{rules}
 use Rattle.lists.specs.Parts.{put}
-use Rattle.short_scheme.specs.Short.{shortQuery}
-use Rattle.turn_code.specs.Turn.{otherDigits, turnQuery}
+use Rattle.short_scheme.specs.Short.{short_query}
+use Rattle.turn_code.specs.Turn.{other_digits, turn_query}
 use Rattle.turn_code.proofs.Keys.{others-length, others-good}
 use Rattle.turn_code.proofs.Parts.{part-below}
 use Rattle.turn_code.proofs.query.Statement.{statement}
@@ -33,13 +33,13 @@ same_length : tie.Need-same-length
 same_length c = search rules
 
 returns : tie.Need-returns
-unfolding turnQuery
+unfolding turn_query
 returns c =
     let made = c.before.before in
     let played = made.before.before.before in
     let a = played.before.before.before.args in
     made.query.ensures
-    ∙ ap (λ (n : ℕ). put 0 (shortQuery a.n a.wanted n (otherDigits a.key.now)) a.out.now) played.part.ensures
+    ∙ ap (λ (n : ℕ). put 0 (short_query a.n a.wanted n (other_digits a.key.now)) a.out.now) played.part.ensures
 
 pub query-spec : {M : Type 1} → statement M
 query-spec =

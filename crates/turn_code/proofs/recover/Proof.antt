@@ -10,14 +10,14 @@ use lib.ListN.{length}
 use Rattle.lists.specs.Parts.{lay}
 use Rattle.lists.specs.Below.{Below}
 use Rattle.lists.specs.Ranges.{range}
-use Rattle.parameters.specs.Measures.{shortSizes, turnSizes}
+use Rattle.parameters.specs.Measures.{short_sizes, turn_sizes}
 use Rattle.parameters.proofs.Bounds.{ShortBounds, short-bounds}
 use Rattle.symbol.specs.Operations.{sum_of}
 use Rattle.symbol.proofs.Operations.{group_of}
-use Rattle.short_scheme.specs.Short.{allZero, digitSum}
-use Rattle.short_rows.specs.Steps.{Slotted, slotStarts, fromPlaces}
+use Rattle.short_scheme.specs.Short.{all_zero, digit_sum}
+use Rattle.short_rows.specs.Steps.{Slotted, slot_starts, from_places}
 use Rattle.short_code.proofs.Slots.{fits-slotted}
-use Rattle.turn_code.specs.Turn.{turn_of, otherDigits}
+use Rattle.turn_code.specs.Turn.{turn_of, other_digits}
 use Rattle.turn_code.proofs.Keys.{others-length, others-good, turn_below}
 use Rattle.turn_code.proofs.Slots.{recover-turned}
 use Rattle.turn_code.proofs.recover.Statement.{statement}
@@ -27,14 +27,14 @@ bounds : (c : tie.Start) → ShortBounds c.args.n c.args.k c.args.s
 bounds c = short-bounds c.args.n c.args.k c.args.s c.requires.0
 
 some : (c : tie.Start) → 0 < length c.args.key.now
-unfolding turnSizes
+unfolding turn_sizes
 some c = omega (arith, c.requires.1.0.long, (bounds c).messages-low)
 
 low : (c : tie.Start) → turn_of c.args.key.now < c.args.n
 low c = turn_below c.args.n c.args.key.now c.requires.1.0.good (some c)
 
 slotted : (c : tie.Start) → Slotted c.args.n c.args.s c.args.answers.now
-unfolding turnSizes shortSizes
+unfolding turn_sizes short_sizes
 slotted c = fits-slotted c.args.n c.args.k c.args.s c.args.answers.now c.requires.0 c.requires.1.1
 
 bytes : (c : tie.After-shared-slice-known2) → Below 256 c.before.before.args.answers.now
@@ -61,7 +61,7 @@ subtract-modulo-requires : tie.Need-subtract-modulo-requires
 subtract-modulo-requires c κs =
     let start = c.before.before.before.before.before.before in
     let a = start.args in
-    let m : digitSum (otherDigits a.key.now) % a.n < a.n = mod-lt (digitSum (otherDigits a.key.now)) (omega (arith, (bounds start).servers-low)) in
+    let m : digit_sum (other_digits a.key.now) % a.n < a.n = mod-lt (digit_sum (other_digits a.key.now)) (omega (arith, (bounds start).servers-low)) in
     (omega (arith, c.digit-sum.ensures.0), low start)
 
 slice-aggregate-recover-slots : tie.Need-slice-aggregate-recover-slots
@@ -88,7 +88,7 @@ returns c =
     let start = at.before.before in
     let a = start.args in
     let key = a.key.now in
-    let f : ℕ → ℕ → List ℕ = λ t. fromPlaces (sum_of a.op) a.n a.s t (allZero (otherDigits key)) (slotStarts a.s) a.answers.now in
+    let f : ℕ → ℕ → List ℕ = λ t. from_places (sum_of a.op) a.n a.s t (all_zero (other_digits key)) (slot_starts a.s) a.answers.now in
     let whole : ℕ → List ℕ = λ t. lay 0 (flat_map (f t) (range 1 (a.n - 1))) a.message.now in
     g.recover-slots.ensures
     ∙ ap whole (less.subtract-modulo.ensures ∙ ap (λ (T : ℕ). (T + (a.n - turn_of key)) % a.n) sum.digit-sum.ensures.0)

@@ -11,8 +11,8 @@ returns c =
     let none : c.before.args.t1.waiting ≤ 0 = omega (arith, c.if1.true) in
     rw (le-ltb 0 c.before.args.t1.waiting none)
 
-sub_at : tie.Need-overflow-sub-at
-sub_at c = search rules
+sub_at_lem : tie.Need-overflow-sub-at
+sub_at_lem c = search rules
 
 element-copy-out-result : tie.Need-element-copy-out-result
 element-copy-out-result c = search rules
@@ -23,4 +23,4 @@ returns-2 c =
     rw (lt-ltb 0 c.before.before.args.t1.waiting some)
 
 pub next-byte-spec : {M : Type 1} → statement M
-next-byte-spec = tie.close (tie.spec returns sub_at element-copy-out-result returns-2)
+next-byte-spec = tie.close (tie.spec returns sub_at_lem element-copy-out-result returns-2)

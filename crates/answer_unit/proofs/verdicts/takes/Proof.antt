@@ -1,7 +1,7 @@
 -- `answer_unit::verdicts::takes` meets its contract: its tests are those of the definition, in their order.
 use mathlib.Core.Path.{sym, ◌∙◌}
 use borrow.Author.Tests.{not-true, not-false}
-use Rattle.answer_unit.specs.Registers.{unitTakes}
+use Rattle.answer_unit.specs.Registers.{unit_takes}
 use borrow.Author.Rules.{rules}
 use Rattle.answer_unit.proofs.verdicts.takes.Statement.{statement}
 use Rattle.answer_unit.proofs.verdicts.takes.Tie as tie
@@ -10,14 +10,14 @@ is-short-requires : tie.Need-is-short-requires
 is-short-requires c κs = search rules
 
 returns : tie.Need-returns
-unfolding unitTakes
+unfolding unit_takes
 returns c = rw (sym c.before.is-short.ensures ∙ not-true _ c.if1.true)
 
 is-exclusive-requires : tie.Need-is-exclusive-requires
 is-exclusive-requires c κs = search rules
 
 returns-2 : tie.Need-returns-2
-unfolding unitTakes
+unfolding unit_takes
 returns-2 c =
     rw (
       sym c.before.before.before.is-short.ensures ∙ not-false _ c.before.before.if1.false,
@@ -28,7 +28,7 @@ are-none-requires : tie.Need-are-none-requires
 are-none-requires c κs = search rules
 
 returns-3 : tie.Need-returns-3
-unfolding unitTakes
+unfolding unit_takes
 returns-3 c =
     rw (
       sym c.before.before.before.before.before.is-short.ensures ∙ not-false _ c.before.before.before.before.if1.false,
@@ -37,7 +37,7 @@ returns-3 c =
     )
 
 returns-4 : tie.Need-returns-4
-unfolding unitTakes
+unfolding unit_takes
 returns-4 c =
     rw (
       sym c.before.before.before.before.before.before.is-short.ensures ∙ not-false _ c.before.before.before.before.before.if1.false,

@@ -1,6 +1,6 @@
 -- `catalogue_text::named::code_line` meets its contract: the tests are the definition's.
 use mathlib.Core.Path.{sym, ◌∙◌}
-use Rattle.catalogue_text.specs.Parsing.{codeLine}
+use Rattle.catalogue_text.specs.Parsing.{code_line}
 use borrow.Author.Rules.{rules}
 use Rattle.catalogue_text.proofs.named.code_line.Statement.{statement}
 use Rattle.catalogue_text.proofs.named.code_line.Tie as tie
@@ -12,7 +12,7 @@ starts-requires : tie.Need-starts-requires
 starts-requires c κs = search rules
 
 returns : tie.Need-returns
-unfolding codeLine
+unfolding code_line
 returns c = simp (sym c.before.starts.ensures ∙ c.if1.true)
 
 slice-aggregate-starts-2 : tie.Need-slice-aggregate-starts-2
@@ -22,7 +22,7 @@ starts-requires-2 : tie.Need-starts-requires-2
 starts-requires-2 c κs = search rules
 
 returns-2 : tie.Need-returns-2
-unfolding codeLine
+unfolding code_line
 returns-2 c =
     let first = c.before.before.before in
     simp (sym first.before.starts.ensures ∙ first.if1.false, sym c.before.starts2.ensures ∙ c.if2.true)
@@ -34,7 +34,7 @@ starts-requires-3 : tie.Need-starts-requires-3
 starts-requires-3 c κs = search rules
 
 returns-3 : tie.Need-returns-3
-unfolding codeLine
+unfolding code_line
 returns-3 c =
     let second = c.before.before.before in
     let first = second.before.before.before in
@@ -51,7 +51,7 @@ starts-requires-4 : tie.Need-starts-requires-4
 starts-requires-4 c κs = search rules
 
 returns-4 : tie.Need-returns-4
-unfolding codeLine
+unfolding code_line
 returns-4 c =
     let third = c.before.before.before in
     let second = third.before.before.before in
@@ -64,7 +64,7 @@ returns-4 c =
     )
 
 returns-5 : tie.Need-returns-5
-unfolding codeLine
+unfolding code_line
 returns-5 c =
     let third = c.before.before.before in
     let second = third.before.before.before in

@@ -7,13 +7,13 @@ use lib.ListN.{drop, drop_of_length-le}
 use Rattle.lists.specs.Ascii.{ascii}
 use Rattle.lists.proofs.Cuts.{to_end}
 use Rattle.text_lines.specs.Lines.{begins}
-use Rattle.catalogue_text.specs.Text.{sumName}
-use Rattle.catalogue_text.specs.Parsing.{sumLine}
+use Rattle.catalogue_text.specs.Text.{sum_name}
+use Rattle.catalogue_text.specs.Parsing.{sum_line}
 use Rattle.catalogue_text.proofs.named.sum_line.Statement.{statement}
 use Rattle.catalogue_text.proofs.named.sum_line.Tie as tie
 
 returns : tie.Need-returns
-unfolding sumLine begins
+unfolding sum_line begins
 returns c =
     let a = c.before.before.args in simp (drop_of_length-le a.text.now {i = a.at} (omega arith))
 
@@ -34,11 +34,11 @@ starts-requires c κs = search rules
 
 -- what the test of the name says
 named : (c : tie.After-starts)
-    → let a = c.before.before.before.before.before.args in c.starts.result ≡ begins sumName (drop a.at a.text.now)
-named c = let a = c.before.before.before.before.before.args in c.starts.ensures ∙ ap (begins sumName) (to_end a.text.now a.at)
+    → let a = c.before.before.before.before.before.args in c.starts.result ≡ begins sum_name (drop a.at a.text.now)
+named c = let a = c.before.before.before.before.before.args in c.starts.ensures ∙ ap (begins sum_name) (to_end a.text.now a.at)
 
 returns-2 : tie.Need-returns-2
-unfolding sumLine
+unfolding sum_line
 returns-2 c = simp (sym (named c.before) ∙ not-true _ c.if2.true)
 
 slice-aggregate-starts-2 : tie.Need-slice-aggregate-starts-2
@@ -68,13 +68,13 @@ add-t19 : tie.Need-overflow-add-t19
 add-t19 c = search rules
 
 returns-3 : tie.Need-returns-3
-unfolding sumLine
+unfolding sum_line
 returns-3 c =
     let first = c.before.before.before.before in
     simp (sym (named first.before) ∙ not-false _ first.if2.false, sym (added c.before) ∙ c.if3.true)
 
 returns-4 : tie.Need-returns-4
-unfolding sumLine
+unfolding sum_line
 returns-4 c =
     let first = c.before.before.before.before in
     simp (sym (named first.before) ∙ not-false _ first.if2.false, sym (added c.before) ∙ c.if3.false)

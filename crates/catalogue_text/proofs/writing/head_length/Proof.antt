@@ -2,7 +2,7 @@
 use native.Mathlib.Omega.{arith}
 use Rattle.text_lines.proofs.NumberLines.{number-text-most}
 use Rattle.season_text.proofs.SeasonLines.{season-length}
-use Rattle.catalogue_text.specs.Text.{serversName, messagesName, symbolName}
+use Rattle.catalogue_text.specs.Text.{servers_name, messages_name, symbol_name}
 use Rattle.catalogue_text.proofs.TextParts.{code-most, sum-most, head-length}
 use borrow.Author.Rules.{rules}
 use Rattle.catalogue_text.proofs.writing.head_length.Statement.{statement}
@@ -22,7 +22,7 @@ add-b c =
     let value = c.before.before.before.args.c in
     let a = code-most value.code in
     let i = c.before.before.code-length.ensures in
-    let b = number-text-most serversName 19 value.servers (search rules) in
+    let b = number-text-most servers_name 19 value.servers (search rules) in
     let j = c.line-length.ensures in
     omega arith
 
@@ -37,9 +37,9 @@ add-d c =
     let value = c.before.before.before.before.before.args.c in
     let a = code-most value.code in
     let i = c.before.before.before.before.code-length.ensures in
-    let b = number-text-most serversName 19 value.servers (search rules) in
+    let b = number-text-most servers_name 19 value.servers (search rules) in
     let j = c.before.before.line-length.ensures in
-    let d = number-text-most messagesName 19 value.messages (search rules) in
+    let d = number-text-most messages_name 19 value.messages (search rules) in
     let k = c.line-length2.ensures in
     omega arith
 
@@ -54,11 +54,11 @@ add-e c =
     let value = c.before.before.before.before.before.before.before.args.c in
     let a = code-most value.code in
     let i = c.before.before.before.before.before.before.code-length.ensures in
-    let b = number-text-most serversName 19 value.servers (search rules) in
+    let b = number-text-most servers_name 19 value.servers (search rules) in
     let j = c.before.before.before.before.line-length.ensures in
-    let d = number-text-most messagesName 19 value.messages (search rules) in
+    let d = number-text-most messages_name 19 value.messages (search rules) in
     let k = c.before.before.line-length2.ensures in
-    let e = number-text-most symbolName 19 value.symbol (search rules) in
+    let e = number-text-most symbol_name 19 value.symbol (search rules) in
     let l = c.line-length3.ensures in
     omega arith
 
@@ -70,11 +70,11 @@ add-f c =
     let value = c.before.before.before.before.before.before.before.before.args.c in
     let a = code-most value.code in
     let i = c.before.before.before.before.before.before.before.code-length.ensures in
-    let b = number-text-most serversName 19 value.servers (search rules) in
+    let b = number-text-most servers_name 19 value.servers (search rules) in
     let j = c.before.before.before.before.before.line-length.ensures in
-    let d = number-text-most messagesName 19 value.messages (search rules) in
+    let d = number-text-most messages_name 19 value.messages (search rules) in
     let k = c.before.before.before.line-length2.ensures in
-    let e = number-text-most symbolName 19 value.symbol (search rules) in
+    let e = number-text-most symbol_name 19 value.symbol (search rules) in
     let l = c.before.line-length3.ensures in
     let f = season-length value.opening value.closing in
     let m = c.season-length.ensures in
@@ -88,11 +88,11 @@ add-result c =
     let value = c.before.before.before.before.before.before.before.before.before.args.c in
     let a = code-most value.code in
     let i = c.before.before.before.before.before.before.before.before.code-length.ensures in
-    let b = number-text-most serversName 19 value.servers (search rules) in
+    let b = number-text-most servers_name 19 value.servers (search rules) in
     let j = c.before.before.before.before.before.before.line-length.ensures in
-    let d = number-text-most messagesName 19 value.messages (search rules) in
+    let d = number-text-most messages_name 19 value.messages (search rules) in
     let k = c.before.before.before.before.line-length2.ensures in
-    let e = number-text-most symbolName 19 value.symbol (search rules) in
+    let e = number-text-most symbol_name 19 value.symbol (search rules) in
     let l = c.before.before.line-length3.ensures in
     let f = season-length value.opening value.closing in
     let m = c.before.season-length.ensures in
@@ -106,11 +106,11 @@ returns c =
     let t = head-length value in
     let a = code-most value.code in
     let i = c.before.before.before.before.before.before.before.before.code-length.ensures in
-    let b = number-text-most serversName 19 value.servers (search rules) in
+    let b = number-text-most servers_name 19 value.servers (search rules) in
     let j = c.before.before.before.before.before.before.line-length.ensures in
-    let d = number-text-most messagesName 19 value.messages (search rules) in
+    let d = number-text-most messages_name 19 value.messages (search rules) in
     let k = c.before.before.before.before.line-length2.ensures in
-    let e = number-text-most symbolName 19 value.symbol (search rules) in
+    let e = number-text-most symbol_name 19 value.symbol (search rules) in
     let l = c.before.before.line-length3.ensures in
     let f = season-length value.opening value.closing in
     let m = c.before.season-length.ensures in

@@ -1,8 +1,8 @@
 -- `catalogue_text::writing::put_head` meets its contract: the lines are written side by side.
 use native.Mathlib.Omega.{arith}
-use Rattle.text_lines.specs.Lines.{numberText}
-use Rattle.season_text.specs.SeasonLines.{seasonText}
-use Rattle.catalogue_text.specs.Text.{codeText, serversName, messagesName, symbolName, sumText, headText}
+use Rattle.text_lines.specs.Lines.{number_text}
+use Rattle.season_text.specs.SeasonLines.{season_text}
+use Rattle.catalogue_text.specs.Text.{code_text, servers_name, messages_name, symbol_name, sum_text, head_text}
 use Rattle.catalogue_text.proofs.TextParts.{head-length, put_six}
 use borrow.Author.Rules.{rules}
 use Rattle.catalogue_text.proofs.writing.put_head.Statement.{statement}
@@ -105,7 +105,7 @@ same_length : tie.Need-same-length
 same_length c = search rules
 
 returns : tie.Need-returns
-unfolding headText
+unfolding head_text
 returns c =
     let sixth = c.before.before in
     let fifth = sixth.before.before.before.before in
@@ -124,12 +124,12 @@ returns c =
     let n = sixth.put-sum.ensures.0 in (
       omega arith,
       put_six
-          (codeText value.code)
-          (numberText serversName value.servers)
-          (numberText messagesName value.messages)
-          (numberText symbolName value.symbol)
-          (seasonText value.opening value.closing)
-          (sumText value.sum)
+          (code_text value.code)
+          (number_text servers_name value.servers)
+          (number_text messages_name value.messages)
+          (number_text symbol_name value.symbol)
+          (season_text value.opening value.closing)
+          (sum_text value.sum)
           from.args.out.now
           first.put-code.new.0
           second.put-line.new.0

@@ -4,8 +4,8 @@ use native.Mathlib.Omega.{arith}
 use borrow.Author.Rules.{rules}
 use lib.ListN.{length, length-append}
 use Rattle.lists.proofs.Puts.{put_next}
-use Rattle.length_text.specs.LengthLines.{lengthText}
-use Rattle.catalogue_text.specs.Text.{headText, ownNumbers, text_of}
+use Rattle.length_text.specs.LengthLines.{length_text}
+use Rattle.catalogue_text.specs.Text.{head_text, own_numbers, text_of}
 use Rattle.catalogue_text.proofs.writing.put_text.Statement.{statement}
 use Rattle.catalogue_text.proofs.writing.put_text.Tie as tie
 
@@ -14,7 +14,7 @@ unfolding text_of
 put-head-requires c κs =
     let from = c.before.before in
     let value = from.args.c in
-    omega (arith, from.requires, length-append (headText value) (lengthText (ownNumbers value)))
+    omega (arith, from.requires, length-append (head_text value) (length_text (own_numbers value)))
 
 put-lengths-requires : tie.Need-put-lengths-requires
 unfolding text_of
@@ -22,7 +22,7 @@ put-lengths-requires c κs =
     let from = c.before.before.before.before.before.before in
     let value = from.args.c in
     let head = c.before.before.before.put-head in
-    omega (arith, from.requires, length-append (headText value) (lengthText (ownNumbers value)), head.ensures.0, head.auto.0)
+    omega (arith, from.requires, length-append (head_text value) (length_text (own_numbers value)), head.ensures.0, head.auto.0)
 
 same_length : tie.Need-same-length
 same_length c = search rules
@@ -33,11 +33,11 @@ returns c =
     let last = c.before.before.put-lengths in
     let head = c.before.before.before.before.before.before.put-head in
     let a = c.before.before.before.before.before.before.before.before.before.args in
-    let lengths = lengthText (ownNumbers a.c) in
-    let start : head.result ≡ length (headText a.c) = head.ensures.0 in (
-      omega (arith, last.ensures.0, length-append (headText a.c) lengths),
+    let lengths = length_text (own_numbers a.c) in
+    let start : head.result ≡ length (head_text a.c) = head.ensures.0 in (
+      omega (arith, last.ensures.0, length-append (head_text a.c) lengths),
       last.ensures.1
-          ∙ put_next 0 head.result (headText a.c) lengths a.out.now head.new.0 (omega arith) (omega arith) head.ensures.1,
+          ∙ put_next 0 head.result (head_text a.c) lengths a.out.now head.new.0 (omega arith) (omega arith) head.ensures.1,
     )
 
 pub put-text-spec : {M : Type 1} → statement M

@@ -2,8 +2,8 @@
 use native.Mathlib.Omega.{arith}
 use borrow.Author.Rules.{rules}
 use lib.ListN.{length-append}
-use Rattle.length_text.specs.LengthLines.{lengthText}
-use Rattle.catalogue_text.specs.Text.{headText, ownNumbers, text_of}
+use Rattle.length_text.specs.LengthLines.{length_text}
+use Rattle.catalogue_text.specs.Text.{head_text, own_numbers, text_of}
 use Rattle.catalogue_text.proofs.writing.text_length.Statement.{statement}
 use Rattle.catalogue_text.proofs.writing.text_length.Tie as tie
 
@@ -20,7 +20,7 @@ returns : tie.Need-returns
 unfolding text_of
 returns c =
     let value = c.before.before.args.c in
-    omega (arith, length-append (headText value) (lengthText (ownNumbers value)), c.before.head-length.ensures.0, c.lengths-length.ensures.0)
+    omega (arith, length-append (head_text value) (length_text (own_numbers value)), c.before.head-length.ensures.0, c.lengths-length.ensures.0)
 
 pub text-length-spec : {M : Type 1} → statement M
 text-length-spec =

@@ -9,7 +9,7 @@ use lib.ListN.{length}
 use Rattle.lists.specs.Parts.{cut, lay}
 use Rattle.symbol.specs.Sum.{less}
 use Rattle.symbol.specs.Operations.{sum_of}
-use Rattle.even_recover.specs.Rows.{own_row, joinedFrom, groupSymbol}
+use Rattle.even_recover.specs.Rows.{own_row, joined_from, group_symbol}
 use Rattle.even_recover.proofs.Held.{RowAt, row_inside, own-row, joined-row}
 use borrow.Author.Rules.{rules}
 use Rattle.even_recover.proofs.rows.from_row.Statement.{statement}
@@ -31,7 +31,7 @@ from-inside c =
     let start = c.before.before.before.before.before in
     let a = start.args in
     rw c.joined-from.ensures
-    (row_inside a.here a.answers.now (joinedFrom a.here a.group a.i) start.requires.0
+    (row_inside a.here a.answers.now (joined_from a.here a.group a.i) start.requires.0
     (joined-row a.here a.group a.i start.requires.0.bounded start.requires.1.0 start.requires.1.1.0))
 
 mul-own : tie.Need-overflow-mul-own
@@ -88,7 +88,7 @@ same_length : tie.Need-same-length
 same_length c = search rules
 
 returns : tie.Need-returns
-unfolding groupSymbol
+unfolding group_symbol
 returns c =
     let done = c.before.before in
     let joined = done.before.before.before.before.before in

@@ -6,8 +6,8 @@ use native.Mathlib.Omega.{arith}
 use borrow.Author.Tests.{eq-eqb, ne_eqb}
 use lib.ListN.{get_or}
 use Rattle.even_places.specs.Rule.{others}
-use Rattle.even_recover.specs.Rows.{own_row, joinedFrom}
-use Rattle.even_recover.proofs.Held.{RowAt, own-row, Source, source_row}
+use Rattle.even_recover.specs.Rows.{own_row, joined_from}
+use Rattle.even_recover.proofs.Held.{RowAt, own-row, Source, source_row_lem}
 use Rattle.even_recover.proofs.rows.joined_from.Statement.{statement}
 use Rattle.even_recover.proofs.rows.joined_from.Tie as tie
 
@@ -18,7 +18,7 @@ own start = let a = start.args in own-row a.here a.group a.i start.requires.0 st
 -- and so is the row that it was joined from
 from : (start : tie.Start) → let a = start.args in
     a.group.messages ≢ 1 → Source a.here a.group a.i start.requires.0 start.requires.1.0 start.requires.1.1
-from start = let a = start.args in source_row a.here a.group a.i start.requires.0 start.requires.1.0 start.requires.1.1
+from start = let a = start.args in source_row_lem a.here a.group a.i start.requires.0 start.requires.1.0 start.requires.1.1
 
 mul-result : tie.Need-overflow-mul-result
 mul-result c = omega (arith, (own c.before.before.before).small)
@@ -30,7 +30,7 @@ add-result-2 : tie.Need-overflow-add-result-2
 add-result-2 c = omega (arith, (own c.before.before.before.before).small)
 
 returns : tie.Need-returns
-unfolding joinedFrom
+unfolding joined_from
 returns c = let test = c.before.before in rw (eq-eqb test.before.before.args.group.messages 1 test.if1.true)
 
 div-other-server : tie.Need-nonzero-div-other-server
@@ -73,7 +73,7 @@ add-result-4 c =
     omega (arith, (from start test.if1.false).source.small)
 
 returns-2 : tie.Need-returns-2
-unfolding joinedFrom
+unfolding joined_from
 returns-2 c =
     let test = c.before.before.before.before.before in
     let a = test.before.before.args in

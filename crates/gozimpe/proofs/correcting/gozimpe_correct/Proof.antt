@@ -2,7 +2,7 @@
 use mathlib.Core.Path.{ap, ◌∙◌}
 use mir.Facts.{to_z-of_z}
 use borrow.Author.Rules.{rules}
-use Rattle.gozimpe.specs.Correcting.{signedVerdict, editOf}
+use Rattle.gozimpe.specs.Correcting.{signed_verdict, edit_of}
 use Rattle.gozimpe.proofs.TextCorrections.{text-refused, text-corrected}
 use Rattle.gozimpe.proofs.correcting.gozimpe_correct.Statement.{statement}
 use Rattle.gozimpe.proofs.correcting.gozimpe_correct.Tie as tie
@@ -21,9 +21,9 @@ returns c =
     let a = c.before.before.before.before.before.before.before.before.before.before.args in
     let from = c.before.before.before.before.before.read in
     let told = c.before.before.verdict.given in
-    let did = text-refused a.mirror a.store.now a.request.now (editOf a.pack a.piece a.byte a.value) a.answer.now
+    let did = text-refused a.mirror a.store.now a.request.now (edit_of a.pack a.piece a.byte a.value) a.answer.now
     a.catalogue.now from.result from.ensures told.0.0 told.1 in
-    (to_z-of_z (record { sfits = c.minus.type-inv }) ∙ c.minus.ensures ∙ ap signedVerdict did.verdict, (did.store, did.answer))
+    (to_z-of_z (record { sfits = c.minus.type-inv }) ∙ c.minus.ensures ∙ ap signed_verdict did.verdict, (did.store, did.answer))
 
 enum_told : tie.Need-enum-told
 enum_told c = search rules
@@ -45,10 +45,10 @@ returns-2 c =
     let a = c.before.before.before.before.before.before.before.before.before.before.before.before.before.before.before.before.args in
     let from = c.before.before.before.before.before.before.before.before.before.before.before.read in
     let asked = c.before.before.before.before.before.correct in
-    let did = text-corrected a.mirror a.store.now a.request.now (editOf a.pack a.piece a.byte a.value) a.answer.now
+    let did = text-corrected a.mirror a.store.now a.request.now (edit_of a.pack a.piece a.byte a.value) a.answer.now
     a.catalogue.now from.result from.ensures c.before.before.before.before.before.before.before.before.enum_told.given.1
     asked.result _ _ asked.ensures in
-    (to_z-of_z (record { sfits = c.told.type-inv }) ∙ c.told.ensures ∙ ap signedVerdict did.verdict, (did.store, did.answer))
+    (to_z-of_z (record { sfits = c.told.type-inv }) ∙ c.told.ensures ∙ ap signed_verdict did.verdict, (did.store, did.answer))
 
 pub gozimpe-correct-spec : {M : Type 1} → statement M
 gozimpe-correct-spec =

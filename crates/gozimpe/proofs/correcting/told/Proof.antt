@@ -2,7 +2,7 @@
 use mathlib.Core.Path.{sym, ap, ◌∙◌}
 use mir.Facts.{to_z-of_z}
 use borrow.Author.Rules.{rules}
-use Rattle.gozimpe.specs.Correcting.{signedVerdict}
+use Rattle.gozimpe.specs.Correcting.{signed_verdict}
 use Rattle.gozimpe.proofs.correcting.told.Statement.{statement}
 use Rattle.gozimpe.proofs.correcting.told.Tie as tie
 
@@ -16,10 +16,10 @@ minus-requires : tie.Need-minus-requires
 minus-requires c κs = search rules
 
 returns : tie.Need-returns
-returns c = ap signedVerdict (sym c.enum_told.given.1)
+returns c = ap signed_verdict (sym c.enum_told.given.1)
 
 returns-2 : tie.Need-returns-2
-returns-2 c = to_z-of_z (record { sfits = c.minus.type-inv }) ∙ c.minus.ensures ∙ ap signedVerdict (sym c.before.before.verdict.given.1)
+returns-2 c = to_z-of_z (record { sfits = c.minus.type-inv }) ∙ c.minus.ensures ∙ ap signed_verdict (sym c.before.before.verdict.given.1)
 
 pub told-spec : {M : Type 1} → statement M
 told-spec = tie.close (tie.spec enum_told enum-known-verdict minus-requires returns returns-2)

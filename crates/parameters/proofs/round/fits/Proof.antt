@@ -5,8 +5,8 @@ use Prim.Native.Nat.{ℕ, ◌≤◌}
 use borrow.Author.Rules.{rules}
 use borrow.Author.Tests.{le-leb, lt-leb, not-true, not-false}
 use lib.Dec.{leb}
-use Rattle.parameters.specs.Bounds.{blocks, roundMessagesFit, roundFits}
-use Rattle.parameters.specs.Table.{roundTable, mostMessages}
+use Rattle.parameters.specs.Bounds.{blocks, round_messages_fit, round_fits}
+use Rattle.parameters.specs.Table.{round_table, most_messages}
 use Rattle.parameters.proofs.Common.{common-fails, common-holds, common-servers}
 use Rattle.parameters.proofs.Table.{round-decides}
 use Rattle.parameters.proofs.round.fits.Statement.{statement}
@@ -16,19 +16,19 @@ common-fits-requires : tie.Need-common-fits-requires
 common-fits-requires c κs = search rules
 
 returns : tie.Need-returns
-unfolding roundFits
+unfolding round_fits
 returns c =
     let f = c.before.common-fits in
     let a = c.before.before.args in
-    common-fails a.n a.s f.result f.ensures (roundMessagesFit a.n a.k) (not-true f.result c.if1.true)
+    common-fails a.n a.s f.result f.ensures (round_messages_fit a.n a.k) (not-true f.result c.if1.true)
 
 returns-2 : tie.Need-returns-2
-unfolding roundFits
+unfolding round_fits
 returns-2 c =
     let f = c.before.before.common-fits in
     let a = c.before.before.before.args in
-    let few : false ≡ roundMessagesFit a.n a.k = simp (lt-leb _ _ c.if2.true) in
-    few ∙ common-holds a.n a.s f.result f.ensures (roundMessagesFit a.n a.k) (not-false f.result c.before.if1.false)
+    let few : false ≡ round_messages_fit a.n a.k = simp (lt-leb _ _ c.if2.true) in
+    few ∙ common-holds a.n a.s f.result f.ensures (round_messages_fit a.n a.k) (not-false f.result c.before.if1.false)
 
 -- N is 2 to 16, as the shared bounds hold
 servers : (c : tie.Else2) → (2 ≤ c.before.before.before.args.n) × (c.before.before.before.args.n ≤ 16)
@@ -41,18 +41,18 @@ most-messages-requires : tie.Need-most-messages-requires
 most-messages-requires c κs = servers c
 
 returns-3 : tie.Need-returns-3
-unfolding roundFits
+unfolding round_fits
 returns-3 c =
     let f = c.before.before.before.common-fits in
     let a = c.before.before.before.before.args in
     let within = servers c.before in
-    let entry : leb a.k c.most-messages.result ≡ leb a.k (mostMessages roundTable a.n) =
+    let entry : leb a.k c.most-messages.result ≡ leb a.k (most_messages round_table a.n) =
     ap (λ (most : ℕ). leb a.k most) c.most-messages.ensures
     in
     let decided = entry ∙ sym (round-decides a.n a.k within.0 within.1) in
-    let some : leb (blocks a.n a.k) 64 ≡ roundMessagesFit a.n a.k = simp (le-leb _ _ c.before.if2.false) in
+    let some : leb (blocks a.n a.k) 64 ≡ round_messages_fit a.n a.k = simp (le-leb _ _ c.before.if2.false) in
     decided ∙ some
-    ∙ common-holds a.n a.s f.result f.ensures (roundMessagesFit a.n a.k) (not-false f.result c.before.before.if1.false)
+    ∙ common-holds a.n a.s f.result f.ensures (round_messages_fit a.n a.k) (not-false f.result c.before.before.if1.false)
 
 pub fits-spec : {M : Type 1} → statement M
 fits-spec = tie.close (tie.spec common-fits-requires returns returns-2 most-messages-requires returns-3)

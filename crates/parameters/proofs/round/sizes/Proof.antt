@@ -2,7 +2,7 @@
 use Prim.Native.Nat.{◌-◌, ◌*◌, ◌≤◌}
 use native.Mathlib.Nat.{mul-le-mul}
 use native.Mathlib.Omega.{arith}
-use Rattle.parameters.specs.Measures.{roundSizes}
+use Rattle.parameters.specs.Measures.{round_sizes}
 use Rattle.parameters.proofs.Bounds.{RoundBounds, round-bounds}
 use Rattle.parameters.proofs.SmallSizes.{Small, round-small}
 use Rattle.parameters.proofs.round.sizes.Statement.{statement}
@@ -11,7 +11,7 @@ use Rattle.parameters.proofs.round.sizes.Tie as tie
 bounds : (c : tie.Start) → RoundBounds c.args.n c.args.k c.args.s
 bounds c = round-bounds c.args.n c.args.k c.args.s c.requires
 
-small : (c : tie.Start) → Small c.args.n (roundSizes c.args.n c.args.k c.args.s)
+small : (c : tie.Start) → Small c.args.n (round_sizes c.args.n c.args.k c.args.s)
 small c = round-small c.args.n c.args.k c.args.s (bounds c)
 
 sub-power : tie.Need-overflow-sub-power
@@ -32,30 +32,30 @@ mul-message c =
     record { fits = omega arith }
 
 mul-message-2 : tie.Need-overflow-mul-message-2
-unfolding roundSizes
+unfolding round_sizes
 mul-message-2 c = let m = (small c.before).message in record { fits = rw c.power.ensures (omega arith) }
 
 sub-t6 : tie.Need-overflow-sub-t6
 sub-t6 c = let b = bounds c.before in omega arith
 
 mul-t7 : tie.Need-overflow-mul-t7
-unfolding roundSizes
+unfolding round_sizes
 mul-t7 c = let m = (small c.before).symbols in record { fits = rw c.power.ensures (omega arith) }
 
 mul-t8 : tie.Need-overflow-mul-t8
-unfolding roundSizes
+unfolding round_sizes
 mul-t8 c = let m = (small c.before).store in record { fits = rw c.power.ensures (omega arith) }
 
 mul-t9 : tie.Need-overflow-mul-t9
-unfolding roundSizes
+unfolding round_sizes
 mul-t9 c = let m = (small c.before).query in record { fits = rw c.power.ensures (omega arith) }
 
 mul-t10 : tie.Need-overflow-mul-t10
-unfolding roundSizes
+unfolding round_sizes
 mul-t10 c = let m = (small c.before).slot in record { fits = rw c.power.ensures (omega arith) }
 
 returns : tie.Need-returns
-unfolding roundSizes
+unfolding round_sizes
 returns c = rw c.power.ensures
 
 pub sizes-spec : {M : Type 1} → statement M

@@ -2,7 +2,7 @@
 use mathlib.Core.Path.{ap}
 use borrow.Author.Rules.{rules}
 use Rattle.parameters.specs.declared.Sizes.{Sizes}
-use Rattle.parameters.specs.Measures.{turnSizes}
+use Rattle.parameters.specs.Measures.{turn_sizes}
 use Rattle.parameters.proofs.turn.sizes.Statement.{statement}
 use Rattle.parameters.proofs.turn.sizes.Tie as tie
 
@@ -10,7 +10,7 @@ sizes-requires : tie.Need-sizes-requires
 sizes-requires c κs = search rules
 
 returns : tie.Need-returns
-unfolding turnSizes
+unfolding turn_sizes
 returns c =
     ap (λ (s : Sizes). record {
       symbols = s.symbols;

@@ -1,8 +1,8 @@
 -- `printing::checks::check` meets its contract: the catalogue is refused, or its sizes say what is due.
 use mathlib.Core.Path.{ap, ◌∙◌}
 use Rattle.refusal.specs.declared.Verdict.{Verdict}
-use Rattle.codes.specs.Codes.{schemeOf}
-use Rattle.printing.specs.Steps.{valueBy}
+use Rattle.codes.specs.Codes.{scheme_of}
+use Rattle.printing.specs.Steps.{value_by}
 use Rattle.printing.proofs.Answers.{check-chain, check-refused}
 use Rattle.codes.proofs.Measured.{measured, unmeasured}
 use borrow.Author.Rules.{rules}
@@ -27,14 +27,14 @@ returns c =
     let a = from.before.args in
     let m = measured a.c _ _ from.sizes.ensures c.before.before.decreases.given.1 in
     c.check-key.ensures
-    ∙ rw m.1 (ap (λ (v : Verdict). valueBy v (schemeOf a.c).sizes.query) (check-chain schemeOf a.c a.wanted m.0 a.count a.bytes))
+    ∙ rw m.1 (ap (λ (v : Verdict). value_by v (scheme_of a.c).sizes.query) (check-chain scheme_of a.c a.wanted m.0 a.count a.bytes))
 
 returns-2 : tie.Need-returns-2
 returns-2 c =
     let from = c.before.before.before in
     let a = from.before.args in
     let m = unmeasured a.c _ _ from.sizes.ensures c.before.measured2.given.1 in
-    rw (← check-refused schemeOf a.c a.wanted _ m a.count a.bytes)
+    rw (← check-refused scheme_of a.c a.wanted _ m a.count a.bytes)
 
 pub check-spec : {M : Type 1} → statement M
 check-spec =

@@ -5,20 +5,20 @@ use borrow.Author.Tests.{not-true, not-false}
 use lib.ListN.{drop, drop_of_length-le}
 use Rattle.lists.proofs.Cuts.{to_end}
 use Rattle.text_lines.specs.Lines.{begins}
-use Rattle.printing.specs.Input.{keyName, keyLine}
+use Rattle.printing.specs.Input.{key_name, key_line}
 use borrow.Author.Rules.{rules}
 use Rattle.printing.proofs.checks.scan_key.Statement.{statement}
 use Rattle.printing.proofs.checks.scan_key.Tie as tie
 
 -- what the test of the name says
 tested : (c : tie.After-starts)
-    → let a = c.before.before.before.before.before.args in c.starts.result ≡ begins keyName (drop a.at a.text.now)
+    → let a = c.before.before.before.before.before.args in c.starts.result ≡ begins key_name (drop a.at a.text.now)
 tested c =
     let a = c.before.before.before.before.before.args in
-    c.starts.ensures ∙ ap (begins keyName) (to_end a.text.now a.at)
+    c.starts.ensures ∙ ap (begins key_name) (to_end a.text.now a.at)
 
 returns : tie.Need-returns
-unfolding keyLine begins
+unfolding key_line begins
 returns c = simp (drop_of_length-le c.before.before.args.text.now {i = c.before.before.args.at} (omega arith))
 
 slice-aggregate-starts : tie.Need-slice-aggregate-starts
@@ -37,7 +37,7 @@ starts-requires : tie.Need-starts-requires
 starts-requires c κs = search rules
 
 returns-2 : tie.Need-returns-2
-unfolding keyLine
+unfolding key_line
 returns-2 c = simp (sym (tested c.before) ∙ not-true _ c.if2.true)
 
 add-scan : tie.Need-overflow-add-scan
@@ -47,7 +47,7 @@ scan-requires : tie.Need-scan-requires
 scan-requires c κs = search rules
 
 returns-3 : tie.Need-returns-3
-unfolding keyLine
+unfolding key_line
 returns-3 c = c.scan.ensures ∙ simp (sym (tested c.before.before) ∙ not-false _ c.before.if2.false)
 
 pub scan-key-spec : {M : Type 1} → statement M

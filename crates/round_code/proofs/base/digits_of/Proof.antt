@@ -9,14 +9,14 @@ use Rattle.lists.specs.Padded.{padded}
 use Rattle.lists.proofs.Replicate.{drop-replicate}
 use Rattle.round_scheme.specs.Round.{digits}
 use Rattle.round_scheme.proofs.Numbers.{digits-length}
-use Rattle.round_code.specs.Steps.{mostDigits}
+use Rattle.round_code.specs.Steps.{most_digits}
 use Rattle.round_code.proofs.LastDigits.{rest-low, digit-written}
 use Rattle.round_code.proofs.base.digits_of.Statement.{statement}
 use Rattle.round_code.proofs.base.digits_of.Tie as tie
 
 abbrev invariant-loop : tie.invariant-loop
 invariant-loop n count value out₀ rest₀ i₀ out rest i =
-    (i ≤ count) × (length out ≡ mostDigits) × (rest < n ^ i) × (digits n i rest ++ drop i out ≡ padded mostDigits (digits n count value))
+    (i ≤ count) × (length out ≡ most_digits) × (rest < n ^ i) × (digits n i rest ++ drop i out ≡ padded most_digits (digits n count value))
 
 abbrev decreases-loop : tie.decreases-loop
 decreases-loop n count value out₀ rest₀ i₀ out rest i = i
@@ -30,7 +30,7 @@ loop-holds c =
       refl,
       c.requires.1.1,
       ap (λ (l : List ℕ). all ++ l)
-          (drop-replicate {A = ℕ} a.count mostDigits 0 ∙ ap (λ (n : ℕ). replicate {A = ℕ} (mostDigits - n) 0) (sym long)),
+          (drop-replicate {A = ℕ} a.count most_digits 0 ∙ ap (λ (n : ℕ). replicate {A = ℕ} (most_digits - n) 0) (sym long)),
     )
 
 sub-i : tie.Need-overflow-sub-i invariant-loop decreases-loop

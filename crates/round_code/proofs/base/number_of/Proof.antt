@@ -5,7 +5,7 @@ use Prim.Native.Nat.{ℕ, ◌+◌, ◌-◌, ◌*◌, ◌^◌, ◌≤◌, ◌<◌
 use native.Mathlib.Omega.{arith}
 use lib.ListN.{length, get_or, take}
 use lib.Seq.{take-length}
-use Rattle.lists.proofs.Below.{allBelow-below}
+use Rattle.lists.proofs.Below.{all_below-below}
 use Rattle.round_scheme.specs.Round.{number}
 use Rattle.round_code.proofs.LastDigits.{digit-read, read_low}
 use Rattle.round_code.proofs.base.number_of.Statement.{statement}
@@ -38,7 +38,7 @@ module _ (c : tie.In-loop invariant-loop decreases-loop) where
   small : c.before.loop.result * n + get_or row i 0 < 2 ^ 64
   small =
       let pre = c.before.before.requires in
-      let low = read_low n pre.0.0 row (allBelow-below n row pre.0.1) pre.1 (i + 1) (omega arith) in
+      let low = read_low n pre.0.0 row (all_below-below n row pre.0.1) pre.1 (i + 1) (omega arith) in
       omega (arith, next)
 
 mul-result : tie.Need-overflow-mul-result invariant-loop decreases-loop

@@ -8,7 +8,7 @@ use Rattle.lists.specs.Parts.{put}
 use Rattle.lists.proofs.Cuts.{to_end}
 use Rattle.lists.proofs.Puts.{rest-written}
 use Rattle.symbol.specs.Operations.{sum_of}
-use Rattle.short_scheme.specs.Short.{stridedAnswer}
+use Rattle.short_scheme.specs.Short.{strided_answer}
 use borrow.Author.Rules.{rules}
 use Rattle.round_code.proofs.rows.answer_row.Statement.{statement}
 use Rattle.round_code.proofs.rows.answer_row.Tie as tie
@@ -42,7 +42,7 @@ returns c =
     let a = made.before.before.before.before.before.args in
     let out = a.out.now in
     let at = a.at in
-    let answered = stridedAnswer (sum_of a.op) a.first a.stride a.s a.store.now a.row.now in (
+    let answered = strided_answer (sum_of a.op) a.first a.stride a.s a.store.now a.row.now in (
       ap (λ (n : ℕ). at + n) made.answer.ensures.0,
       ap (λ (l : List ℕ). take at out ++ (l ++ drop (length out - at) (drop at out))) (made.answer.ensures.1 ∙ ap (put 0 answered) (to_end out at))
           ∙ rest-written at answered out,

@@ -1,7 +1,7 @@
 -- `round_code::rows::asked_none` meets its contract: it sums up the entry's digits.
 use mathlib.Core.Path.{sym, ap, ◌∙◌}
 use native.Mathlib.Omega.{arith}
-use Rattle.short_scheme.specs.Short.{keySum}
+use Rattle.short_scheme.specs.Short.{key_sum}
 use Rattle.round_code.proofs.ShortKeys.{held, held-long, held_below}
 use Rattle.round_code.proofs.rows.asked_none.Statement.{statement}
 use Rattle.round_code.proofs.rows.asked_none.Tie as tie
@@ -30,7 +30,7 @@ returns : tie.Need-returns
 returns c =
     let made = c.before.before in
     let a = made.before.args in
-    c.digit-sum.ensures.0 ∙ ap (keySum a.n) (held a.n a.k a.entry made.digits_of.result made.digits_of.ensures)
+    c.digit-sum.ensures.0 ∙ ap (key_sum a.n) (held a.n a.k a.entry made.digits_of.result made.digits_of.ensures)
 
 pub asked-none-spec : {M : Type 1} → statement M
 asked-none-spec =

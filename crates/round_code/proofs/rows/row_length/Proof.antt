@@ -1,8 +1,8 @@
 -- `round_code::rows::row_length` meets its contract: the row is the part that is lent, as far as the query reaches.
 use mathlib.Core.Path.{sym, ap, ◌∙◌}
 use native.Mathlib.Omega.{arith}
-use Rattle.short_scheme.specs.Short.{shortAnswerLength}
-use Rattle.round_scheme.specs.Round.{rowLength}
+use Rattle.short_scheme.specs.Short.{short_answer_length}
+use Rattle.round_scheme.specs.Round.{row_length}
 use Rattle.round_code.proofs.RowParts.{row-lent, row-short-lent, row-past}
 use borrow.Author.Rules.{rules}
 use Rattle.round_code.proofs.rows.row_length.Statement.{statement}
@@ -32,11 +32,11 @@ answer-length-requires : tie.Need-answer-length-requires
 answer-length-requires c κs = search rules
 
 returns-2 : tie.Need-returns-2
-unfolding rowLength
+unfolding row_length
 returns-2 c =
     let a = c.before.before.before.before.before.args in
     c.answer-length.ensures
-    ∙ ap (shortAnswerLength a.s) (row-short-lent a.k a.query.now a.i (omega (arith, c.before.before.if2.true)))
+    ∙ ap (short_answer_length a.s) (row-short-lent a.k a.query.now a.i (omega (arith, c.before.before.if2.true)))
 
 add-end : tie.Need-overflow-add-end
 add-end c = search rules
@@ -54,10 +54,10 @@ answer-length-requires-2 : tie.Need-answer-length-requires-2
 answer-length-requires-2 c κs = search rules
 
 returns-3 : tie.Need-returns-3
-unfolding rowLength
+unfolding row_length
 returns-3 c =
     let a = c.before.before.before.before.before.args in
-    c.answer-length2.ensures ∙ ap (shortAnswerLength a.s) (row-lent a.k a.query.now a.i)
+    c.answer-length2.ensures ∙ ap (short_answer_length a.s) (row-lent a.k a.query.now a.i)
 
 pub row-length-spec : {M : Type 1} → statement M
 row-length-spec =

@@ -3,7 +3,7 @@ use mathlib.Core.Path.{sym, ap, ◌∙◌}
 use mathlib.Core.List.{List}
 use native.Mathlib.Omega.{arith}
 use Rattle.lists.proofs.Puts.{put_whole}
-use Rattle.short_scheme.specs.Short.{shortQuery}
+use Rattle.short_scheme.specs.Short.{short_query}
 use Rattle.short_scheme.proofs.Queries.{query-long}
 use Rattle.round_code.proofs.ShortKeys.{held, held-long, held_below}
 use borrow.Author.Rules.{rules}
@@ -54,7 +54,7 @@ returns c =
     let b = start.requires.0 in
     let array = made.digits_of.result in
     let e = made.digits_of.ensures in
-    let row : List _ → List _ = shortQuery a.n a.wanted a.server in
+    let row : List _ → List _ = short_query a.n a.wanted a.server in
     asked.query.ensures
     ∙ put_whole (row _) a.out.now
     (query-long a.n a.k a.wanted a.server _ start.requires.1.0.0 start.requires.1.0.1 (held-long a.n a.k a.entry array e)

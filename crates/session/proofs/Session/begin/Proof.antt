@@ -1,7 +1,7 @@
 -- `session::Session::begin` meets its contract: it goes by its verdict.
 use native.Mathlib.Omega.{arith}
 use mathlib.Core.Path.{refl, sym, ◌∙◌}
-use Rattle.codes.specs.Codes.{schemeOf}
+use Rattle.codes.specs.Codes.{scheme_of}
 use Rattle.session.proofs.Begin.{begin-passed, begin-refused, begin-done}
 use Rattle.session_checks.proofs.Keys.{sizes-small}
 use borrow.Author.Rules.{rules}
@@ -24,7 +24,7 @@ returns c =
     let start = asked.before.before in
     let args = start.args in
     let v = asked.begin-verdict in
-    rw c.blank.ensures (begin-refused schemeOf args.catalogue args.wanted args.key.now v.result _ v.ensures told.enum_told.given.1)
+    rw c.blank.ensures (begin-refused scheme_of args.catalogue args.wanted args.key.now v.result _ v.ensures told.enum_told.given.1)
 
 enum-told-2 : tie.Need-enum-told-2
 enum-told-2 c = search rules
@@ -35,8 +35,8 @@ new-session-requires c κs =
     let start = asked.before.before in
     let args = start.args in
     let v = asked.begin-verdict in
-    let begins = begin-passed schemeOf args.catalogue args.wanted args.key.now (sym v.ensures ∙ c.enum-told2.given.1) in
-    omega (arith, begins.valid.long, (sizes-small args.catalogue (schemeOf args.catalogue).sizes begins.admitted refl).key)
+    let begins = begin-passed scheme_of args.catalogue args.wanted args.key.now (sym v.ensures ∙ c.enum-told2.given.1) in
+    omega (arith, begins.valid.long, (sizes-small args.catalogue (scheme_of args.catalogue).sizes begins.admitted refl).key)
 
 returns-2 : tie.Need-returns-2
 returns-2 c =
@@ -45,7 +45,7 @@ returns-2 c =
     let start = asked.before.before in
     let args = start.args in
     let v = asked.begin-verdict in
-    rw c.new-session.ensures (begin-done schemeOf args.catalogue args.wanted args.key.now v.result v.ensures told.enum-told2.given.1)
+    rw c.new-session.ensures (begin-done scheme_of args.catalogue args.wanted args.key.now v.result v.ensures told.enum-told2.given.1)
 
 pub begin-spec : {M : Type 1} → statement M
 begin-spec =

@@ -3,8 +3,8 @@ use native.Mathlib.Omega.{arith}
 use mathlib.Core.Path.{refl, sym, ◌∙◌}
 use Prim.Native.Nat.{◌+◌, ◌≤◌}
 use lib.ListN.{length}
-use Rattle.codes.specs.Codes.{schemeOf}
-use Rattle.session_parts.specs.Meters.{mostBytes, counted}
+use Rattle.codes.specs.Codes.{scheme_of}
+use Rattle.session_parts.specs.Meters.{most_bytes, counted}
 use Rattle.session.proofs.Issue.{issue-passed, issue-goes}
 use Rattle.session_checks.proofs.Keys.{sizes-small}
 use Rattle.session.proofs.Places.{key-places}
@@ -24,7 +24,7 @@ returns c =
     let start = asked.before.before in
     let args = start.args in
     let v = asked.issue-verdict in
-    (issue-goes schemeOf args.self args.today args.server args.query.now).refused v.result _ v.ensures c.enum_told.given.1
+    (issue-goes scheme_of args.self args.today args.server args.query.now).refused v.result _ v.ensures c.enum_told.given.1
 
 enum-told-2 : tie.Need-enum-told-2
 enum-told-2 c = search rules
@@ -39,7 +39,7 @@ write-query-requires c κs =
     let start = asked.before.before in
     let args = start.args in
     let v = asked.issue-verdict in
-    let i = issue-passed schemeOf args.self args.today args.server (length args.query.now) (sym v.ensures ∙ told.enum-told2.given.1) in
+    let i = issue-passed scheme_of args.self args.today args.server (length args.query.now) (sym v.ensures ∙ told.enum-told2.given.1) in
     (i.sound.admitted, (key-places args.self _ start.well-formed.0, ((i.sound.inside, i.below), (i.sound.good, i.roomy))))
 
 mark-issued-requires : tie.Need-mark-issued-requires
@@ -49,10 +49,10 @@ mark-issued-requires c κs =
     let asked = told.before.before in
     let args = asked.before.before.args in
     let v = asked.issue-verdict in
-    let i = issue-passed schemeOf args.self args.today args.server (length args.query.now) (sym v.ensures ∙ told.enum-told2.given.1) in
-    let counts : counted args.self.meters.sent args.server + written.write-query.result ≤ mostBytes =
+    let i = issue-passed scheme_of args.self args.today args.server (length args.query.now) (sym v.ensures ∙ told.enum-told2.given.1) in
+    let counts : counted args.self.meters.sent args.server + written.write-query.result ≤ most_bytes =
     rw written.write-query.ensures.0 i.counts in
-    (omega (arith, i.below, (sizes-small args.self.catalogue (schemeOf args.self.catalogue).sizes i.sound.admitted refl).servers), counts)
+    (omega (arith, i.below, (sizes-small args.self.catalogue (scheme_of args.self.catalogue).sizes i.sound.admitted refl).servers), counts)
 
 same_length : tie.Need-same-length
 same_length c = search rules
@@ -66,7 +66,7 @@ returns-2 c =
     let args = start.args in
     let v = asked.issue-verdict in
     rw (c.mark-issued.ensures, written.write-query.ensures.0)
-    ((issue-goes schemeOf args.self args.today args.server args.query.now).done v.result _ v.ensures told.enum-told2.given.1
+    ((issue-goes scheme_of args.self args.today args.server args.query.now).done v.result _ v.ensures told.enum-told2.given.1
     written.write-query.ensures.1)
 
 pub issue-spec : {M : Type 1} → statement M

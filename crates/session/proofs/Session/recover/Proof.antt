@@ -1,7 +1,7 @@
 -- `session::Session::recover` meets its contract: it goes by its verdict.
 use mathlib.Core.Path.{sym, ◌∙◌}
 use lib.ListN.{length}
-use Rattle.codes.specs.Codes.{schemeOf}
+use Rattle.codes.specs.Codes.{scheme_of}
 use Rattle.session.proofs.Places.{key-places}
 use Rattle.session.proofs.Recover.{recover-passed, recover-goes}
 use borrow.Author.Rules.{rules}
@@ -20,7 +20,7 @@ returns c =
     let start = asked.before.before.before in
     let args = start.args in
     let v = asked.recover-verdict in
-    (recover-goes schemeOf args.self args.answers.now args.message.now).refused v.result _ v.ensures c.enum_told.given.1
+    (recover-goes scheme_of args.self args.answers.now args.message.now).refused v.result _ v.ensures c.enum_told.given.1
 
 enum-told-2 : tie.Need-enum-told-2
 enum-told-2 c = search rules
@@ -35,7 +35,7 @@ write-message-requires c κs =
     let start = asked.before.before.before in
     let args = start.args in
     let v = asked.recover-verdict in
-    let r = recover-passed schemeOf args.self (length args.answers.now) (length args.message.now) (sym v.ensures ∙ told.enum-told2.given.1) in
+    let r = recover-passed scheme_of args.self (length args.answers.now) (length args.message.now) (sym v.ensures ∙ told.enum-told2.given.1) in
     (r.sound.admitted, (key-places args.self _ start.well-formed.0, (r.sound.inside, (r.sound.good, (r.slots-fit, r.roomy)))))
 
 same_length : tie.Need-same-length
@@ -49,7 +49,7 @@ returns-2 c =
     let start = asked.before.before.before in
     let args = start.args in
     let v = asked.recover-verdict in
-    (recover-goes schemeOf args.self args.answers.now args.message.now).done v.result _ v.ensures told.enum-told2.given.1
+    (recover-goes scheme_of args.self args.answers.now args.message.now).done v.result _ v.ensures told.enum-told2.given.1
     written.write-message.ensures
 
 pub recover-spec : {M : Type 1} → statement M

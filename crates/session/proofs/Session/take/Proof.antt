@@ -6,7 +6,7 @@ use lib.ListN.{length}
 use Rattle.lists.specs.Parts.{put}
 use Rattle.lists.proofs.Cuts.{slot-end}
 use Rattle.parameters.specs.declared.Sizes.{Sizes}
-use Rattle.codes.specs.Codes.{schemeOf}
+use Rattle.codes.specs.Codes.{scheme_of}
 use Rattle.session.proofs.Take.{take-passed, take-goes}
 use Rattle.session.proofs.Places.{key-places}
 use Rattle.session_checks.proofs.Keys.{sizes-small}
@@ -27,7 +27,7 @@ returns c =
     let start = asked.before.before.before in
     let args = start.args in
     let v = asked.take-verdict in
-    (take-goes schemeOf args.self args.server args.answer.now args.answers.now).refused v.result _ v.ensures c.enum_told.given.1
+    (take-goes scheme_of args.self args.server args.answer.now args.answers.now).refused v.result _ v.ensures c.enum_told.given.1
 
 enum-told-2 : tie.Need-enum-told-2
 enum-told-2 c = search rules
@@ -38,7 +38,7 @@ sizes-of-requires c κs =
     let start = asked.before.before.before in
     let args = start.args in
     let v = asked.take-verdict in
-    (take-passed schemeOf args.self args.server (length args.answer.now) (length args.answers.now)
+    (take-passed scheme_of args.self args.server (length args.answer.now) (length args.answers.now)
     (sym v.ensures ∙ c.enum-told2.given.1)).sound.admitted
 
 mul-put-answer : tie.Need-overflow-mul-put-answer
@@ -50,7 +50,7 @@ mul-put-answer c =
     let args = start.args in
     let v = asked.take-verdict in
     let sizes = sized.sizes-of in
-    let t = take-passed schemeOf args.self args.server (length args.answer.now) (length args.answers.now)
+    let t = take-passed scheme_of args.self args.server (length args.answer.now) (length args.answers.now)
     (sym v.ensures ∙ told.enum-told2.given.1) in
     omega (
       arith,
@@ -67,7 +67,7 @@ put-answer-requires c κs =
     let args = start.args in
     let v = asked.take-verdict in
     let sizes = sized.sizes-of in
-    let t = take-passed schemeOf args.self args.server (length args.answer.now) (length args.answers.now)
+    let t = take-passed scheme_of args.self args.server (length args.answer.now) (length args.answers.now)
     (sym v.ensures ∙ told.enum-told2.given.1) in
     let long = key-places args.self _ start.well-formed.0 in
     slot-holds args.self long sizes.result sizes.ensures args.server (length args.answer.now) (length args.answers.now) t
@@ -82,7 +82,7 @@ mark-taken-requires c κs =
     let v = asked.take-verdict in
     let sizes = sized.sizes-of in
     let accepted = sym v.ensures ∙ told.enum-told2.given.1 in
-    let t = take-passed schemeOf args.self args.server (length args.answer.now) (length args.answers.now) accepted in
+    let t = take-passed scheme_of args.self args.server (length args.answer.now) (length args.answers.now) accepted in
     let long = key-places args.self _ start.well-formed.0 in (
       omega (arith, t.below, (sizes-small args.self.catalogue sizes.result t.sound.admitted sizes.ensures).servers),
       meter-holds args.self long args.server (length args.answer.now) (length args.answers.now) accepted,
@@ -101,7 +101,7 @@ returns-2 c =
     let args = start.args in
     let v = asked.take-verdict in
     rw c.mark-taken.ensures
-    ((take-goes schemeOf args.self args.server args.answer.now args.answers.now).done v.result _ v.ensures told.enum-told2.given.1
+    ((take-goes scheme_of args.self args.server args.answer.now args.answers.now).done v.result _ v.ensures told.enum-told2.given.1
     (written.put-answer.ensures
     ∙ ap (λ (sizes : Sizes). put (args.server * sizes.slot) args.answer.now args.answers.now) sized.sizes-of.ensures))
 

@@ -6,8 +6,8 @@ use Rattle.parameters.specs.declared.Sizes.{Sizes}
 use Rattle.refusal.specs.declared.Verdict.TheVariants.{Accepted}
 use Rattle.catalogue.specs.Catalogue.{Admitted}
 use Rattle.catalogue.proofs.Faults.{after-catalogue}
-use Rattle.codes.specs.Codes.{schemeOf}
-use Rattle.session.specs.Calls.{beginVerdict}
+use Rattle.codes.specs.Codes.{scheme_of}
+use Rattle.session.specs.Calls.{begin_verdict}
 use Rattle.session.proofs.Begin.{begin-accepted}
 use Rattle.session.proofs.verdicts.begin_verdict.Statement.{statement}
 use Rattle.session.proofs.verdicts.begin_verdict.Tie as tie
@@ -19,7 +19,7 @@ enum-known-refusal : tie.Need-enum-known-refusal
 enum-known-refusal c = search rules
 
 returns : tie.Need-returns
-unfolding beginVerdict
+unfolding begin_verdict
 returns c =
     let asked = c.before.before.before in
     let start = asked.before.before in
@@ -33,14 +33,14 @@ admitted : (c : tie.After-enum-told) → Admitted c.before.before.before.before.
 admitted c = sym c.before.before.verdict.ensures ∙ c.enum_told.given.1
 
 returns-2 : tie.Need-returns-2
-unfolding beginVerdict
+unfolding begin_verdict
 returns-2 c = after-catalogue _ _ refl Accepted _ (sym (admitted c.before.before)) (rw (le-leb _ _ c.if1.true))
 
 sizes-of-requires : tie.Need-sizes-of-requires
 sizes-of-requires c κs = admitted c.before.before
 
 returns-3 : tie.Need-returns-3
-unfolding beginVerdict
+unfolding begin_verdict
 returns-3 c =
     let sized = c.before.before in
     let first = sized.before in
@@ -53,7 +53,7 @@ key-good-requires c κs =
     (admitted sized.before.before.before, c.if2.false ∙ ap (λ (sizes : Sizes). sizes.key) sized.sizes-of.ensures)
 
 returns-4 : tie.Need-returns-4
-unfolding beginVerdict
+unfolding begin_verdict
 returns-4 c =
     let checked = c.before in
     let second = checked.before in
@@ -75,7 +75,7 @@ returns-5 c =
     let first = sized.before in
     let told = first.before.before in
     let args = told.before.before.before.before.args in
-    sym (begin-accepted schemeOf args.catalogue args.wanted args.key.now (record {
+    sym (begin-accepted scheme_of args.catalogue args.wanted args.key.now (record {
       admitted = admitted told;
       inside = first.if1.false;
       valid = record {

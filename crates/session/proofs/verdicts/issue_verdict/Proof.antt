@@ -5,10 +5,10 @@ use borrow.Author.Rules.{rules}
 use borrow.Author.Tests.{lt-ltb, le-ltb}
 use Rattle.refusal.specs.declared.Verdict.TheVariants.{Accepted}
 use Rattle.refusal.specs.Foremost.{foremost}
-use Rattle.refusal.proofs.Foremost.{after_first}
+use Rattle.refusal.proofs.Foremost.{after_first_lem}
 use Rattle.parameters.specs.declared.Sizes.{Sizes}
-use Rattle.codes.specs.Codes.{schemeOf}
-use Rattle.session.specs.Calls.{askFaultsOn, issueVerdict}
+use Rattle.codes.specs.Codes.{scheme_of}
+use Rattle.session.specs.Calls.{ask_faults_on, issue_verdict}
 use Rattle.session_checks.proofs.Links.{Asks, served-passed}
 use Rattle.session_checks.proofs.Keys.{sizes-small, key_fits, key-count, key-valid}
 use Rattle.session.proofs.Places.{key-places}
@@ -25,11 +25,11 @@ enum-known-refusal : tie.Need-enum-known-refusal
 enum-known-refusal c = search rules
 
 returns : tie.Need-returns
-unfolding issueVerdict
+unfolding issue_verdict
 returns c =
     let asked = c.before.before.before in
     let args = asked.before.before.before.before.args in
-    after_first (askFaultsOn schemeOf args.t1 args.today args.server) _ refl refl _ _ asked.served-verdict.ensures
+    after_first_lem (ask_faults_on scheme_of args.t1 args.today args.server) _ refl refl _ _ asked.served-verdict.ensures
     (rw c.before.refusal.given.1)
 
 enum_told : tie.Need-enum-told
@@ -37,24 +37,24 @@ enum_told c = search rules
 
 -- once the first links are passed
 accepted : (c : tie.After-enum-told)
-    → let args = c.before.before.before.before.before.before.args in foremost (askFaultsOn schemeOf args.t1 args.today args.server) ≡ Accepted
+    → let args = c.before.before.before.before.before.before.args in foremost (ask_faults_on scheme_of args.t1 args.today args.server) ≡ Accepted
 accepted c = sym c.before.before.served-verdict.ensures ∙ c.enum_told.given.1
 
 asks : (c : tie.After-enum-told) → let args = c.before.before.before.before.before.before.args in
-    let s = args.t1 in Asks schemeOf s.catalogue s.wanted s.key args.server
+    let s = args.t1 in Asks scheme_of s.catalogue s.wanted s.key args.server
 asks c =
     let args = c.before.before.before.before.before.before.args in
     let s = args.t1 in
-    (served-passed schemeOf s.catalogue s.wanted s.key args.today args.server (accepted c)).0
+    (served-passed scheme_of s.catalogue s.wanted s.key args.today args.server (accepted c)).0
 
 sizes-of-requires : tie.Need-sizes-of-requires
 sizes-of-requires c κs = (asks c.before).holds.admitted
 
 returns-2 : tie.Need-returns-2
-unfolding issueVerdict
+unfolding issue_verdict
 returns-2 c =
     let sized = c.before.before in
-    after_first _ _ refl refl Accepted _ (sym (accepted sized.before.before)) (rw (← sized.sizes-of.ensures, lt-ltb _ _ c.if1.true))
+    after_first_lem _ _ refl refl Accepted _ (sym (accepted sized.before.before)) (rw (← sized.sizes-of.ensures, lt-ltb _ _ c.if1.true))
 
 array-share-prefix-key : tie.Need-array-share-prefix-key
 array-share-prefix-key c =
@@ -87,12 +87,12 @@ sent-verdict-requires c κs =
     (holds.admitted, (ap (λ (z : Sizes). z.query) sizes.ensures, (holds.inside, (valid, omega (arith, passed.below, few)))))
 
 returns-3 : tie.Need-returns-3
-unfolding issueVerdict
+unfolding issue_verdict
 returns-3 c =
     let first = c.before.before.before.before.before.before.before in
     let sized = first.before.before in
     let roomy = rw sized.sizes-of.ensures at first.if1.false in
-    after_first _ _ refl refl Accepted _ (sym (accepted sized.before.before))
+    after_first_lem _ _ refl refl Accepted _ (sym (accepted sized.before.before))
     (rw (le-ltb _ _ roomy) (rw sized.sizes-of.ensures at c.sent-verdict.ensures))
 
 pub issue-verdict-spec : {M : Type 1} → statement M

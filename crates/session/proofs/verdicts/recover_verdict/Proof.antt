@@ -5,11 +5,11 @@ use borrow.Author.Rules.{rules}
 use borrow.Author.Tests.{lt-ltb, le-ltb}
 use Rattle.refusal.specs.declared.Verdict.TheVariants.{Accepted}
 use Rattle.refusal.specs.Foremost.{foremost}
-use Rattle.refusal.proofs.Foremost.{after_first}
+use Rattle.refusal.proofs.Foremost.{after_first_lem}
 use Rattle.parameters.specs.declared.Sizes.{Sizes}
 use Rattle.catalogue.specs.Catalogue.{Admitted}
-use Rattle.codes.specs.Codes.{schemeOf}
-use Rattle.session.specs.Calls.{ownFaults, recoverVerdict}
+use Rattle.codes.specs.Codes.{scheme_of}
+use Rattle.session.specs.Calls.{own_faults, recover_verdict}
 use Rattle.session_checks.proofs.Links.{session-passed}
 use Rattle.session_checks.proofs.Keys.{sizes-small, key_fits, key-count, key-valid}
 use Rattle.session.proofs.Places.{key-places}
@@ -26,23 +26,23 @@ enum-known-refusal : tie.Need-enum-known-refusal
 enum-known-refusal c = search rules
 
 returns : tie.Need-returns
-unfolding recoverVerdict
+unfolding recover_verdict
 returns c =
     let asked = c.before.before.before in
     let s = asked.before.before.before.before.args.t1 in
-    after_first (ownFaults schemeOf s) _ refl refl _ _ asked.session-verdict.ensures (rw c.before.refusal.given.1)
+    after_first_lem (own_faults scheme_of s) _ refl refl _ _ asked.session-verdict.ensures (rw c.before.refusal.given.1)
 
 enum_told : tie.Need-enum-told
 enum_told c = search rules
 
 -- once the first links are passed
-accepted : (c : tie.After-enum-told) → foremost (ownFaults schemeOf c.before.before.before.before.before.before.args.t1) ≡ Accepted
+accepted : (c : tie.After-enum-told) → foremost (own_faults scheme_of c.before.before.before.before.before.before.args.t1) ≡ Accepted
 accepted c = sym c.before.before.session-verdict.ensures ∙ c.enum_told.given.1
 
 admitted : (c : tie.After-enum-told) → Admitted c.before.before.before.before.before.before.args.t1.catalogue
 admitted c =
     let s = c.before.before.before.before.before.before.args.t1 in
-    (session-passed schemeOf s.catalogue s.wanted s.key (accepted c)).admitted
+    (session-passed scheme_of s.catalogue s.wanted s.key (accepted c)).admitted
 
 sizes-of-requires : tie.Need-sizes-of-requires
 sizes-of-requires c κs = admitted c.before
@@ -55,21 +55,21 @@ mul-if1 c =
     omega (arith, (sizes-small s.catalogue sized.sizes-of.result (admitted told) sized.sizes-of.ensures).slots)
 
 returns-2 : tie.Need-returns-2
-unfolding recoverVerdict
+unfolding recover_verdict
 returns-2 c =
     let sized = c.before.before in
-    after_first _ _ refl refl Accepted _ (sym (accepted sized.before.before)) (rw (← sized.sizes-of.ensures, lt-ltb _ _ c.if1.true))
+    after_first_lem _ _ refl refl Accepted _ (sym (accepted sized.before.before)) (rw (← sized.sizes-of.ensures, lt-ltb _ _ c.if1.true))
 
 message-length-requires : tie.Need-message-length-requires
 message-length-requires c κs = admitted c.before.before.before.before.before
 
 returns-3 : tie.Need-returns-3
-unfolding recoverVerdict
+unfolding recover_verdict
 returns-3 c =
     let measured = c.before in
     let first = measured.before.before in
     let sized = first.before.before in
-    after_first _ _ refl refl Accepted _ (sym (accepted sized.before.before))
+    after_first_lem _ _ refl refl Accepted _ (sym (accepted sized.before.before))
     (rw (← measured.message-length.ensures, ← sized.sizes-of.ensures, le-ltb _ _ first.if1.false, lt-ltb _ _ c.if2.true))
 
 array-share-prefix-key : tie.Need-array-share-prefix-key
@@ -96,13 +96,13 @@ missing-verdict-requires c κs =
     let s = start.args.t1 in
     let long = key-places s _ start.well-formed.0 in
     let sizes = sized.sizes-of in
-    let holds = session-passed schemeOf s.catalogue s.wanted s.key (accepted told) in
+    let holds = session-passed scheme_of s.catalogue s.wanted s.key (accepted told) in
     let valid = key-valid s.catalogue s.key long sizes.result holds.admitted sizes.ensures holds.good in
     let few = (sizes-small s.catalogue sizes.result holds.admitted sizes.ensures).servers in
     (holds.admitted, (ap (λ (z : Sizes). z.query) sizes.ensures, (holds.inside, (valid, few))))
 
 returns-4 : tie.Need-returns-4
-unfolding recoverVerdict
+unfolding recover_verdict
 returns-4 c =
     let second = c.before.before.before.before.before.before.before in
     let measured = second.before in
@@ -110,7 +110,7 @@ returns-4 c =
     let sized = tested.before.before in
     let slots = rw sized.sizes-of.ensures at tested.if1.false in
     let roomy = rw measured.message-length.ensures at second.if2.false in
-    after_first _ _ refl refl Accepted _ (sym (accepted sized.before.before))
+    after_first_lem _ _ refl refl Accepted _ (sym (accepted sized.before.before))
     (rw (le-ltb _ _ slots, le-ltb _ _ roomy) (rw sized.sizes-of.ensures at c.missing-verdict.ensures))
 
 pub recover-verdict-spec : {M : Type 1} → statement M

@@ -2,7 +2,7 @@
 use mathlib.Core.Path.{sym, ap, ◌∙◌}
 use lib.ListN.{take}
 use Rattle.parameters.specs.declared.Sizes.{Sizes}
-use Rattle.codes.specs.Codes.{schemeOf}
+use Rattle.codes.specs.Codes.{scheme_of}
 use Rattle.session_checks.proofs.Keys.{key-count, key-valid}
 use borrow.Author.Rules.{rules}
 use Rattle.session_checks.proofs.keyed.answer_length.Statement.{statement}
@@ -31,9 +31,9 @@ returns : tie.Need-returns
 returns c =
     let sized = c.before.before in
     let args = sized.before.before.args in
-    let code = schemeOf args.c in
+    let code = scheme_of args.c in
     c.expected-length.ensures
-    ∙ ap (λ (sizes : Sizes). code.answerLength (code.query args.wanted args.server (take sizes.key args.places.now))) sized.sizes-of.ensures
+    ∙ ap (λ (sizes : Sizes). code.answer_length (code.query args.wanted args.server (take sizes.key args.places.now))) sized.sizes-of.ensures
 
 pub answer-length-spec : {M : Type 1} → statement M
 answer-length-spec = tie.close (tie.spec sizes-of-requires slice-aggregate-expected-length expected-length-requires returns)

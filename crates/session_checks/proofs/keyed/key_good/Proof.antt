@@ -3,7 +3,7 @@ use mathlib.Core.Path.{sym, ap, ◌∙◌}
 use borrow.Author.Rules.{rules}
 use lib.ListN.{take}
 use Rattle.parameters.specs.declared.Sizes.{Sizes}
-use Rattle.codes.specs.Codes.{schemeOf}
+use Rattle.codes.specs.Codes.{scheme_of}
 use Rattle.session_checks.proofs.Keys.{key-count, key-length}
 use Rattle.session_checks.proofs.keyed.key_good.Statement.{statement}
 use Rattle.session_checks.proofs.keyed.key_good.Tie as tie
@@ -29,7 +29,7 @@ returns : tie.Need-returns
 returns c =
     let sized = c.before.before in
     let args = sized.before.before.args in
-    c.key-good.ensures ∙ ap (λ (sizes : Sizes). (schemeOf args.c).keyGood (take sizes.key args.places.now)) sized.sizes-of.ensures
+    c.key-good.ensures ∙ ap (λ (sizes : Sizes). (scheme_of args.c).key_good (take sizes.key args.places.now)) sized.sizes-of.ensures
 
 pub key-good-spec : {M : Type 1} → statement M
 key-good-spec = tie.close (tie.spec sizes-of-requires slice-aggregate-key-good key-good-requires returns)

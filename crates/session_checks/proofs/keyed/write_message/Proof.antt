@@ -8,8 +8,8 @@ use lib.Seq.{length-take-le}
 use Rattle.lists.specs.Parts.{put}
 use Rattle.lists.proofs.Laid.{lay-front}
 use Rattle.parameters.specs.declared.Sizes.{Sizes}
-use Rattle.scheme.specs.Scheme.{recoverIn}
-use Rattle.codes.specs.Codes.{schemeOf}
+use Rattle.scheme.specs.Scheme.{recover_in}
+use Rattle.codes.specs.Codes.{scheme_of}
 use Rattle.session_checks.proofs.Keys.{key-count, key-valid}
 use borrow.Author.Rules.{rules}
 use Rattle.session_checks.proofs.keyed.write_message.Statement.{statement}
@@ -62,10 +62,10 @@ returns c =
     let size = measured.message-length.result in
     let message = args.message.now in
     ap (λ (l : List ℕ). l ++ drop size message) written.recover.ensures
-    ∙ lay-front size (recoverIn (schemeOf args.c) args.c.servers args.wanted (take sized.sizes-of.result.key args.places.now)
+    ∙ lay-front size (recover_in (scheme_of args.c) args.c.servers args.wanted (take sized.sizes-of.result.key args.places.now)
     args.answers.now) message (fits measured)
     ∙ ap₂ (λ (n : ℕ) (sizes : Sizes). put 0
-    (take n (recoverIn (schemeOf args.c) args.c.servers args.wanted (take sizes.key args.places.now) args.answers.now)) message)
+    (take n (recover_in (scheme_of args.c) args.c.servers args.wanted (take sizes.key args.places.now) args.answers.now)) message)
     measured.message-length.ensures sized.sizes-of.ensures
 
 pub write-message-spec : {M : Type 1} → statement M

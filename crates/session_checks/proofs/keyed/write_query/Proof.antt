@@ -3,7 +3,7 @@ use mathlib.Core.Path.{sym, ap, ◌∙◌}
 use lib.ListN.{take}
 use Rattle.lists.specs.Parts.{put}
 use Rattle.parameters.specs.declared.Sizes.{Sizes}
-use Rattle.codes.specs.Codes.{schemeOf}
+use Rattle.codes.specs.Codes.{scheme_of}
 use Rattle.session_checks.proofs.Keys.{key-count, key-valid}
 use borrow.Author.Rules.{rules}
 use Rattle.session_checks.proofs.keyed.write_query.Statement.{statement}
@@ -40,7 +40,7 @@ returns c =
     let sizes-right = sized.sizes-of.ensures in (
       ap (λ (sizes : Sizes). sizes.query) sizes-right,
       written.query.ensures
-          ∙ ap (λ (sizes : Sizes). put 0 ((schemeOf args.c).query args.wanted args.server (take sizes.key args.places.now)) args.query.now)
+          ∙ ap (λ (sizes : Sizes). put 0 ((scheme_of args.c).query args.wanted args.server (take sizes.key args.places.now)) args.query.now)
           sizes-right,
     )
 

@@ -8,11 +8,11 @@ use borrow.Author.Tests.{not-true, not-false}
 use Rattle.lists.specs.Ranges.{every}
 use Rattle.lists.proofs.Both.{true-both}
 use Rattle.lists.proofs.Every.{every-none, every_more, every-false}
-use Rattle.codes.specs.Codes.{schemeOf}
+use Rattle.codes.specs.Codes.{scheme_of}
 use Rattle.session_parts.specs.Marks.{marked}
-use Rattle.session_parts.specs.Meters.{counted, sentGood, gotGood, metersGood}
+use Rattle.session_parts.specs.Meters.{counted, sent_good, got_good, meters_good}
 use Rattle.session_parts.proofs.Marks.{taken-below}
-use Rattle.session_checks.specs.Checks.{answerBytes}
+use Rattle.session_checks.specs.Checks.{answer_bytes}
 use Rattle.session_checks.proofs.Keys.{query-some}
 use Rattle.session_checks.proofs.metered.meters_good.Statement.{statement}
 use Rattle.session_checks.proofs.metered.meters_good.Tie as tie
@@ -21,8 +21,8 @@ abbrev invariant-loop : tie.invariant-loop
 invariant-loop c query wanted key issued taken sent got i₀ i =
     (i ≤ 16)
     × (every i
-    (λ place. sentGood query (marked issued place) (counted sent place)
-    && gotGood (answerBytes schemeOf c wanted key place) (marked taken place) (counted got place))
+    (λ place. sent_good query (marked issued place) (counted sent place)
+    && got_good (answer_bytes scheme_of c wanted key place) (marked taken place) (counted got place))
     ≡ true)
 
 abbrev decreases-loop : tie.decreases-loop
@@ -53,13 +53,13 @@ sent-good-requires c κs =
     omega (arith, start.requires.1.0, query-some start.args.c start.requires.0)
 
 returns : tie.Need-returns invariant-loop decreases-loop
-unfolding metersGood
+unfolding meters_good
 returns c =
     let at = c.before.before.before.before in
     let start = at.before.before.before.before in
     let args = start.args in
     let i = at.loop.i in
-    let bad : sentGood (schemeOf args.c).sizes.query (marked args.issued.now i) (counted args.m.sent i) ≡ false =
+    let bad : sent_good (scheme_of args.c).sizes.query (marked args.issued.now i) (counted args.m.sent i) ≡ false =
     rw start.requires.1.0 at (sym c.before.sent-good.ensures ∙ not-true _ c.if1.true) in
     sym (every-false 16 _ i (omega arith) (first-bad _ _ bad))
 
@@ -82,13 +82,13 @@ got-good-requires c κs =
     (pre.0, (pre.1.1.0, (pre.1.1.1.0, below)))
 
 returns-2 : tie.Need-returns-2 invariant-loop decreases-loop
-unfolding metersGood
+unfolding meters_good
 returns-2 c =
     let at = c.before.before.before.before.before.before.before in
     let args = at.before.before.before.before.args in
     let i = at.loop.i in
-    let sent = sentGood (schemeOf args.c).sizes.query (marked args.issued.now i) (counted args.m.sent i) in
-    let bad : gotGood (answerBytes schemeOf args.c args.wanted args.key.now i) (marked args.taken.now i) (counted args.m.got i) ≡ false =
+    let sent = sent_good (scheme_of args.c).sizes.query (marked args.issued.now i) (counted args.m.sent i) in
+    let bad : got_good (answer_bytes scheme_of args.c args.wanted args.key.now i) (marked args.taken.now i) (counted args.m.got i) ≡ false =
     sym c.before.got-good.ensures ∙ not-true _ c.if2.true in
     sym (every-false 16 _ i (omega arith) (second-bad sent _ bad))
 
@@ -109,7 +109,7 @@ loop-again c =
     )
 
 returns-3 : tie.Need-returns-3 invariant-loop decreases-loop
-unfolding metersGood
+unfolding meters_good
 returns-3 c =
     let at = c.before in
     let start = at.before.before.before.before in

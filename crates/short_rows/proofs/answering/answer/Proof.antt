@@ -10,7 +10,7 @@ use Rattle.lists.specs.Parts.{put}
 use Rattle.lists.specs.Below.{Below}
 use Rattle.symbol.specs.Operations.{sum_of}
 use Rattle.symbol.proofs.Operations.{group_of}
-use Rattle.short_scheme.specs.Short.{allZero}
+use Rattle.short_scheme.specs.Short.{all_zero}
 use Rattle.short_scheme.proofs.ZeroRow.{length_none, length_some, room-some, answer-none}
 use Rattle.short_rows.proofs.Gathering.{gathered-answer}
 use borrow.Author.Rules.{rules}
@@ -23,7 +23,7 @@ all-below-requires c κs = search rules
 returns : tie.Need-returns
 returns c =
     let a = c.before.before.before.before.before.args in
-    let none : allZero a.row.now ≡ true = sym c.before.all-below.ensures ∙ c.if1.true in (
+    let none : all_zero a.row.now ≡ true = sym c.before.all-below.ensures ∙ c.if1.true in (
       sym (length_none a.s a.row.now none),
       ap (λ (l : List ℕ). put 0 l a.out.now) (sym (answer-none (sum_of a.op) a.first a.stride a.s a.store.now a.row.now none)),
     )
@@ -60,7 +60,7 @@ returns-2 c =
     let g = c.before.before in
     let start = g.before.before.before.before.before.before.before in
     let a = start.args in
-    let some : allZero a.row.now ≡ false = sym g.before.before.before.all-below.ensures ∙ g.before.before.if1.false in (
+    let some : all_zero a.row.now ≡ false = sym g.before.before.before.all-below.ensures ∙ g.before.before.if1.false in (
       sym (length_some a.s a.row.now some),
       gathered-answer (sum_of a.op) a.stride a.s a.store.now (group_of a.op a.s) (bytes g.before.before.before.before.before.before)
           a.first a.row.now (take a.s a.out.now) a.out.now start.requires.1.0 some g.gather.ensures

@@ -3,13 +3,13 @@ use mathlib.Core.Path.{◌≡◌, sym, ap, ◌∙◌}
 use Prim.Native.Nat.{◌-◌, ◌≤◌}
 use native.Mathlib.Omega.{arith}
 use lib.ListN.{length}
-use Rattle.short_rows.specs.Running.{sumAfter}
+use Rattle.short_rows.specs.Running.{sum_after}
 use Rattle.short_rows.proofs.Running.{first-sum, last_sum}
 use Rattle.short_rows.proofs.digits.digit_sum.Statement.{statement}
 use Rattle.short_rows.proofs.digits.digit_sum.Tie as tie
 
 abbrev invariant-loop : tie.invariant-loop
-invariant-loop n digits sum₀ i₀ sum i = (i ≤ length digits) × (sum ≡ sumAfter n digits i)
+invariant-loop n digits sum₀ i₀ sum i = (i ≤ length digits) × (sum ≡ sum_after n digits i)
 
 abbrev decreases-loop : tie.decreases-loop
 decreases-loop n digits sum₀ i₀ sum i = length digits - i
@@ -39,7 +39,7 @@ returns c =
     let start = at.before.before in
     let a = start.args in
     let end : at.loop.i ≡ length a.digits.now = omega arith in
-    let e : at.loop.sum ≡ sumAfter a.n a.digits.now (length a.digits.now) = at.loop.invariant.1 ∙ ap (sumAfter a.n a.digits.now) end in
+    let e : at.loop.sum ≡ sum_after a.n a.digits.now (length a.digits.now) = at.loop.invariant.1 ∙ ap (sum_after a.n a.digits.now) end in
     (e ∙ last_sum a.n a.digits.now start.requires, e)
 
 pub digit-sum-spec : {M : Type 1} → statement M

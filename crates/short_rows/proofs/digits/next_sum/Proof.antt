@@ -5,7 +5,7 @@ use Prim.Native.Nat.{ℕ, ◌+◌, ◌%◌}
 use native.Mathlib.Omega.{arith}
 use borrow.Author.Rules.{rules}
 use lib.ListN.{get_or}
-use Rattle.lists.proofs.Below.{allBelow-below}
+use Rattle.lists.proofs.Below.{all_below-below}
 use Rattle.short_rows.proofs.Running.{sums-below, next-sum}
 use Rattle.short_rows.proofs.digits.next_sum.Statement.{statement}
 use Rattle.short_rows.proofs.digits.next_sum.Tie as tie
@@ -21,7 +21,7 @@ add-modulo-requires c κs =
     let start = c.before.before in
     let a = start.args in
     let s = sums-below a.n a.digits.now start.requires.0 a.i (omega arith) in
-    (omega (arith, start.requires.1.1), allBelow-below a.n a.digits.now start.requires.0 a.i (omega arith))
+    (omega (arith, start.requires.1.1), all_below-below a.n a.digits.now start.requires.0 a.i (omega arith))
 
 returns : tie.Need-returns
 returns c =

@@ -11,7 +11,7 @@ use Rattle.lists.proofs.Laid.{lay-length}
 use Rattle.symbol.specs.Sum.{less}
 use Rattle.symbol.specs.Operations.{sum_of}
 use Rattle.symbol.proofs.Operations.{group_of}
-use Rattle.short_rows.specs.Steps.{fromPlaces}
+use Rattle.short_rows.specs.Steps.{from_places}
 use Rattle.short_rows.proofs.Places.{from-length, write_done, write-more}
 use Rattle.short_rows.proofs.recovering.recover_row.Statement.{statement}
 use Rattle.short_rows.proofs.recovering.recover_row.Tie as tie
@@ -19,8 +19,8 @@ use Rattle.short_rows.proofs.recovering.recover_row.Tie as tie
 abbrev invariant-loop : tie.invariant-loop
 invariant-loop op n s t empty starts answers message₀ other d₀ message d =
     (0 < d) × (d ≤ n)
-    × (lay ((d - 1) * s) (flat_map (fromPlaces (sum_of op) n s t empty starts answers) (range d (n - d))) message
-    ≡ lay 0 (flat_map (fromPlaces (sum_of op) n s t empty starts answers) (range 1 (n - 1))) message₀)
+    × (lay ((d - 1) * s) (flat_map (from_places (sum_of op) n s t empty starts answers) (range d (n - d))) message
+    ≡ lay 0 (flat_map (from_places (sum_of op) n s t empty starts answers) (range 1 (n - 1))) message₀)
 
 abbrev decreases-loop : tie.decreases-loop
 decreases-loop op n s t empty starts answers message₀ other d₀ message d = n - d
@@ -34,7 +34,7 @@ shared-slice-read-other c = let start = c.before.before.before.before in omega (
 loop-holds : tie.Need-loop-init invariant-loop decreases-loop
 loop-holds c =
     let a = c.before.before.before.before.args in
-    let f = fromPlaces (sum_of a.op) a.n a.s a.t a.empty a.starts.now a.answers.now in
+    let f = from_places (sum_of a.op) a.n a.s a.t a.empty a.starts.now a.answers.now in
     (omega arith, omega arith, ap (λ (at : ℕ). lay at (flat_map f (range 1 (a.n - 1))) a.message.now) (zero-mul a.s))
 
 add-modulo-requires : tie.Need-add-modulo-requires invariant-loop decreases-loop
@@ -54,8 +54,8 @@ shared-slice-read-from : tie.Need-shared-slice-read-from invariant-loop decrease
 shared-slice-read-from c =
     let start = c.before.before.before.before.before.before.before.before in omega (arith, server c.before, start.requires.1.known)
 
-sub_at : tie.Need-overflow-sub-at invariant-loop decreases-loop
-sub_at c = omega arith
+sub_at_lem : tie.Need-overflow-sub-at invariant-loop decreases-loop
+sub_at_lem c = omega arith
 
 mul_at : tie.Need-overflow-mul-at invariant-loop decreases-loop
 mul_at c =
@@ -87,7 +87,7 @@ loop-again c =
     let start = at.before.before.before.before.before in
     let a = start.args in
     let d = at.loop.d in
-    let f = fromPlaces (sum_of a.op) a.n a.s a.t a.empty a.starts.now a.answers.now in
+    let f = from_places (sum_of a.op) a.n a.s a.t a.empty a.starts.now a.answers.now in
     let long = from-length (sum_of a.op) a.n a.s a.t (group_of a.op a.s) a.starts.now a.answers.now start.requires.1
     start.requires.0 a.empty d in
     let written = g.recover-symbol.ensures
@@ -99,13 +99,13 @@ returns : tie.Need-returns invariant-loop decreases-loop
 returns c =
     let at = c.before in
     let a = at.before.before.before.before.before.args in
-    let f = fromPlaces (sum_of a.op) a.n a.s a.t a.empty a.starts.now a.answers.now in
+    let f = from_places (sum_of a.op) a.n a.s a.t a.empty a.starts.now a.answers.now in
     sym (write_done f a.n a.s at.loop.d at.loop.message (omega arith)) ∙ at.loop.invariant.2
 
 same_length : tie.Need-same-length invariant-loop decreases-loop
 same_length c =
     let a = c.before.before.before.before.before.before.args in
-    let f = fromPlaces (sum_of a.op) a.n a.s a.t a.empty a.starts.now a.answers.now in
+    let f = from_places (sum_of a.op) a.n a.s a.t a.empty a.starts.now a.answers.now in
     ap length (returns c) ∙ lay-length 0 (flat_map f (range 1 (a.n - 1))) a.message.now
 
 pub recover-row-spec : {M : Type 1} → statement M
@@ -120,7 +120,7 @@ recover-row-spec =
     add-modulo-requires
     mul-from
     shared-slice-read-from
-    sub_at
+    sub_at_lem
     mul_at
     recover-symbol-requires
     add-d

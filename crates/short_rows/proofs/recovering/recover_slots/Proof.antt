@@ -8,7 +8,7 @@ use borrow.Author.Rules.{rules}
 use Rattle.lists.specs.Parts.{lay}
 use Rattle.lists.specs.Ranges.{range}
 use Rattle.symbol.specs.Operations.{sum_of}
-use Rattle.short_rows.specs.Steps.{fromPlaces}
+use Rattle.short_rows.specs.Steps.{from_places}
 use Rattle.short_rows.proofs.Parts.{slotted-placed}
 use Rattle.short_rows.proofs.recovering.recover_slots.Statement.{statement}
 use Rattle.short_rows.proofs.recovering.recover_slots.Tie as tie
@@ -40,7 +40,7 @@ returns c =
     let test = row.before.before.before in
     let at = test.before in
     let a = at.before.before.before.before.args in
-    let f : List ℕ → Bool → ℕ → List ℕ = λ starts empty. fromPlaces (sum_of a.op) a.n a.s a.t empty starts a.answers.now in
+    let f : List ℕ → Bool → ℕ → List ℕ = λ starts empty. from_places (sum_of a.op) a.n a.s a.t empty starts a.answers.now in
     row.recover-row.ensures
     ∙ ap₂ (λ (starts : List ℕ) (empty : Bool). lay 0 (flat_map (f starts empty) (range 1 (a.n - 1))) a.message.now) at.slot-starts.ensures
     test.all-below.ensures

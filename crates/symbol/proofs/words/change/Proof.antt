@@ -4,14 +4,14 @@ use Prim.Native.Nat.{ℕ, ◌+◌, ◌*◌, ◌-◌, ◌/◌, ◌≤◌}
 use native.Mathlib.Omega.{arith}
 use borrow.Author.Rules.{rules}
 use lib.ListN.{length, set, length-set}
-use Rattle.symbol.specs.Words.{changeAt, onWords}
+use Rattle.symbol.specs.Words.{change_at, on_words}
 use Rattle.symbol.proofs.WordSteps.{from, word-step, byte_left, words-done}
 use Rattle.symbol.proofs.words.change.Statement.{statement}
 use Rattle.symbol.proofs.words.change.Tie as tie
 
 abbrev invariant-loop : tie.invariant-loop
 invariant-loop away dst₀ src whole k₀ dst k =
-    (k ≤ whole) × (length dst ≡ length dst₀) × (onWords (changeAt away) dst₀ src ≡ from (changeAt away) (2 * k) dst src)
+    (k ≤ whole) × (length dst ≡ length dst₀) × (on_words (change_at away) dst₀ src ≡ from (change_at away) (2 * k) dst src)
 
 abbrev decreases-loop : tie.decreases-loop
 decreases-loop away dst₀ src whole k₀ dst k = whole - k
@@ -48,7 +48,7 @@ loop-again c =
     let first = c.before.before.before.before.before.before.word_at in
     let at = c.before.before.before.before.before.before.before.before.before in
     let args = at.before.before.before.args in
-    let change = changeAt args.away in
+    let change = change_at args.away in
     let next : 2 * at.loop.k + 2 ≡ 2 * (at.loop.k + 1) = omega arith in (
       omega arith,
       ap length made.ensures ∙ simp length-set at.loop.invariant.1,
@@ -96,8 +96,8 @@ returns c =
     let last = 2 * (length args.src.now / 2) in
     let all : 2 * at.loop.k ≡ last = omega arith in
     ap (set at.loop.dst last) c.changed2.ensures
-    ∙ sym (at.loop.invariant.2 ∙ ap (λ (i : ℕ). from (changeAt args.away) i at.loop.dst args.src.now) all
-    ∙ byte_left (changeAt args.away) last at.loop.dst args.src.now (omega arith) (omega arith))
+    ∙ sym (at.loop.invariant.2 ∙ ap (λ (i : ℕ). from (change_at args.away) i at.loop.dst args.src.now) all
+    ∙ byte_left (change_at args.away) last at.loop.dst args.src.now (omega arith) (omega arith))
 
 same-length-2 : tie.Need-same-length-2 invariant-loop decreases-loop
 same-length-2 c = search rules
@@ -106,7 +106,7 @@ returns-2 : tie.Need-returns-2 invariant-loop decreases-loop
 returns-2 c =
     let at = c.before.before in
     let args = at.before.before.before.args in
-    sym (at.loop.invariant.2 ∙ words-done (changeAt args.away) (2 * at.loop.k) at.loop.dst args.src.now (omega arith))
+    sym (at.loop.invariant.2 ∙ words-done (change_at args.away) (2 * at.loop.k) at.loop.dst args.src.now (omega arith))
 
 pub change-spec : {M : Type 1} → statement M
 change-spec =

@@ -3,8 +3,8 @@ use mathlib.Core.Path.{sym, ap, ◌∙◌}
 use mathlib.Core.Bool.{Bool}
 use native.Mathlib.Omega.{arith}
 use borrow.Author.Rules.{rules}
-use Rattle.symbol.specs.Words.{changeAt}
-use Rattle.symbol.proofs.AddWords.{sub_at}
+use Rattle.symbol.specs.Words.{change_at}
+use Rattle.symbol.proofs.AddWords.{sub_at_lem}
 use Rattle.symbol.proofs.words.changed.Statement.{statement}
 use Rattle.symbol.proofs.words.changed.Tie as tie
 
@@ -17,13 +17,13 @@ add-result c = search rules
 returns : tie.Need-returns
 returns c =
     let at = c.before.args in
-    sym (sub_at at.limit at.a at.b (omega arith)) ∙ ap (λ (t : Bool). changeAt t at.limit at.a at.b) (sym c.if1.true)
+    sym (sub_at_lem at.limit at.a at.b (omega arith)) ∙ ap (λ (t : Bool). change_at t at.limit at.a at.b) (sym c.if1.true)
 
 add-result-2 : tie.Need-overflow-add-result-2
 add-result-2 c = search rules
 
 returns-2 : tie.Need-returns-2
-returns-2 c = let at = c.before.args in ap (λ (t : Bool). changeAt t at.limit at.a at.b) (sym c.if1.false)
+returns-2 c = let at = c.before.args in ap (λ (t : Bool). change_at t at.limit at.a at.b) (sym c.if1.false)
 
 pub changed-spec : {M : Type 1} → statement M
 changed-spec = tie.close (tie.spec sub-result add-result returns add-result-2 returns-2)
