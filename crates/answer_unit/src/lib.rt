@@ -1,5 +1,6 @@
 // The answer unit: the short answering end behind six byte registers (02, item 12). The unit is passed from access to access by value, and any value may
 // come in: each access checks its fields again. The rules stand in specs/Registers.antt, register by register.
+#![tactic(auto)]
 ghost use Rattle.std.specs.Prelude.{◌≡◌};
 ghost use Rattle.answer_unit.specs.Unit.{fresh as fresh·, zero_unit};
 ghost use Rattle.answer_unit.specs.Registers.{set_up, read_register, write_register, line as line·};
@@ -14,7 +15,7 @@ mod verdicts;
 // What writing a register does.
 mod writing;
 
-#[derive(Drop)]
+#[derive(Clone, Copy)]
 pub struct AnswerUnit {
     // The set-up.
     pub catalogue: Catalogue,
@@ -37,14 +38,14 @@ pub struct AnswerUnit {
 }
 
 // What set-up and a write hand back.
-#[derive(Drop)]
+#[derive(Clone, Copy)]
 pub struct Handed {
     pub verdict: Verdict,
     pub unit: AnswerUnit,
 }
 
 // What a read hands back.
-#[derive(Drop)]
+#[derive(Clone, Copy)]
 pub struct Got {
     pub verdict: Verdict,
     pub byte: u8,

@@ -1,5 +1,6 @@
 // The catalogue: which code, how many servers and messages, how long a symbol, what symbols are combined by, in which season, where messages end;
 // whether it is admitted, and on which days it is served, and the sizes that follow.
+#![tactic(auto)]
 ghost use Rattle.std.specs.Prelude.{◌≡◌, true};
 ghost use Rattle.catalogue.specs.Catalogue.{numbers_fit, dates_fit, in_bounds, whole_words, catalogue_verdict, zero_catalogue, sizes_of, measured_of};
 ghost use Rattle.catalogue.specs.Days.{day_verdict};
@@ -11,7 +12,7 @@ use refusal::{Refusal, Verdict};
 use symbol::Operation;
 
 // The code that every fetch from the catalogue uses.
-#[derive(Drop)]
+#[derive(Clone, Copy)]
 pub enum Code {
     // The code of Tian, Sun and Chen.
     Short,
@@ -23,7 +24,7 @@ pub enum Code {
     Round,
 }
 
-#[derive(Drop)]
+#[derive(Clone, Copy)]
 pub struct Catalogue {
     pub code: Code,
     // What symbols are combined by (02, item 2: `sum=`).
@@ -42,7 +43,7 @@ pub struct Catalogue {
 }
 
 // The sizes of a catalogue, or why it is refused.
-#[derive(Drop)]
+#[derive(Clone, Copy)]
 pub enum Measured {
     Of(Sizes),
     Refused(Refusal),

@@ -1,4 +1,5 @@
 // The catalogue's text: reading it line by line, and writing it.
+#![tactic(auto)]
 ghost use Rattle.std.specs.Prelude.{◌≡◌};
 ghost use Rattle.catalogue_text.specs.Parsing.{first_lines, catalogue_of, refused_lines, catalogue_lines, lines_of, unread, read_of};
 ghost use Rattle.catalogue_text.specs.Writing.{Wrote};
@@ -16,7 +17,7 @@ mod named;
 mod writing;
 
 // The four lines that every catalogue's text begins with, and where they end; or lines out of form.
-#[derive(Drop)]
+#[derive(Clone, Copy)]
 enum First {
     Of {
         code: Code,
@@ -29,7 +30,7 @@ enum First {
 }
 
 // The catalogue's lines at the start of a text, and where they end.
-#[derive(Drop)]
+#[derive(Clone, Copy)]
 pub struct Lines {
     pub verdict: Verdict,
     pub catalogue: Catalogue,
@@ -37,7 +38,7 @@ pub struct Lines {
 }
 
 // What a whole text says.
-#[derive(Drop)]
+#[derive(Clone, Copy)]
 pub struct Reading {
     pub verdict: Verdict,
     pub catalogue: Catalogue,

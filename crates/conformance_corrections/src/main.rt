@@ -1,10 +1,13 @@
 // The conformance program of corrections, line by line: each makes its call, or sets what later calls are given. It reads `stdin` and prints `stdout`, both
 // of which the second implementation writes.
-use libc::STDIN_FILENO;
+#![tactic(auto)]
 use trial_bytes::input::Line;
 use trial_bytes::{draw, input};
 use trial_corrections::state::State;
 use trial_corrections::{calls, state};
+
+// Standard input.
+const STDIN_FILENO: i32 = 0;
 
 // A line that makes a call, with the parts of the buffers that it is lent.
 fn on_call(

@@ -1,10 +1,13 @@
 // The conformance program of the answer unit, line by line: each makes its call, or sets what later calls find. It reads `stdin` and prints `stdout`, both
 // of which the second implementation writes.
-use libc::STDIN_FILENO;
+#![tactic(auto)]
 use trial_bytes::input::Line;
 use trial_bytes::{draw, input};
 use trial_units::state::State;
 use trial_units::{calls, state};
+
+// Standard input.
+const STDIN_FILENO: i32 = 0;
 
 // One line, by its letter.
 fn on_line(s: State, line: Line, text: &[u8], store: &mut [u8]) -> State {

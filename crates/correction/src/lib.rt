@@ -1,5 +1,6 @@
 // One corrected byte (02, item 13): a byte of the store is set, and saved answers are brought up to date with it. No answer is worked out afresh: of the store
 // the one byte is read, of an answer the one word.
+#![tactic(auto)]
 ghost use Rattle.std.specs.Prelude.{◌≡◌, true, ◌<◌, min, length};
 ghost use Rattle.symbol.specs.Operations.{sum_of};
 ghost use Rattle.catalogue.specs.Catalogue.{Admitted};
@@ -16,7 +17,7 @@ use scheme::Place;
 use symbol::Operation;
 
 // One corrected byte (02: pack, piece, byte of the piece, new value).
-#[derive(Drop)]
+#[derive(Clone, Copy)]
 pub struct Edit {
     pub message: usize,
     pub symbol: usize,

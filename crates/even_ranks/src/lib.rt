@@ -1,5 +1,6 @@
 // The sets of an even query counted, and the places that follow from the counts without search.
 // A set of messages is one byte, bit p for message p.
+#![tactic(auto)]
 ghost use Rattle.std.specs.Prelude.{◌≡◌, map, ◌-◌, ◌%◌, ◌/◌, ◌^◌, ◌≤◌, ◌<◌, eqb, length};
 ghost use Rattle.std.specs.Int.Count.{ones};
 ghost use Rattle.lists.specs.Below.{Below};
@@ -8,7 +9,7 @@ ghost use Rattle.even_sets.specs.Sets.{set_in};
 ghost use Rattle.even_ranks.specs.Counts.{«counter» as counterAt, Stands, set_counted, totals_of, «takers» as takersOf, taken, taken_table};
 
 // Where the places of a row come from.
-#[derive(Drop)]
+#[derive(Clone, Copy)]
 pub struct Origin {
     // The row's own block: the wanted message's place is of this block.
     pub block: usize,

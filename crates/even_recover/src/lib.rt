@@ -1,4 +1,5 @@
 // Recovery of the even code (01: 'Even code', recovery): the wanted message from the answers of all servers.
+#![tactic(auto)]
 ghost use Rattle.std.specs.Prelude.{◌≡◌, true, map, ◌*◌, ◌/◌, ◌%◌, ◌^◌, ◌≤◌, ◌<◌, length};
 ghost use Rattle.lists.specs.Parts.{lay};
 ghost use Rattle.lists.specs.Assembled.{lay_all};
@@ -17,7 +18,7 @@ use symbol::Operation;
 mod rows;
 
 // What is the same for all rows of one server's query.
-#[derive(Drop)]
+#[derive(Clone, Copy)]
 struct ServerRows {
     // How many servers there are.
     servers: usize,
@@ -32,7 +33,7 @@ struct ServerRows {
 }
 
 // The rows of one set with the wanted message.
-#[derive(Drop)]
+#[derive(Clone, Copy)]
 struct Group {
     // Messages in the set.
     messages: usize,

@@ -1,5 +1,6 @@
 // The lines of a catalogue's lengths, `length=` (document 02, item 6): one for each message, or none. Read at a place of a text, and written at a place
 // of a buffer.
+#![tactic(auto)]
 ghost use Rattle.std.specs.Prelude.{◌≡◌, ◌+◌, ◌≤◌, length, drop};
 ghost use Rattle.lists.specs.Parts.{put};
 ghost use Rattle.text_lines.specs.Lines.{begins};
@@ -10,7 +11,7 @@ use lengths::Lengths;
 use text_lines::Line;
 
 // The lengths at a place of the text, zeros where there are none, and what follows them at `next`; or lines out of form.
-#[derive(Drop)]
+#[derive(Clone, Copy)]
 pub struct LengthLines {
     pub formed: bool,
     pub lengths: Lengths,

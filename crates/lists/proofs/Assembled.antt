@@ -130,6 +130,7 @@ module _ (size : ℕ) where
   assemble-in : {parts : List Part} → All (PartWithin size) parts → (j : ℕ) (a b : List ℕ) → size ≤ length a → size ≤ length b → Any (InPart j) parts
       → get_or (assemble parts a) j 0 ≡ get_or (assemble parts b) j 0
   unfolding assemble_by
+  assemble-in all_nil j a b la lb x7 = elim x7 [ ]
   assemble-in (all_cons {x = part} h hs) j a b la lb (any_here i) =
       assemble-same hs j (put part.0 part.1 a) (put part.0 part.1 b) (still part a h la) (still part b h lb)
       (put_in part j a b (omega arith) (omega arith) i)

@@ -1,1 +1,2 @@
 // No code: definitions and laws on lists of numbers that several crates share.
+#![tactic(auto)]

@@ -1,4 +1,5 @@
 // Lists of numbers in decimal with one space between: read from a text that they end, and written.
+#![tactic(auto)]
 ghost use Rattle.std.specs.Prelude.{◌≡◌, true, false, cond, ◌+◌, ◌*◌, ◌^◌, ◌≤◌, ◌<◌, ltb, length};
 ghost use Rattle.lists.specs.Parts.{put};
 ghost use Rattle.number_lists.specs.declared.Scanned.TheVariants.{Of};
@@ -7,7 +8,7 @@ ghost use Rattle.number_lists.specs.NumberLists.{after_space, after_spaces, spac
 use text_lines::Line;
 
 // What a scan of a list of numbers says.
-#[derive(Drop)]
+#[derive(Clone, Copy)]
 pub enum Scanned {
     // How many numbers there are, and whether each is below 256.
     Of { count: usize, bytes: bool },

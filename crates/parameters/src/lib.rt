@@ -1,5 +1,6 @@
 // The parameters of a code, N servers, K messages, symbols of S bytes: what they may be, and the sizes that follow from them.
 // Each code has a module: `fits` tests its bounds, unless it has another code's, `sizes` gives its sizes. Here is what the codes share.
+#![tactic(auto)]
 ghost use Rattle.std.specs.Prelude.{◌≡◌, ◌&&◌, ◌^◌, ◌<◌};
 ghost use Rattle.parameters.specs.Bounds.{servers_fit, symbol_fits};
 
@@ -9,7 +10,7 @@ pub mod short;
 pub mod turn;
 
 // Every length that a caller has to know (01: a pack's pieces, pack, store, key, request, slot).
-#[derive(Drop)]
+#[derive(Clone, Copy)]
 pub struct Sizes {
     // Symbols in a message.
     pub symbols: usize,

@@ -1,4 +1,5 @@
 // The request printer: from the text of an input to the text of its output.
+#![tactic(auto)]
 ghost use Rattle.std.specs.Prelude.{◌≡◌, true, ◌+◌, ◌*◌, ◌≤◌, ◌<◌, length};
 ghost use Rattle.lists.specs.Parts.{put};
 ghost use Rattle.lists.specs.Below.{all_below};
@@ -21,7 +22,7 @@ use text_lines::Line;
 mod checks;
 
 // An output at the start, then zeros.
-#[derive(Drop)]
+#[derive(Clone, Copy)]
 pub struct Page {
     pub bytes: [u8; 8496],
     pub length: usize,

@@ -1,10 +1,11 @@
 // The numbered refusals, and what a call answers: a verdict, or a value unless it is refused.
+#![tactic(auto)]
 ghost use Rattle.std.specs.Prelude.{◌≡◌};
 ghost use Rattle.refusal.specs.Numbers.{number_of};
 
 // Why a call is refused, by ascending number (document 01, 'Numbers a call can give'; document 02: 13 and 14 item 1, 15 item 2, 16 item 5, 17 item 9,
 // 18 item 12, 19 item 13). Which is given where several apply is another order: `order` of specs/Numbers.antt.
-#[derive(Drop)]
+#[derive(Clone, Copy)]
 pub enum Refusal {
     // 1: the catalogue's or the printer's input is not in its text form.
     Text,
@@ -47,14 +48,14 @@ pub enum Refusal {
 }
 
 // What a check or a call answers that has nothing else to say.
-#[derive(Drop)]
+#[derive(Clone, Copy)]
 pub enum Verdict {
     Accepted,
     Refused(Refusal),
 }
 
 // What a call answers that gives a number, such as the length that it wrote.
-#[derive(Drop)]
+#[derive(Clone, Copy)]
 pub enum Outcome {
     Value(usize),
     Refused(Refusal),

@@ -1,6 +1,7 @@
 // The round code: a fetch by the short code for each block of a message, side by side, under each short key once. n servers and k messages of n^(k - 1)
 // blocks of n - 1 symbols of s bytes. The rule is round_scheme/specs/Round.antt; rows are answered and recovered from in short_rows. Every function
 // goes once over what it reads and writes.
+#![tactic(auto)]
 ghost use Rattle.std.specs.Prelude.{◌≡◌, true, ◌-◌, ◌*◌, ◌≤◌, ◌<◌, length};
 ghost use Rattle.lists.specs.Parts.{put, lay};
 ghost use Rattle.lists.specs.Distinct.{is_permutation};

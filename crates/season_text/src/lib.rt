@@ -1,5 +1,6 @@
 // The lines of a catalogue's season, `open=` and `close=` (document 02, item 1): both or neither, each with a day. Read at a place of a text, and
 // written at a place of a buffer.
+#![tactic(auto)]
 ghost use Rattle.std.specs.Prelude.{◌≡◌, ◌+◌, ◌-◌, ◌^◌, ◌≤◌, ◌<◌, length, take, drop};
 ghost use Rattle.lists.specs.Parts.{put};
 ghost use Rattle.text_lines.specs.Decimal.{value_from};
@@ -12,14 +13,14 @@ use calendar::Day;
 const HYPHEN: u8 = 45;
 
 // What stands at a place of the text: a line with this day, the next line at `next`; or no such line.
-#[derive(Drop)]
+#[derive(Clone, Copy)]
 pub enum DayLine {
     Value { day: Day, next: usize },
     Refused,
 }
 
 // The dates at a place of the text, what follows them at `next`; three zeros each where there are none; or lines out of form.
-#[derive(Drop)]
+#[derive(Clone, Copy)]
 pub enum Season {
     Of {
         opening: Day,

@@ -1,5 +1,6 @@
 // The session: one fetch, from its key to its message, passed from call to call by value. Its calls are defined in specs/Calls.antt.
 // Each has a function for its verdict; refused, it hands back what it was given, else it writes, and marks the session.
+#![tactic(auto)]
 ghost use Rattle.std.specs.Prelude.{◌≡◌, ◌+◌, ◌≤◌, ◌<◌, length};
 ghost use Rattle.codes.specs.Codes.{scheme_of};
 ghost use Rattle.session_parts.specs.Meters.{counted};
@@ -17,7 +18,7 @@ use session_parts::Meters;
 mod verdicts;
 
 // What a fetch holds between its calls. Any value may come in: each call checks the fields again.
-#[derive(Drop)]
+#[derive(Clone, Copy)]
 pub struct Session {
     pub catalogue: Catalogue,
     // The number of the message that is fetched (01: k).
@@ -33,7 +34,7 @@ pub struct Session {
 }
 
 // What a call on a session hands back.
-#[derive(Drop)]
+#[derive(Clone, Copy)]
 pub struct Handed {
     pub verdict: Verdict,
     pub session: Session,

@@ -1,4 +1,5 @@
 // The parts of a session that are lists: the marks and the meters of its servers, the places of its key, and the slots of its answer buffer.
+#![tactic(auto)]
 ghost use Rattle.std.specs.Prelude.{◌≡◌, ◌+◌, ◌≤◌, ◌<◌, ltb, length};
 ghost use Rattle.lists.specs.Parts.{put};
 ghost use Rattle.session_parts.specs.Marks.{mark_good, marks_good, all_taken};
@@ -6,7 +7,7 @@ ghost use Rattle.session_parts.specs.Meters.{no_meters, counted, count_issued, c
 ghost use Rattle.session_parts.specs.Places.{padded_key};
 
 // What a fetch has sent and received, for each server.
-#[derive(Drop)]
+#[derive(Clone, Copy)]
 pub struct Meters {
     // The bytes of the queries issued to it.
     pub sent: [u32; 16],

@@ -1,5 +1,6 @@
 // Symbols of bytes (01: pieces): copied, combined and taken away again. All combining of the codes goes through `combine`, `subtract`
 // and `write_difference`, which are told the operation; no code asks which it is.
+#![tactic(auto)]
 ghost use Rattle.std.specs.Prelude.{◌≡◌, min, length};
 ghost use Rattle.lists.specs.Parts.{lay};
 ghost use Rattle.symbol.specs.Sum.{less};
@@ -10,7 +11,7 @@ ghost use Rattle.symbol.specs.Operations.{sum_of};
 mod words;
 
 // What symbols are combined by.
-#[derive(Drop)]
+#[derive(Clone, Copy)]
 pub enum Operation {
     // Exclusive or, byte by byte.
     ExclusiveOr,

@@ -1,11 +1,12 @@
 // Lines of text: a name and a decimal number, ended by byte 10. Read at a place of a text, and written at a place of a buffer.
+#![tactic(auto)]
 ghost use Rattle.std.specs.Prelude.{◌≡◌, ◌+◌, ◌^◌, ◌≤◌, ◌<◌, length};
 ghost use Rattle.lists.specs.Parts.{put};
 ghost use Rattle.text_lines.specs.Decimal.{decimal, digit_count, value_from};
 ghost use Rattle.text_lines.specs.Lines.{number_text, begins, is_numeral, number_at, number_line};
 
 // What stands at a place of the text: a line with this value, the next line at `next`; or no such line.
-#[derive(Drop)]
+#[derive(Clone, Copy)]
 pub enum Line {
     Value { value: usize, next: usize },
     Refused,
@@ -147,7 +148,7 @@ pub fn put_bytes(out: &mut [u8], at: usize, bytes: &[u8]) -> usize
     ensures out_after { out.new ≡ put at bytes.now out.old }
 {
     let end = at + bytes.len();
-    bytes::copy(bytes, &mut out[at..end]);
+    out[at..end].copy_from_slice(bytes);
     end
 }
 

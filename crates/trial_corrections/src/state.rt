@@ -7,7 +7,7 @@ use trials::state;
 use trials::state::Given;
 
 // A server, and where its query and its saved answer begin and end.
-#[derive(Drop)]
+#[derive(Clone, Copy)]
 pub struct Saved {
     pub server: usize,
     pub query: usize,
@@ -16,7 +16,7 @@ pub struct Saved {
     pub answer_end: usize,
 }
 
-#[derive(Drop)]
+#[derive(Clone, Copy)]
 pub struct State {
     pub catalogue: Catalogue,
     pub edit: Edit,

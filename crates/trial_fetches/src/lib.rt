@@ -1,5 +1,6 @@
 // Whole fetches: begin, then for each server issue, answer and take, then recover, all in buffers of exactly the length that they need, but for the
 // message's, which the line says.
+#![tactic(auto)]
 ghost use Rattle.std.specs.Prelude.{◌≤◌};
 
 use calendar::Day;
@@ -13,7 +14,7 @@ use trials::show;
 use trials::state::State;
 
 // A session, and what its exchanges with servers came to so far: the sums of the queries and of the answers, and the answers' bytes.
-#[derive(Drop)]
+#[derive(Clone, Copy)]
 pub struct Exchanged {
     pub session: Session,
     pub queries: u64,

@@ -1,10 +1,13 @@
 // The lines of a conformance program's input, one after another: each makes its call, or sets what later calls are lent. Proved safe and to end,
 // like all of the test program.
-use libc::STDIN_FILENO;
+#![tactic(auto)]
 use trial_bytes::input;
 use trial_bytes::input::Line;
 use trials::state;
 use trials::state::State;
+
+// Standard input.
+const STDIN_FILENO: i32 = 0;
 
 // One line, by its letter.
 fn on_line(

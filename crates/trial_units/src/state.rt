@@ -4,7 +4,7 @@ use catalogue::Catalogue;
 use trials::state;
 use trials::state::Given;
 
-#[derive(Drop)]
+#[derive(Clone, Copy)]
 pub struct State {
     // The catalogue of later set-ups.
     pub catalogue: Catalogue,

@@ -3,11 +3,13 @@
 use calendar::Day;
 use catalogue::{Catalogue, Code};
 use lengths::Lengths;
-use libc::STDOUT_FILENO;
 use refusal::{Outcome, Verdict};
 use session::Session;
 use session_parts::Meters;
 use symbol::Operation;
+
+// Standard output.
+const STDOUT_FILENO: i32 = 1;
 
 // Prints a letter at the start of a line.
 pub fn letter(b: u8) {

@@ -5,7 +5,7 @@ use lengths::Lengths;
 use session::Session;
 
 // The dates and lengths that a catalogue of numbers is given, and the day of the calls.
-#[derive(Drop)]
+#[derive(Clone, Copy)]
 pub struct Given {
     pub opening: Day,
     pub closing: Day,
@@ -13,7 +13,7 @@ pub struct Given {
     pub today: Day,
 }
 
-#[derive(Drop)]
+#[derive(Clone, Copy)]
 pub struct State {
     pub catalogue: Catalogue,
     pub session: Session,
