@@ -1,0 +1,54 @@
+-- `correction::correct` meets its contract: it asks for the verdict before it writes, and an accepted one says all that the steps need.
+use mathlib.Core.Path.{sym, ap, ◌∙◌}
+use Prim.Native.Nat.{ℕ}
+use native.Mathlib.Omega.{arith}
+use lib.ListN.{length, set}
+use Rattle.correction.specs.Correction.{EditIn}
+use Rattle.correction.proofs.Verdicts.{Corrects, correct-passed, inside_of}
+use Rattle.correction.proofs.Calls.{correct-refused, correct-done, place_inside, answer-made}
+use Rattle.correction.proofs.correct.Goals as goal
+
+-- once the verdict is accepted
+passed : (c : goal.In_default) →
+    let a = c.args in
+    Corrects a.c a.server (length a.store.now) a.query.now a.edit (length a.answer.now)
+passed c =
+    let a = c.args in
+    correct-passed a.c a.server (length a.store.now) a.query.now a.edit (length a.answer.now)
+    (sym c.verdict-told.ensures ∙ c.in_default.is)
+
+known : (c : goal.In_default) → let a = c.args in EditIn a.c a.edit
+known c = let a = c.args in inside_of a.c a.edit (passed c).inside
+
+pub returns-in-Refused : goal.returns-in-Refused
+returns-in-Refused c =    let a = c.args in
+    let asked = c.verdict-told in 
+    let told = c.told-1.given in
+    correct-refused a.c a.server a.store.now a.query.now a.edit a.answer.now c.verdict-told.result c.verdict-told.ensures told.0.0 told.1
+
+pub place_of-place-requires : goal.place_of-place-requires
+place_of-place-requires c = record {
+      admitted = (passed c).admitted;
+      edit_in = known c;
+    }
+
+pub bounds-store-place : goal.bounds-store-place
+bounds-store-place c =    let a = c.args in
+    omega (arith, c.place_of-place.ensures, place_inside a.c a.edit (passed c.before.before).admitted (known c.before.before), (passed c.before.before).store_long)
+
+pub update-requires : goal.update-requires
+update-requires c =    let p = passed c.before.before.before in
+    (p.admitted, (p.admits, (known c.before.before.before, p.saved-long)))
+
+pub bounds-store-place-2 : goal.bounds-store-place-2
+bounds-store-place-2 c =    let a = c.args in
+    let place = c.place_of-place in 
+    omega (arith, c.place_of-place.ensures, place_inside a.c a.edit (passed c.before.before.before.before.before.before).admitted (known c.before.before.before.before.before.before), (passed c.before.before.before.before.before.before).store_long)
+
+pub returns : goal.returns
+returns c =    let a = c.args in
+    let asked = c.verdict-told in 
+    let place = c.place_of-place in 
+    correct-done a.c a.server a.store.now a.query.now a.edit a.answer.now c.verdict-told.result c.verdict-told.ensures _ _ c.in_default.is
+    (ap (λ (n : ℕ). set a.store.now n a.edit.value) c.place_of-place.ensures)
+    (c.update.ensures ∙ answer-made a.c a.edit a.store.now a.query.now a.answer.now c.place_of-place.result c.place_of-place.ensures)

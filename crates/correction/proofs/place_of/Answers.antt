@@ -1,0 +1,75 @@
+-- `correction::place_of` meets its contract: an admitted catalogue is measured, and its sizes are its scheme's.
+use mathlib.Core.Path.{◌≡◌, sym, ap, ◌∙◌}
+use Prim.Native.Nat.{ℕ, ◌+◌, ◌*◌, ◌^◌, ◌≤◌, ◌<◌}
+use native.Mathlib.Nat.{le-mul_of_pos_right}
+use native.Mathlib.Omega.{arith}
+use Rattle.lists.proofs.Cuts.{slot-end}
+use Rattle.parameters.specs.declared.Sizes.{Sizes}
+use Rattle.refusal.proofs.Chain.{not-refused}
+use Rattle.catalogue.specs.declared.Catalogue.{Catalogue}
+use Rattle.catalogue.specs.Catalogue.{Admitted}
+use Rattle.catalogue.proofs.Admitted.{admitted-numbers, admitted-small}
+use Rattle.codes.specs.Codes.{scheme_of}
+use Rattle.codes.proofs.Measured.{measured, unmeasured}
+use Rattle.codes.proofs.Promises.{scheme-sizes}
+use Rattle.correction.specs.declared.Edit.{Edit}
+use Rattle.correction.specs.Correction.{EditIn}
+use Rattle.codes.proofs.Asks.{asks_of}
+use Rattle.correction.proofs.place_of.Goals as goal
+
+-- the numbers on the way stay small, since the place lies in the store
+record Way (symbols size message symbol byte : ℕ) : Type 0 where
+  pub first : message * symbols < 2 ^ 32
+  pub number : message * symbols + symbol < 2 ^ 32
+  pub begins : (message * symbols + symbol) * size < 2 ^ 32
+  pub place : (message * symbols + symbol) * size + byte < 2 ^ 32
+
+way : (c : Catalogue) (e : Edit) → Admitted c → EditIn c e → (sizes : Sizes) → sizes ≡ (scheme_of c).sizes
+    → Way sizes.symbols c.symbol e.message e.symbol e.byte
+way c e a i sizes same =
+    let S = c.symbol in
+    let symbols = (scheme_of c).sizes.symbols in
+    let number = e.message * symbols + e.symbol in
+    let all = c.messages * symbols in
+    let low : number < all = omega (arith, slot-end e.message c.messages symbols i.message-in, i.symbol-in) in
+    let store : all * S < 2 ^ 32 =
+    omega (arith, (admitted-small c a).store, ap (λ (s : Sizes). s.store) (scheme-sizes c), (asks_of c a).store-whole) in
+    let some : 1 ≤ S = (admitted-numbers c a).symbol_low in
+    let few : number ≤ number * S = le-mul_of_pos_right number some in
+    let last = slot-end number all S low in
+    rw same (record {
+      first = omega (arith, few, last, store);
+      number = omega (arith, few, last, store);
+      begins = omega (arith, last, store);
+      place = omega (arith, last, store, i.byte-in);
+    })
+
+sized : (c : goal.In-Of-2) → c.in-Of.sizes ≡ (scheme_of c.args.c).sizes
+sized c =
+    (measured c.args.c c.sizes.result c.in-Of.sizes c.sizes.ensures c.in-Of.is).1
+
+on-way : (c : goal.In-Of-2) → let a = c.args in
+    Way c.in-Of.sizes.symbols a.c.symbol a.edit.message a.edit.symbol a.edit.byte
+on-way c =
+    way c.args.c c.args.edit c.requires.admitted c.requires.edit_in c.in-Of.sizes (sized c)
+
+pub returns-in_default : goal.returns-in_default
+returns-in_default c =    let from = c.sizes in 
+    not-refused c.in_default.field-0
+    (sym (unmeasured c.args.c c.sizes.result _ c.sizes.ensures c.in_default.is) ∙ c.requires.admitted)
+
+pub overflow_mul-result : goal.overflow_mul-result
+overflow_mul-result c = omega (arith, (on-way c.before.before.before).first)
+
+pub overflow_add-result : goal.overflow_add-result
+overflow_add-result c = omega (arith, (on-way c.before.before.before.before).number)
+
+pub overflow_mul-result-2 : goal.overflow_mul-result-2
+overflow_mul-result-2 c = omega (arith, (on-way c.before.before.before.before.before).begins)
+
+pub overflow_add-result-2 : goal.overflow_add-result-2
+overflow_add-result-2 c = omega (arith, (on-way c.before.before.before.before.before.before).place)
+
+pub returns : goal.returns
+returns c =    let a = c.args in
+    ap (λ (s : Sizes). (a.edit.message * s.symbols + a.edit.symbol) * a.c.symbol + a.edit.byte) (sized c.before.before.before.before.before.before)

@@ -1,0 +1,17 @@
+-- `even_answer::answer_set` meets its contract: after `row` turns the answers to the rows from there on are still to be written.
+use Prim.Native.Nat.{◌-◌, ◌*◌, ◌≤◌}
+use lib.ListN.{drop, replicate}
+use Rattle.lists.proofs.Writing.{Pending}
+use Rattle.symbol.specs.Operations.{sum_of}
+use Rattle.even_scheme.specs.Even.{row_answers}
+use Rattle.even_sets.specs.Sets.{set_in}
+use Rattle.even_answer.proofs.answer_set.Given as goal
+
+abbrev pub invariant-loop-row : goal.invariant-loop-row
+invariant-loop-row l =
+    (l.row ≤ l.rows)
+    × Pending 0 (row_answers (sum_of l.op) l.n l.k l.s l.store (replicate l.rows (set_in l.k l.set)) l.numbers) l.initial.out (l.row * l.s)
+    (row_answers (sum_of l.op) l.n l.k l.s l.store (replicate (l.rows - l.row) (set_in l.k l.set)) (drop (l.row * l.size) l.numbers)) l.out
+
+abbrev pub decreases-loop-row : goal.decreases-loop-row
+decreases-loop-row l = l.rows - l.row

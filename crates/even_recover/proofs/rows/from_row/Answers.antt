@@ -1,0 +1,75 @@
+-- `rows::from_row` meets its contract: the parts that are lent are the answers to the row and to the row that it was joined from.
+use mathlib.Core.Path.{ap, ap₂, ◌∙◌}
+use mathlib.Core.List.{List}
+use Prim.Native.Nat.{ℕ, ◌+◌, ◌*◌, ◌≤◌}
+use native.Mathlib.Nat.{add-sub_cancel_left, mul-le-mul}
+use native.Mathlib.Omega.{arith}
+use lib.Dec.{eqb}
+use lib.ListN.{length}
+use Rattle.lists.specs.Parts.{cut, lay}
+use Rattle.symbol.specs.Sum.{less}
+use Rattle.symbol.specs.Operations.{sum_of}
+use Rattle.even_recover.specs.Rows.{own_row, joined_from, group_symbol}
+use Rattle.even_recover.proofs.Held.{RowAt, row_inside, own-row, joined-row}
+use Rattle.even_recover.proofs.rows.from_row.Goals as goal
+
+-- the row itself is one of the servers' rows
+own : (start : goal.Start) → let a = c.args in RowAt a.here (own_row a.here a.group a.i)
+own start = let a = c.args in own-row a.here a.group a.i c.requires.held.bounded c.requires.grouped.0 c.requires.grouped.1.0
+
+-- and in the answer buffer
+own-inside : (start : goal.Start) → let a = c.args in
+    own_row a.here a.group a.i * a.here.symbol + a.here.symbol ≤ length a.answers.now
+own-inside start = let a = c.args in row_inside a.here a.answers.now (own_row a.here a.group a.i) c.requires.held (own c)
+
+-- and so is the row that it was joined from
+from-inside : (c : goal.After-joined_from) → let a = c.args in
+    c.joined_from.result * a.here.symbol + a.here.symbol ≤ length a.answers.now
+from-inside c =
+    let a = c.args in
+    rw c.joined_from.ensures
+    (row_inside a.here a.answers.now (joined_from a.here a.group a.i) c.requires.held
+    (joined-row a.here a.group a.i c.requires.held.bounded c.requires.grouped.0 c.requires.grouped.1.0))
+
+pub overflow_mul-own : goal.overflow_mul-own
+overflow_mul-own c = omega (arith, (own c.before.before.before).small)
+
+pub overflow_add-own : goal.overflow_add-own
+overflow_add-own c = omega (arith, (own c.before.before.before.before).small)
+
+pub overflow_add-own-2 : goal.overflow_add-own-2
+overflow_add-own-2 c = omega (arith, (own c.before.before.before.before).small)
+
+pub overflow_mul-own-2 : goal.overflow_mul-own-2
+overflow_mul-own-2 c = omega (arith, own-inside c.before.before.before.before)
+
+pub overflow_mul-joined : goal.overflow_mul-joined
+overflow_mul-joined c = omega (arith, from-inside c)
+
+pub overflow_add-own_end : goal.overflow_add-own_end
+overflow_add-own_end c = omega (arith, own-inside c.before.before.before.before.before)
+
+pub overflow_add-joined_end : goal.overflow_add-joined_end
+overflow_add-joined_end c = omega (arith, from-inside c)
+
+pub slice_bounds-write_difference-end : goal.slice_bounds-write_difference-end
+slice_bounds-write_difference-end c = own-inside c.before.before.before.before.before.before
+
+pub slice_bounds-write_difference-end-2 : goal.slice_bounds-write_difference-end-2
+slice_bounds-write_difference-end-2 c = from-inside c.before.before
+
+pub overflow_mul-number : goal.overflow_mul-number
+overflow_mul-number c =    omega (arith, mul-le-mul c.requires.grouped.1.1 c.requires.held.bounded.narrow)
+
+pub returns : goal.returns
+unfolding group_symbol
+returns c =    let a = c.args in
+    let size = a.here.symbol in
+    let first = own_row a.here a.group a.i * size in
+    let from = c.joined_from.result * size in
+    let written : ℕ → ℕ → ℕ → List ℕ = λ m other n.
+    lay (a.number * size) (less (sum_of a.op) (eqb a.group.messages 1) (cut first m a.answers.now) (cut other n a.answers.now))
+    a.message.now in
+    c.write_difference.ensures
+    ∙ ap₂ (λ (m n : ℕ). written m from n) (add-sub_cancel_left first size) (add-sub_cancel_left from size)
+    ∙ ap (λ (row : ℕ). written size (row * size) size) c.joined_from.ensures

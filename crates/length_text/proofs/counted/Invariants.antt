@@ -1,0 +1,10 @@
+-- `length_text::counted` meets its contract: after i turns the first i lines are taken.
+use Prim.Native.Nat.{◌-◌, ◌≤◌}
+use Rattle.length_text.proofs.Keeping.{Taken}
+use Rattle.length_text.proofs.counted.Given as goal
+
+abbrev pub invariant-loop-i : goal.invariant-loop-i
+invariant-loop-i l = (i ≤ l.count) × Taken l.count l.text l.at i l.i l.next
+
+abbrev pub decreases-loop-i : goal.decreases-loop-i
+decreases-loop-i l = l.count - i

@@ -1,0 +1,12 @@
+-- `length_text::lengths_length` meets its contract: after i turns the first i lines are counted, each of at most 18 bytes.
+use mathlib.Core.Path.{◌≡◌}
+use Prim.Native.Nat.{◌*◌, ◌-◌, ◌≤◌}
+use lib.ListN.{length, take}
+use Rattle.length_text.specs.LengthLines.{length_text}
+use Rattle.length_text.proofs.lengths_length.Given as goal
+
+abbrev pub invariant-loop-i : goal.invariant-loop-i
+invariant-loop-i l = (i ≤ l.lines) × (l.lines ≤ 32) × (l.i ≡ length (length_text (take i l.places))) × (l.i ≤ i * 18)
+
+abbrev pub decreases-loop-i : goal.decreases-loop-i
+decreases-loop-i l = l.lines - i

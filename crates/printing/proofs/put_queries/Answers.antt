@@ -1,0 +1,103 @@
+-- `printing::put_queries` meets its contract: after so many servers their lines stand side by side. A line has at most 19 bytes and 4 for each
+-- byte of its query, and the page has room for N of them.
+use mathlib.Core.Path.{◌≡◌, refl, sym, ap, ◌∙◌}
+use mathlib.Core.List.{List}
+use Prim.Native.Nat.{ℕ, ◌+◌, ◌-◌, ◌*◌, ◌≤◌, ◌<◌}
+use native.Mathlib.Nat.{suc-mul}
+use native.Mathlib.Numerals.{add-one}
+use native.Mathlib.Omega.{arith}
+use lib.ListN.{length, length-append}
+use Rattle.lists.specs.Parts.{put}
+use Rattle.lists.proofs.Puts.{put_next, put-nil}
+use Rattle.lists.proofs.Cuts.{slot-end}
+use Rattle.catalogue.specs.declared.Catalogue.{Catalogue}
+use Rattle.catalogue.specs.Catalogue.{Admitted}
+use Rattle.codes.specs.Codes.{scheme_of}
+use Rattle.session.proofs.Begin.{begin-passed}
+use Rattle.printing.specs.Input.{Asked, asked}
+use Rattle.printing.specs.Output.{page_bytes, query_line, asked_query, query_lines}
+use Rattle.printing.proofs.Lines.{lines_to, lines_none, lines_more, lines-all}
+use Rattle.printing.proofs.Room.{lines_fit}
+use Rattle.printing.proofs.put_queries.Goals as goal
+
+-- after so many servers, over the buffer at first
+record Printed (a : Asked) (size : ℕ) (first out : List ℕ) (at server : ℕ) : Type 0 where
+  few : server ≤ a.catalogue.servers
+  place : at ≡ length (lines_to scheme_of a server)
+  most : at ≤ server * (19 + 4 * size)
+  lines : out ≡ put 0 (lines_to scheme_of a server) first
+  same : length out ≡ length first
+
+-- there is room for the next line
+next_fits : (c : Catalogue) (size at server : ℕ) → Admitted c → size ≡ (scheme_of c).sizes.query → server < c.servers
+    → at ≤ server * (19 + 4 * size) → at + (19 + 4 * size) ≤ page_bytes
+next_fits c size at server admitted e below most =
+    let all : c.servers * (19 + 4 * size) ≤ page_bytes = rw e (lines_fit c admitted) in
+    let next = slot-end server c.servers (19 + 4 * size) below in
+    omega arith
+
+pub loop-server-init : goal.loop-server-init
+loop-server-init c =    let a = c.args in
+    let none = lines_none scheme_of (asked a.c a.wanted a.key.now) in
+    let l = ap length none in
+    record {
+      few = omega arith;
+      place = omega arith;
+      most = omega arith;
+      lines = sym (ap (λ (t : List ℕ). put 0 t a.out.now) none ∙ put-nil 0 a.out.now);
+      same = refl;
+    }
+
+pub put_query-at-requires : goal.put_query-at-requires
+put_query-at-requires c =    let a = c.args in
+    let at = c.loop-server in 
+    let admitted = (begin-passed scheme_of a.c a.wanted a.key.now c.requires.key_value).admitted in
+    let fits = next_fits a.c a.size c.loop-server.at c.loop-server.server admitted c.requires.size_value.0 (omega arith) c.loop-server.invariant.most in
+    let same = c.loop-server.invariant.same in
+    (c.requires.key_value, ((omega arith, c.requires.size_value.0), omega arith))
+
+pub overflow_add-server : goal.overflow_add-server
+overflow_add-server c =    omega arith
+
+pub loop-server-smaller : goal.loop-server-smaller
+loop-server-smaller c =    omega arith
+
+pub loop-server-preserved : goal.loop-server-preserved
+loop-server-preserved c =    let a = c.args in
+    let at = c.loop-server in 
+    let put-it = c.put_query-at in 
+    let ask = asked a.c a.wanted a.key.now in
+    let line = query_line c.loop-server.server (asked_query scheme_of ask c.loop-server.server) in
+    let more = lines_more scheme_of ask c.loop-server.server in
+    let l = ap length more ∙ length-append (lines_to scheme_of ask c.loop-server.server) line in
+    let e = c.put_query-at.ensures.value in
+    let f = c.put_query-at.ensures.upper_bound.0 in
+    let k = c.put_query-at.auto.0 in
+    let i = c.loop-server.invariant in
+    let long = 19 + 4 * a.size in
+    let next : (c.loop-server.server + 1) * long ≡ c.loop-server.server * long + long = rw (add-one) (suc-mul c.loop-server.server long) in
+    record {
+      few = omega arith;
+      place = omega arith;
+      most = omega arith;
+      lines =
+          c.put_query-at.ensures.upper_bound.1
+          ∙ put_next 0 c.loop-server.at (lines_to scheme_of ask c.loop-server.server) line a.out.now c.loop-server.out (omega arith) (omega arith) i.lines
+          ∙ ap (λ (t : List ℕ). put 0 t a.out.now) (sym more);
+      same = omega arith;
+    }
+
+pub shape_of-out : goal.shape_of-out
+shape_of-out c =    c.loop-server.invariant.same
+
+pub returns : goal.returns
+returns c =    let a = c.args in
+    let i = c.loop-server.invariant in
+    let few = i.few in
+    let ask = asked a.c a.wanted a.key.now in
+    let e : c.loop-server.server ≡ a.c.servers = omega arith in
+    let all : lines_to scheme_of ask c.loop-server.server ≡ query_lines scheme_of ask = ap (lines_to scheme_of ask) e ∙ lines-all scheme_of ask in
+    record {
+      value = i.place ∙ ap length all;
+      out_after = i.lines ∙ ap (λ (t : List ℕ). put 0 t a.out.now) all;
+    }

@@ -1,0 +1,99 @@
+-- `printing::put_query` meets its contract: the code fills the part that is lent with the query, whose line is then written.
+use mathlib.Core.Path.{◌≡◌, sym, ap, ◌∙◌}
+use mathlib.Core.List.{List, ◌++◌}
+use Prim.Native.Nat.{ℕ, ◌+◌, ◌≤◌}
+use native.Mathlib.Omega.{arith}
+use lib.ListN.{length, take, drop, length-append}
+use lib.Seq.{length-take-le, take_at}
+use Rattle.lists.specs.Parts.{put}
+use Rattle.catalogue.proofs.Admitted.{admitted-numbers}
+use Rattle.codes.specs.Codes.{scheme_of}
+use Rattle.codes.proofs.Promises.{promises}
+use Rattle.session.proofs.Begin.{Begins, begin-passed}
+use Rattle.printing.specs.Output.{query_line}
+use Rattle.printing.specs.Steps.{blank_places}
+use Rattle.lists.proofs.Puts.{put_whole}
+use Rattle.printing.proofs.Room.{places-many, query-fits}
+use Rattle.printing.proofs.put_query.Goals as goal
+
+-- what is known of the query, and of the part of the blank places that is lent for it
+module _ (from : goal.Start) (zeros : List ℕ) (blank : zeros ≡ blank_places) where
+  abbrev query : List ℕ
+  query = (scheme_of c.args.c).query c.args.wanted c.args.server c.args.key.now
+
+  begun : Begins scheme_of c.args.c c.args.wanted c.args.key.now
+  begun = begin-passed scheme_of c.args.c c.args.wanted c.args.key.now c.requires.key_value
+
+  fits : c.args.size ≤ length zeros
+  fits =
+      let f = query-fits c.args.c begun.admitted in
+      let due = c.requires.server_lt_servers.0.1 in
+      omega (arith, ap length blank ∙ places-many)
+
+  part_length : length (take c.args.size zeros) ≡ c.args.size
+  part_length = length-take-le c.args.size zeros fits
+
+  query-length : length query ≡ c.args.size
+  query-length =
+      (promises c.args.c begun.admitted).query-length
+      c.args.wanted c.args.server c.args.key.now begun.inside c.requires.server_lt_servers.0.0 begun.valid
+      ∙ sym c.requires.server_lt_servers.0.1
+
+  -- the part that was lent, as the code left it
+  module _ (lent : List ℕ) (left : lent ≡ put 0 query (take c.args.size zeros)) where
+    lent_is : lent ≡ query
+    lent_is = left ∙ put_whole query (take c.args.size zeros) (query-length ∙ sym part_length)
+
+    lent_length : length lent ≡ c.args.size
+    lent_length = ap length lent_is ∙ query-length
+
+    part-is : take c.args.size (lent ++ drop c.args.size zeros) ≡ query
+    part-is = take_at lent (drop c.args.size zeros) c.args.size lent_length ∙ lent_is
+
+    filled-length : length (take c.args.size (lent ++ drop c.args.size zeros)) ≡ c.args.size
+    filled-length = ap length part-is ∙ query-length
+
+pub slice_bounds-query-end : goal.slice_bounds-query-end
+slice_bounds-query-end c = fits c.before.before.before c.zeros-query.result c.zeros-query.ensures
+
+pub slice_bounds-query-end-2 : goal.slice_bounds-query-end-2
+slice_bounds-query-end-2 c = let zeros = c.zeros-query in  sym (part_length c.before.before.before.before c.zeros-query.result c.zeros-query.ensures)
+
+pub query-requires : goal.query-requires
+query-requires c =    let zeros = c.zeros-query in 
+    let b = begun c.before.before.before.before c.zeros-query.result c.zeros-query.ensures in
+    let l = part_length c.before.before.before.before c.zeros-query.result c.zeros-query.ensures in
+    let due = c.requires.server_lt_servers.0.1 in
+    (b.admitted, ((b.inside, c.requires.server_lt_servers.0.0), (b.valid, omega arith)))
+
+pub slice_bounds-query-end-3 : goal.slice_bounds-query-end-3
+slice_bounds-query-end-3 c =    let made = c.query in 
+    let zeros = c.zeros-query in 
+    let l = lent_length c.before.before.before.before.before.before.before c.zeros-query.result c.zeros-query.ensures c.query.new.1.1.1.1.0 c.query.ensures in
+    simp length-append (omega arith)
+
+pub slice_bounds-put_line-end : goal.slice_bounds-put_line-end
+slice_bounds-put_line-end c =    let made = c.query in 
+    let zeros = c.zeros-query in 
+    sym (filled-length c.before.before.before.before.before.before.before.before c.zeros-query.result c.zeros-query.ensures c.query.new.1.1.1.1.0 c.query.ensures)
+
+pub put_line-requires : goal.put_line-requires
+put_line-requires c =    let made = c.query in 
+    let zeros = c.zeros-query in 
+    let l = filled-length c.before.before.before.before.before.before.before.before c.zeros-query.result c.zeros-query.ensures c.query.new.1.1.1.1.0 c.query.ensures in
+    let n = admitted-numbers c.args.c (begun c.before.before.before.before.before.before.before.before c.zeros-query.result c.zeros-query.ensures).admitted in
+    let below = c.requires.server_lt_servers.0.0 in
+    let roomy = c.requires.server_lt_servers.1 in
+    (omega arith, omega arith)
+
+pub returns : goal.returns
+returns c =    let a = c.args in
+    let made = c.query in 
+    let zeros = c.zeros-query in 
+    let line = c.put_line in 
+    let part = part-is c.before.before.before.before.before.before.before.before.before.before.before c.zeros-query.result c.zeros-query.ensures c.query.new.1.1.1.1.0 c.query.ensures in
+    let l = filled-length c.before.before.before.before.before.before.before.before.before.before.before c.zeros-query.result c.zeros-query.ensures c.query.new.1.1.1.1.0 c.query.ensures in
+    let most = c.put_line.ensures.upper_bound.0 in (
+      c.put_line.ensures.value ∙ ap (λ (q : List ℕ). a.at + length (query_line a.server q)) part,
+      (omega arith, c.put_line.ensures.upper_bound.1 ∙ ap (λ (q : List ℕ). put a.at (query_line a.server q) a.out.now) part),
+    )

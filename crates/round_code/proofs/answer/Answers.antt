@@ -1,0 +1,152 @@
+-- `round_code::answer` meets its contract: after i turns the answers to the first i rows are written, one behind the other.
+use mathlib.Core.Path.{◌≡◌, refl, sym, ap, ap₂, ◌∙◌}
+use mathlib.Core.List.{List, flat_map}
+use Prim.Native.Nat.{ℕ, ◌+◌, ◌-◌, ◌*◌, ◌≤◌, ◌<◌}
+use native.Mathlib.Nat.{mul-le-mul}
+use native.Mathlib.Numerals.{add-one}
+use native.Mathlib.Omega.{arith}
+use lib.ListN.{length}
+use Rattle.lists.specs.Parts.{put}
+use Rattle.lists.specs.Ranges.{range}
+use Rattle.lists.proofs.Cuts.{slot-end}
+use Rattle.lists.proofs.Joined.{flat_map-next}
+use Rattle.lists.proofs.Puts.{put-length, put_next}
+use Rattle.parameters.specs.Bounds.{blocks}
+use Rattle.parameters.specs.Measures.{round_sizes}
+use Rattle.parameters.proofs.Bounds.{round-bounds}
+use Rattle.symbol.specs.Operations.{sum_of}
+use Rattle.symbol.proofs.Operations.{group_of}
+use Rattle.short_scheme.specs.Short.{short_answer_length, strided_answer}
+use Rattle.round_scheme.specs.Round.{row, row_length, row_answer, round_answer}
+use Rattle.round_scheme.proofs.Stored.{row-stored}
+use Rattle.round_scheme.proofs.Lengths.{row-long, before-long, before-none, before-next, before-grows}
+use Rattle.round_code.specs.Steps.{RoundNumbers}
+use Rattle.round_code.proofs.Fits.{fits-numbers, blocks-fit, rows-small}
+use Rattle.round_code.proofs.RowParts.{row-lent}
+use Rattle.round_code.proofs.answer.Goals as goal
+
+numbers : (c : goal.Start) → RoundNumbers c.args.n c.args.k
+numbers c = fits-numbers c.args.n c.args.k c.args.s c.requires.s_value
+
+-- as many symbols as a message has
+symbols-small : (N K i : ℕ) → RoundNumbers N K → i ≤ blocks N K → i * (N - 1) ≤ 64 * 15
+symbols-small N K i b h =
+    let few : i ≤ 64 = omega (arith, b.blocks-high) in
+    let short : N - 1 ≤ 15 = omega (arith, b.servers-high) in
+    mul-le-mul few short
+
+-- the row of a turn
+module _ (c : goal.In-loop-i) where
+  abbrev start : tie.Start invariant-loop decreases-loop
+  start = c.before.before.before.before.before.before
+
+  abbrev i : ℕ
+  i = c.loop-i.i
+
+  low : i < blocks start.args.n start.args.k
+  low = omega (arith, c.power-v.ensures)
+
+  digits-inside : (i * start.args.k + start.args.k ≤ length start.args.query.now) × (i * start.args.k ≤ 64 * 7)
+  digits-inside =
+      let a = start.args in (
+        omega (arith, slot-end i (blocks a.n a.k) a.k low, start.pre.1.1.0.long),
+        rows-small a.n a.k (numbers start) i (omega (arith, low)),
+      )
+
+pub overflow_sub-k : goal.overflow_sub-k
+overflow_sub-k c = omega (arith, (numbers c.before.before.before).messages-low)
+
+pub power-v-requires : goal.power-v-requires
+power-v-requires c = blocks-fit c.args.n c.args.k (numbers c.before.before.before)
+
+pub overflow_sub-stride : goal.overflow_sub-stride
+overflow_sub-stride c = omega (arith, (numbers c.before.before.before.before).servers-low)
+
+pub overflow_mul-stride : goal.overflow_mul-stride
+overflow_mul-stride c =    let all : c.power-v.result ≤ blocks c.args.n c.args.k = omega (arith, c.power-v.ensures) in
+    omega (arith, symbols-small c.args.n c.args.k c.power-v.result (numbers c.before.before.before.before) all)
+
+pub loop-i-init : goal.loop-i-init
+unfolding range flat_map
+loop-i-init c =    let a = c.args in (omega arith, sym (before-none a.k a.s a.query.now), refl, refl)
+
+pub overflow_sub-first : goal.overflow_sub-first
+overflow_sub-first c = omega (arith, (numbers (start c)).servers-low)
+
+pub overflow_mul-first : goal.overflow_mul-first
+overflow_mul-first c =    let a = (start c).args in omega (arith, symbols-small a.n a.k (i c) (numbers (start c)) (omega (arith, low c)))
+
+pub overflow_mul-from : goal.overflow_mul-from
+overflow_mul-from c = omega (arith, (digits-inside c).1)
+
+pub overflow_add-end : goal.overflow_add-end
+overflow_add-end c = omega (arith, (digits-inside c).1, (numbers (start c)).messages-high)
+
+pub slice_bounds-answer_row-count : goal.slice_bounds-answer_row-count
+slice_bounds-answer_row-count c = omega arith
+
+pub slice_bounds-answer_row-start : goal.slice_bounds-answer_row-start
+slice_bounds-answer_row-start c = omega arith
+
+pub slice_bounds-answer_row-end : goal.slice_bounds-answer_row-end
+slice_bounds-answer_row-end c = omega (arith, (digits-inside c).0)
+
+pub answer_row-at-requires : goal.answer_row-at-requires
+unfolding round_sizes row_length
+answer_row-at-requires c =    let begun = start c.before.before in
+    let a = begun.args in
+    let query = a.query.now in
+    let room = before-grows a.k a.s query (i c.before.before) (blocks a.n a.k) (low c.before.before) in (
+      (round-bounds a.n a.k a.s begun.pre.0).symbol_low,
+      rw (c.power-v.ensures, row-lent a.k query (i c.before.before)) (
+        row-stored a.n a.k a.s a.store.now begun.pre.1.0 (i c.before.before) (low c.before.before) (row a.k query (i c.before.before))
+            (begun.pre.1.1.0.rows (i c.before.before) (low c.before.before)),
+        omega (arith, room, c.loop-i.invariant.1, c.loop-i.invariant.2, begun.pre.1.1.1),
+      ),
+    )
+
+pub overflow_add-i : goal.overflow_add-i
+overflow_add-i c = omega arith
+
+pub loop-i-smaller : goal.loop-i-smaller
+loop-i-smaller c = omega arith
+
+pub loop-i-preserved : goal.loop-i-preserved
+unfolding round_sizes row_length row_answer
+loop-i-preserved c =    let begun = start c.before.before.before.before.before in
+    let a = begun.args in
+    let query = a.query.now in
+    let out = c.loop-i.out in
+    let j = i c.before.before.before.before.before in
+    let f = row_answer (sum_of a.op) a.n a.k a.s a.store.now query in
+    let keeps = (group_of a.op a.s).plus-length in
+    let lent = row-lent a.k query j in
+    let rows = begun.pre.1.1.0.rows in
+    let long = before-long (sum_of a.op) a.n a.k a.s keeps a.store.now begun.pre.1.0 query rows j (omega (arith, low c.before.before.before.before.before)) in
+    let one = row-long (sum_of a.op) a.n a.k a.s keeps a.store.now begun.pre.1.0 query rows j (low c.before.before.before.before.before) in
+    let room = before-grows a.k a.s query j (blocks a.n a.k) (low c.before.before.before.before.before) in
+    let written =
+    c.answer_row-at.ensures.out_after
+    ∙ ap₂ (λ (v : ℕ) (l : List ℕ). put c.loop-i.at (strided_answer (sum_of a.op) (j * (a.n - 1)) (v * (a.n - 1)) a.s a.store.now l) out)
+    c.power-v.ensures lent in (
+      omega arith,
+      c.answer_row-at.ensures.value
+          ∙ ap₂ (λ (n : ℕ) (l : List ℕ). n + short_answer_length a.s l) c.loop-i.invariant.1 lent
+          ∙ sym (before-next a.k a.s query j),
+      ap length written
+          ∙ put-length c.loop-i.at (f j) out (omega (arith, one, room, c.loop-i.invariant.1, c.loop-i.invariant.2, begun.pre.1.1.1))
+          ∙ c.loop-i.invariant.2,
+      written
+          ∙ put_next 0 c.loop-i.at (flat_map f (range 0 j)) (f j) a.out.now out (omega arith) (omega (arith, long, c.loop-i.invariant.1)) c.loop-i.invariant.3
+          ∙ ap (λ (l : List ℕ). put 0 l a.out.now) (sym (flat_map-next f j) ∙ ap (λ (n : ℕ). flat_map f (range 0 n)) (sym (add-one j))),
+    )
+
+pub shape_of-out : goal.shape_of-out
+shape_of-out c = c.loop-i.invariant.2
+
+pub returns : goal.returns
+unfolding round_answer
+returns c =    let a = c.args in
+    let last : c.loop-i.i ≡ blocks a.n a.k = omega (arith, c.power-v.ensures) in
+    c.loop-i.invariant.3
+    ∙ ap (λ (n : ℕ). put 0 (flat_map (row_answer (sum_of a.op) a.n a.k a.s a.store.now a.query.now) (range 0 n)) a.out.now) last

@@ -1,0 +1,62 @@
+-- `round_code::base::digits_of` meets its contract: before each turn, the digits that are left, and those that are written behind them, are all.
+use mathlib.Core.Path.{◌≡◌, refl, sym, ap, ◌∙◌}
+use mathlib.Core.List.{List, ◌++◌}
+use Prim.Native.Nat.{ℕ, suc, ◌-◌, ◌^◌, ◌<◌}
+use native.Mathlib.Nat.{mod-lt}
+use native.Mathlib.Omega.{arith}
+use lib.ListN.{drop, replicate, length-set}
+use Rattle.lists.proofs.Replicate.{drop-replicate}
+use Rattle.round_scheme.specs.Round.{digits}
+use Rattle.round_scheme.proofs.Numbers.{digits-length}
+use Rattle.round_code.specs.Steps.{most_digits}
+use Rattle.round_code.proofs.LastDigits.{rest-low, digit-written}
+use Rattle.round_code.proofs.base.digits_of.Goals as goal
+
+pub loop-i-init : goal.loop-i-init
+loop-i-init c =    let a = c.args in
+    let all = digits a.n a.count a.value in
+    let long = digits-length a.n a.count a.value in (
+      omega arith,
+      refl,
+      c.requires.count_le_most_digits.1,
+      ap (λ (l : List ℕ). all ++ l)
+          (drop-replicate {A = ℕ} a.count most_digits 0 ∙ ap (λ (n : ℕ). replicate {A = ℕ} (most_digits - n) 0) (sym long)),
+    )
+
+pub overflow_sub-i : goal.overflow_sub-i
+overflow_sub-i c = omega arith
+
+pub nonzero_rem-out : goal.nonzero_rem-out
+nonzero_rem-out c = omega arith
+
+pub overflow_cast-out : goal.overflow_cast-out
+overflow_cast-out c = let n = c.args.n in omega (arith, mod-lt c.loop-i.rest {m = n} (omega arith))
+
+pub bounds-out-i : goal.bounds-out-i
+bounds-out-i c = omega arith
+
+pub nonzero_div-rest : goal.nonzero_div-rest
+nonzero_div-rest c = omega arith
+
+pub loop-i-smaller : goal.loop-i-smaller
+loop-i-smaller c = omega arith
+
+pub loop-i-preserved : goal.loop-i-preserved
+loop-i-preserved c =    let n = c.args.n in
+    let i = c.loop-i.i in
+    let rest = c.loop-i.rest in
+    let some : 0 < n = omega arith in
+    let e : suc (i - 1) ≡ i = omega arith in
+    let low : rest < n ^ suc (i - 1) = rw e c.loop-i.invariant.2 in (
+      omega arith,
+      simp length-set c.loop-i.invariant.1,
+      rest-low n some (i - 1) rest low,
+      digit-written n some (i - 1) rest low c.loop-i.out (omega arith)
+          ∙ ap (λ (m : ℕ). digits n m rest ++ drop m c.loop-i.out) e
+          ∙ c.loop-i.invariant.3,
+    )
+
+pub returns : goal.returns
+unfolding digits
+returns c =    let last : c.loop-i.i ≡ 0 = omega arith in
+    rw last c.before c.loop-i.invariant.3

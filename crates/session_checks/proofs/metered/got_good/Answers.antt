@@ -1,0 +1,16 @@
+-- `session_checks::metered::got_good` meets its contract: the mark decides, and else the length that is called for.
+use mathlib.Core.Path.{ap}
+use borrow.Author.Tests.{not-true, not-false}
+use lib.Dec.{eqb}
+use Rattle.session_checks.proofs.metered.got_good.Goals as goal
+
+pub returns-then-not-taken : goal.returns-then-not-taken
+returns-then-not-taken c = rw (not-true c.args.taken c.if-not-taken.true-raw)
+
+pub expected_length-requires : goal.expected_length-requires
+expected_length-requires c =    let pre = c.requires in
+    (pre.0, ((pre.1.0, pre.1.1.1 (not-false c.args.taken c.if-not-taken.false-raw)), pre.1.1.0))
+
+pub returns : goal.returns
+returns c =    let args = c.args in
+    rw (not-false args.taken c.if-not-taken.false-raw) (ap (eqb args.bytes) c.expected_length.ensures)

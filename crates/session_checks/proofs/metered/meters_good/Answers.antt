@@ -1,0 +1,64 @@
+-- `session_checks::metered::meters_good` meets its contract: after i turns the meters of the first i places are good.
+use mathlib.Core.Path.{◌≡◌, sym, ap, ◌∙◌}
+use mathlib.Core.Bool.{Bool, false, ◌&&◌, and-false}
+use Prim.Native.Nat.{◌-◌}
+use native.Mathlib.Omega.{arith}
+use borrow.Author.Tests.{not-true, not-false}
+use Rattle.lists.proofs.Both.{true-both}
+use Rattle.lists.proofs.Every.{every-none, every_more, every-false}
+use Rattle.codes.specs.Codes.{scheme_of}
+use Rattle.session_parts.specs.Marks.{marked}
+use Rattle.session_parts.specs.Meters.{counted, sent_good, got_good, meters_good}
+use Rattle.session_parts.proofs.Marks.{taken-below}
+use Rattle.session_checks.specs.Checks.{answer_bytes}
+use Rattle.session_checks.proofs.Keys.{query-some}
+use Rattle.session_checks.proofs.metered.meters_good.Goals as goal
+
+-- one of two tests fails
+first-bad : (t u : Bool) → t ≡ false → t && u ≡ false
+first-bad t u e = ap (λ (x : Bool). x && u) e
+
+second-bad : (t u : Bool) → u ≡ false → t && u ≡ false
+second-bad t u e = ap (λ (x : Bool). t && x) e ∙ and-false t
+
+pub loop-i-init : goal.loop-i-init
+loop-i-init c = (omega arith, every-none _)
+
+pub sent_good-requires : goal.sent_good-requires
+sent_good-requires c =    omega (arith, c.requires.query_value.0, query-some c.args.c c.requires.admitted)
+
+pub returns-then-not-sent_good : goal.returns-then-not-sent_good
+unfolding meters_good
+returns-then-not-sent_good c =    let args = c.args in
+    let i = c.loop-i.i in
+    let bad : sent_good (scheme_of args.c).sizes.query (marked args.issued.now i) (counted args.m.sent i) ≡ false =
+    rw c.requires.query_value.0 c.before.before.before.before (sym c.sent_good.ensures ∙ not-true _ c.if-not-sent_good.true-raw) in
+    sym (every-false 16 _ i (omega arith) (first-bad _ _ bad))
+
+pub got_good-requires : goal.got_good-requires
+got_good-requires c =    let pre = c.requires in
+    let args = c.args in
+    let below = taken-below args.c.servers args.issued.now args.taken.now pre.1.1.1.1 c.loop-i.i (omega arith) in
+    (pre.0, (pre.1.1.0, (pre.1.1.1.0, below)))
+
+pub returns-then-not-got_good : goal.returns-then-not-got_good
+unfolding meters_good
+returns-then-not-got_good c =    let args = c.args in
+    let i = c.loop-i.i in
+    let sent = sent_good (scheme_of args.c).sizes.query (marked args.issued.now i) (counted args.m.sent i) in
+    let bad : got_good (answer_bytes scheme_of args.c args.wanted args.key.now i) (marked args.taken.now i) (counted args.m.got i) ≡ false =
+    sym c.got_good.ensures ∙ not-true _ c.if-not-got_good.true-raw in
+    sym (every-false 16 _ i (omega arith) (second-bad sent _ bad))
+
+pub loop-i-preserved : goal.loop-i-preserved
+loop-i-preserved c =    (
+      omega arith,
+      every_more c.loop-i.i _ c.loop-i.invariant.1
+          (true-both (sym c.sent_good.ensures ∙ not-false _ c.if-not-sent_good.false-raw)
+          (sym c.got_good.ensures ∙ not-false _ c.if-not-got_good.false-raw)),
+    )
+
+pub returns : goal.returns
+unfolding meters_good
+returns c =    let e : c.loop-i.i ≡ 16 = omega arith in
+    sym (rw (e, c.requires.query_value.0) c.before c.loop-i.invariant.1)

@@ -1,0 +1,21 @@
+-- `session_checks::metered::meters_good` meets its contract: after i turns the meters of the first i places are good.
+use mathlib.Core.Path.{◌≡◌}
+use mathlib.Core.Bool.{true, ◌&&◌}
+use Prim.Native.Nat.{◌≤◌, ◌-◌}
+use Rattle.lists.specs.Ranges.{every}
+use Rattle.codes.specs.Codes.{scheme_of}
+use Rattle.session_parts.specs.Marks.{marked}
+use Rattle.session_parts.specs.Meters.{counted, sent_good, got_good}
+use Rattle.session_checks.specs.Checks.{answer_bytes}
+use Rattle.session_checks.proofs.metered.meters_good.Given as goal
+
+abbrev pub invariant-loop-i : goal.invariant-loop-i
+invariant-loop-i l =
+    (l.i ≤ 16)
+    × (every l.i
+    (λ place. sent_good l.query (marked l.issued place) (counted l.sent place)
+    && got_good (answer_bytes scheme_of l.c l.wanted l.key place) (marked l.taken place) (counted l.got place))
+    ≡ true)
+
+abbrev pub decreases-loop-i : goal.decreases-loop-i
+decreases-loop-i l = 16 - l.i

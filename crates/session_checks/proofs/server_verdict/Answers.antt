@@ -1,0 +1,22 @@
+-- `session_checks::server_verdict` meets its contract: the catalogue's verdict decides, and else that on the server and the fields.
+use mathlib.Core.Path.{refl, sym, ◌∙◌}
+use Rattle.refusal.specs.declared.Verdict.TheVariants.{Accepted}
+use Rattle.catalogue.specs.Catalogue.{Admitted}
+use Rattle.catalogue.proofs.Faults.{after-catalogue}
+use Rattle.session_checks.proofs.server_verdict.Goals as goal
+
+-- once the catalogue is accepted
+admitted : (c : goal.In_default) → Admitted c.args.c
+admitted c = sym c.verdict.ensures ∙ c.in_default.is
+
+pub returns-in-Refused : goal.returns-in-Refused
+returns-in-Refused c =    after-catalogue c.args.c _ refl _ _ c.verdict.ensures (rw c.in-Refused.is)
+
+pub named_verdict-requires : goal.named_verdict-requires
+named_verdict-requires c = record {
+      admitted = admitted c;
+      places_len = c.requires;
+    }
+
+pub returns : goal.returns
+returns c = after-catalogue _ _ refl Accepted _ (sym (admitted c.before)) c.named_verdict.ensures

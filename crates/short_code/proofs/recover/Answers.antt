@@ -1,0 +1,49 @@
+-- `short_code::recover` meets its contract: the key's digits sum up to the number of the server that was asked for none of the wanted
+-- message.
+use mathlib.Core.Path.{sym, ap, ◌∙◌}
+use mathlib.Core.List.{List, flat_map}
+use Prim.Native.Nat.{ℕ, ◌-◌, ◌%◌, ◌<◌}
+use native.Mathlib.Nat.{mod-lt}
+use native.Mathlib.Omega.{arith}
+use Rattle.lists.specs.Parts.{lay}
+use Rattle.lists.specs.Below.{Below}
+use Rattle.lists.specs.Ranges.{range}
+use Rattle.parameters.specs.Measures.{short_sizes}
+use Rattle.parameters.proofs.Bounds.{ShortBounds, short-bounds}
+use Rattle.symbol.specs.Operations.{sum_of}
+use Rattle.symbol.proofs.Operations.{group_of}
+use Rattle.short_scheme.specs.Short.{all_zero, digit_sum}
+use Rattle.short_rows.specs.Steps.{Slotted, slot_starts, from_places}
+use Rattle.short_code.proofs.Slots.{fits-slotted, recover-slots}
+use Rattle.short_code.proofs.recover.Goals as goal
+
+bounds : (c : goal.Start) → ShortBounds c.args.n c.args.k c.args.s
+bounds c = short-bounds c.args.n c.args.k c.args.s c.requires.s_value
+
+slotted : (c : goal.Start) → Slotted c.args.n c.args.s c.args.answers.now
+unfolding short_sizes
+slotted c = fits-slotted c.args.n c.args.k c.args.s c.args.answers.now c.requires.s_value c.requires.valid.1
+
+bytes : (c : goal.After-shared_slice_known-2-1) → Below 256 c.args.answers.now
+bytes c i h = omega (arith, c.shared_slice_known-2-1.given i)
+
+pub digit_sum-t-requires : goal.digit_sum-t-requires
+digit_sum-t-requires c = c.requires.valid.0.good
+
+pub recover_slots-requires : goal.recover_slots-requires
+recover_slots-requires c =    let a = c.args in
+    let b = bounds c.before.before.before.before.before in
+    let m : digit_sum a.key.now % a.n < a.n = mod-lt (digit_sum a.key.now) (omega arith) in
+    record {
+      t_lt_n = omega (arith, c.digit_sum-t.ensures.value);
+      slotted = slotted c.before.before.before.before.before;
+    }
+
+pub returns : goal.returns
+returns c =    let a = c.args in
+    let f : ℕ → ℕ → List ℕ = λ t. from_places (sum_of a.op) a.n a.s t (all_zero a.key.now) (slot_starts a.s) a.answers.now in
+    c.recover_slots.ensures
+    ∙ ap (λ (t : ℕ). lay 0 (flat_map (f t) (range 1 (a.n - 1))) a.message.now) c.digit_sum-t.ensures.value
+    ∙ ap (λ (l : List ℕ). lay 0 l a.message.now)
+    (sym (recover-slots (sum_of a.op) a.n a.k a.s a.wanted (group_of a.op a.s) a.key.now a.answers.now
+    (omega (arith, (bounds c.before.before.before.before.before.before.before.before).servers-low)) (slotted c.before.before.before.before.before.before.before.before) (bytes c.before.before.before.before.before.before)))

@@ -1,0 +1,15 @@
+-- `run` is safe and ends: each turn goes at least one byte on, and the buffers' lengths stay.
+use mathlib.Core.Path.{◌∙◌}
+use Prim.Native.Nat.{◌-◌}
+use Rattle.trial_runs.proofs.run.Goals as goal
+
+pub loop-at-preserved : goal.loop-at-preserved
+loop-at-preserved c =    let inv = c.loop-at.invariant in
+    let kept = c.on_line-s.auto in (
+      kept.1.1.1.0 ∙ inv.0,
+      kept.1.1.1.1.0 ∙ inv.1,
+      kept.1.1.1.1.1.0 ∙ inv.2,
+      kept.1.1.1.1.1.1.0 ∙ inv.3,
+      kept.1.1.1.1.1.1.1.0 ∙ inv.4,
+      kept.1.1.1.1.1.1.1.1.0 ∙ inv.5,
+    )
