@@ -31,11 +31,11 @@ use Rattle.even_answer.proofs.answer.Goals as goal
 turn-of : (c : goal.After-rows_of-rows)
     → let args = c.args in
     SetTurn (sum_of args.op) args.n args.k args.s args.store.now args.query.now args.out.now
-    c.loop-i.i c.loop-i.at c.loop-i.end (get_or c.ordered_sets-sets.result c.loop-i.i 0) c.rows_of_lem.result c.loop-i.out
+    c.loop-i.i c.loop-i.at c.loop-i.end (get_or c.ordered_sets-sets.result c.loop-i.i 0) c.rows_of-rows.result c.loop-i.out
 turn-of c =
     let inside : c.loop-i.i < length (all_sets c.args.k) = omega (arith, c.power-count.ensures, all-length c.args.k) in
     set-turn c.loop-i.i c.loop-i.at (group_of c.args.op c.args.s).plus-length c.requires
-    c.ordered_sets-sets.ensures inside c.rows_of_lem.ensures c.loop-i.invariant.1 c.loop-i.invariant.2
+    c.ordered_sets-sets.ensures inside c.rows_of-rows.ensures c.loop-i.invariant.1 c.loop-i.invariant.2
 
 pub power-symbols-requires : goal.power-symbols-requires
 power-symbols-requires c =    omega (arith, (even-bounds c.args.n c.args.k c.args.s c.requires.fits).symbols-high)
@@ -134,7 +134,7 @@ loop-i-preserved c =    let turn = turn-of c.before.before.before.before.before 
     let out = c.loop-i.out in
     let numbers = drop c.loop-i.at c.args.query.now in
     let answered = row_answers (sum_of c.args.op) c.args.n c.args.k c.args.s c.args.store.now
-    (replicate c.rows_of_lem.result
+    (replicate c.rows_of-rows.result
     (set_in c.args.k (get_or c.ordered_sets-sets.result c.loop-i.i 0))) in
     let made = c.answer_set.ensures ∙ ap₂ (λ (l m : List ℕ). put 0 (answered l) m) (to_end c.args.query.now c.loop-i.at)
     (to_end out end) in (

@@ -55,7 +55,7 @@ rows_of-row-requires c =    let s = set_here c in
 
 pub overflow_add-row : goal.overflow_add-row
 overflow_add-row c =    let s = set_here c.before in
-    omega (arith, c.rows_of_lem.ensures, s.rows, s.high, subsets-few c.args.k c.requires.messages-high, c.power-count.ensures)
+    omega (arith, c.rows_of-row.ensures, s.rows, s.high, subsets-few c.args.k c.requires.messages-high, c.power-count.ensures)
 
 pub overflow_add-i : goal.overflow_add-i
 overflow_add-i c = omega arith
@@ -67,7 +67,7 @@ pub loop-i-preserved : goal.loop-i-preserved
 loop-i-preserved c =    let a = c.args in
     let i = c.loop-i.i in
     let s = set_here c.before in
-    let rows : c.rows_of_lem.result ≡ rows_of a.n (get_or (all_sets a.k) i []) = c.rows_of_lem.ensures ∙ s.rows in (
+    let rows : c.rows_of-row.result ≡ rows_of a.n (get_or (all_sets a.k) i []) = c.rows_of-row.ensures ∙ s.rows in (
       omega arith,
       simp length-set c.loop-i.invariant.1,
       omega (arith, s.high),

@@ -31,12 +31,12 @@ use Rattle.even_locate.proofs.locate.Goals as goal
 turn-of : (c : goal.After-rows_of-rows)
     → let a = c.args in
     Turn a.n a.k a.s a.query.now c.loop-i.i c.loop-i.at c.loop-i.end (get_or c.ordered_sets-sets.result c.loop-i.i 0)
-    c.rows_of_lem.result
+    c.rows_of-rows.result
 turn-of c =
     let a = c.args in
     let inside : c.loop-i.i < length (all_sets a.k) = omega (arith, c.power-count.ensures, all-length a.k) in
-    set-turn a.n a.k a.s a.query.now c.ordered_sets-sets.result c.loop-i.i c.loop-i.at c.loop-i.end c.rows_of_lem.result
-    (layout-fits a.n a.k a.s c.requires.s_value) c.ordered_sets-sets.ensures inside c.rows_of_lem.ensures
+    set-turn a.n a.k a.s a.query.now c.ordered_sets-sets.result c.loop-i.i c.loop-i.at c.loop-i.end c.rows_of-rows.result
+    (layout-fits a.n a.k a.s c.requires.s_value) c.ordered_sets-sets.ensures inside c.rows_of-rows.ensures
     c.loop-i.invariant.1 c.loop-i.invariant.2
 
 -- an answer is not long
@@ -51,25 +51,25 @@ slot_small c =
 seen : (c : goal.After-set_place)
     → let a = c.args in
     place_naming a.s a.message a.symbol
-    (set_rows (replicate c.rows_of_lem.result (set_in a.k (get_or c.ordered_sets-sets.result c.loop-i.i 0)))
+    (set_rows (replicate c.rows_of-rows.result (set_in a.k (get_or c.ordered_sets-sets.result c.loop-i.i 0)))
     (drop c.loop-i.at a.query.now))
     ≡ c.set_place.result
 seen c =
     let a = c.args in
-    let sets = replicate c.rows_of_lem.result (set_in a.k (get_or c.ordered_sets-sets.result c.loop-i.i 0)) in
+    let sets = replicate c.rows_of-rows.result (set_in a.k (get_or c.ordered_sets-sets.result c.loop-i.i 0)) in
     sym (c.set_place.ensures ∙ ap (λ (l : List ℕ). place_naming a.s a.message a.symbol (set_rows sets l)) (to_end a.query.now c.loop-i.at))
 
 -- the set's rows tell, or those after them
 told : (c : goal.After-set_place) (place : Place) → c.set_place.result ≡ place
     → let a = c.args in
     place_naming a.s a.message a.symbol (layout_rows a.n a.k a.query.now)
-    ≡ later c.loop-i.end (or_later (c.rows_of_lem.result * a.s) place
+    ≡ later c.loop-i.end (or_later (c.rows_of-rows.result * a.s) place
     (place_naming a.s a.message a.symbol (set_rows (rows_from a.n a.k (c.loop-i.i + 1))
-    (drop (c.loop-i.at + c.rows_of_lem.result * count (get_or c.ordered_sets-sets.result c.loop-i.i 0)) a.query.now))))
+    (drop (c.loop-i.at + c.rows_of-rows.result * count (get_or c.ordered_sets-sets.result c.loop-i.i 0)) a.query.now))))
 told c place e =
     let a = c.args in
     set-decides a.n a.k a.s a.message a.symbol a.query.now c.loop-i.i c.loop-i.at c.loop-i.end
-    (get_or c.ordered_sets-sets.result c.loop-i.i 0) c.rows_of_lem.result
+    (get_or c.ordered_sets-sets.result c.loop-i.i 0) c.rows_of-rows.result
     (place_naming a.s a.message a.symbol (layout_rows a.n a.k a.query.now)) place (turn-of c.before.before) c.loop-i.invariant.3 (seen c ∙ e)
 
 pub ordered_sets-sets-requires : goal.ordered_sets-sets-requires
@@ -124,10 +124,10 @@ set_place-requires c =    let turn = turn-of c.before in
 
 pub overflow_add-result : goal.overflow_add-result
 overflow_add-result c =    let a = c.args in
-    let sets = replicate c.rows_of_lem.result (set_in a.k (get_or c.ordered_sets-sets.result c.loop-i.i 0)) in
+    let sets = replicate c.rows_of-rows.result (set_in a.k (get_or c.ordered_sets-sets.result c.loop-i.i 0)) in
     let numbers = drop c.loop-i.at a.query.now in
-    let many : length (set_rows sets numbers) * a.s ≡ c.rows_of_lem.result * a.s =
-    ap (λ (n : ℕ). n * a.s) (sets-many sets numbers ∙ length-replicate c.rows_of_lem.result _) in
+    let many : length (set_rows sets numbers) * a.s ≡ c.rows_of-rows.result * a.s =
+    ap (λ (n : ℕ). n * a.s) (sets-many sets numbers ∙ length-replicate c.rows_of-rows.result _) in
     omega (
       arith,
       place-within a.s a.message a.symbol (set_rows sets numbers) c.in-At.place (seen c.before.before.before ∙ c.in-At.is),
@@ -164,11 +164,11 @@ pub loop-i-preserved : goal.loop-i-preserved
 loop-i-preserved c =    let a = c.args in
     let turn = turn-of c.before.before.before.before in
     let rest = place_naming a.s a.message a.symbol (set_rows (rows_from a.n a.k (c.loop-i.i + 1))
-    (drop (c.loop-i.at + c.rows_of_lem.result * count (get_or c.ordered_sets-sets.result c.loop-i.i 0)) a.query.now)) in (
+    (drop (c.loop-i.at + c.rows_of-rows.result * count (get_or c.ordered_sets-sets.result c.loop-i.i 0)) a.query.now)) in (
       omega arith,
       turn.read,
       turn.placed,
-      told c.before.before Nowhere c.in_default.is ∙ later-twice c.loop-i.end (c.rows_of_lem.result * a.s) rest,
+      told c.before.before Nowhere c.in_default.is ∙ later-twice c.loop-i.end (c.rows_of-rows.result * a.s) rest,
     )
 
 pub returns : goal.returns

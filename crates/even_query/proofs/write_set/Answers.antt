@@ -17,10 +17,10 @@ use Rattle.even_query.proofs.write_set.Goals as goal
 -- as many turns as the set has rows
 rows_at : (c : goal.At-loop-i)
     → let a = c.args in
-    c.rows_of_lem.result ≡ (a.n - 1) ^ (ones_in (set_in a.k a.set) - 1)
+    c.rows_of-rows.result ≡ (a.n - 1) ^ (ones_in (set_in a.k a.set) - 1)
 rows_at c =
     let a = c.args in
-    c.rows_of_lem.ensures ∙ ap (λ (m : ℕ). (a.n - 1) ^ (m - 1)) (stands-count a.k a.set c.requires.2)
+    c.rows_of-rows.ensures ∙ ap (λ (m : ℕ). (a.n - 1) ^ (m - 1)) (stands-count a.k a.set c.requires.2)
 
 turn_at : (c : goal.After-origin-o)
     → let a = c.args in
@@ -63,7 +63,7 @@ origin-o-requires c =    let a = c.args in
       asks.server-low,
       omega (arith, stands-count a.k a.set stands, stands.some),
       (λ e. joined-two (eqb (a.set / 2 ^ a.wanted % 2) 1) (count a.set) (sym c.is_joined-joins.ensures ∙ e)),
-      omega (arith, c.rows_of_lem.ensures),
+      omega (arith, c.rows_of-rows.ensures),
       rows_fit a.n a.k a.set asks.bounds stands,
     )
 

@@ -60,10 +60,10 @@ overflow_cast-cell c =    let sets = c.args.sets.now in
     omega (arith, ones-le 8 (get_or sets c.loop-j.j 0) (set_is c.loop-j.invariant c.loop-j-test.true).small)
 
 pub overflow_mul-cell : goal.overflow_mul-cell
-overflow_mul-cell c =    rw c.rows_of_lem.ensures (omega (arith, cells-near c.loop-j.invariant c.loop-j-test.true))
+overflow_mul-cell c =    rw c.rows_of.ensures (omega (arith, cells-near c.loop-j.invariant c.loop-j-test.true))
 
 pub overflow_add-cell : goal.overflow_add-cell
-overflow_add-cell c =    rw c.rows_of_lem.ensures (omega (arith, cells-near c.loop-j.invariant c.loop-j-test.true))
+overflow_add-cell c =    rw c.rows_of.ensures (omega (arith, cells-near c.loop-j.invariant c.loop-j-test.true))
 
 pub overflow_add-j : goal.overflow_add-j
 overflow_add-j c =    omega (arith, set-near c.loop-j.invariant c.loop-j-test.true)
@@ -75,7 +75,7 @@ pub loop-j-preserved : goal.loop-j-preserved
 loop-j-preserved c =    let done = c.from_set in 
     let sets = c.args.sets.now in
     fetched-more c.loop-j.invariant c.loop-j-test.true _ _ c.from_set.auto.1.1.1.1.1.1.1.0 c.from_set.ensures
-    (ap (λ (r : ℕ). c.loop-j.cell + r * ones (get_or sets c.loop-j.j 0)) c.rows_of_lem.ensures)
+    (ap (λ (r : ℕ). c.loop-j.cell + r * ones (get_or sets c.loop-j.j 0)) c.rows_of.ensures)
 
 pub shape_of-message : goal.shape_of-message
 shape_of-message c = c.loop-j.invariant.long

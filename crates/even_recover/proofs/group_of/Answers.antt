@@ -21,4 +21,4 @@ overflow_add-result c =    let at = c.args in
 
 pub returns : goal.returns
 unfolding group_of
-returns c = rw c.rows_of_lem.ensures
+returns c = rw c.rows_of-count.ensures

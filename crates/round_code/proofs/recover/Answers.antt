@@ -51,7 +51,7 @@ row-added : (c : goal.After-first_length-before)
     → let a = (begun c.before.before.before.before.before.before).args in
     c.loop-i.before + c.first_length-before.result ≡ first_before a.n a.k a.s a.wanted a.key.now (i c.before.before.before.before.before.before + 1)
 row-added c =
-    ap₂ (λ (m r : ℕ). m + r) c.loop-i.invariant.1 c.first_length-before.ensures ∙ first_next (given (begun c.before.before.before.before.before.before)) (i c.before.before.before.before.before.before) (low c.before.before.before.before.before.before)
+    ap₂ (λ (m r : ℕ). m + r) c.loop-i.invariant.1 c.first_length-before.ensures ∙ first_next (given (begun c.before.before.before.before.before.before.before.before.before.before.before)) (i c.before.before.before.before.before.before.before.before.before.before.before) (low c.before.before.before.before.before.before.before.before.before.before.before)
 
 bytes : (c : goal.After-shared_slice_known-2-1) → Below 256 c.args.answers.now
 bytes c i h = omega (arith, c.shared_slice_known-2-1.given i)
@@ -80,11 +80,11 @@ pub overflow_cast-entry : goal.overflow_cast-entry
 overflow_cast-entry c = omega (arith, c.shared_slice_known-in-loop-i-1.given c.loop-i.i)
 
 pub overflow_mul-at : goal.overflow_mul-at
-overflow_mul-at c =    let few : i c.before ≤ 64 = omega (arith, low c.before, (bounds (given (begun c.before))).blocks-high) in
-    omega (arith, mul-le-mul few (block-low (given (begun c.before))))
+overflow_mul-at c =    let few : i c.before ≤ 64 = omega (arith, low c.before, (bounds (given (begun c.before.before.before.before.before.before))).blocks-high) in
+    omega (arith, mul-le-mul few (block-low (given (begun c.before.before.before.before.before.before))))
 
 pub overflow_mul-i : goal.overflow_mul-i
-overflow_mul-i c = omega (arith, symbols-low (given (begun c.before)) (i c.before) (omega (arith, low c.before)))
+overflow_mul-i c = omega (arith, symbols-low (given (begun c.before.before.before.before.before.before)) (i c.before.before.before.before.before.before) (omega (arith, low c.before.before.before.before.before.before)))
 
 pub recover_block-requires : goal.recover_block-requires
 unfolding round_sizes
@@ -92,10 +92,10 @@ recover_block-requires c =    let start = begun c.before.before in
     let a = start.args in
     let g = given start in
     let slot = slot_is start in
-    let ends = before-inside g (i c.before.before) (low c.before.before) in (
+    let ends = before-inside g (i c.before.before.before.before.before.before.before) (low c.before.before.before.before.before.before.before) in (
       fits-numbers a.n a.k a.s g.fits,
       (
-        (all g).low (i c.before.before) (low c.before.before),
+        (all g).low (i c.before.before.before.before.before.before.before) (low c.before.before.before.before.before.before.before),
         (
           ((bounds g).symbol_low, omega (arith, ends.1, slot), omega (arith, slot-low start)),
           (omega (arith, ends.0, slot, c.loop-i.invariant.1), omega (arith, ends.1, slot), rw slot g.room),
@@ -106,7 +106,7 @@ recover_block-requires c =    let start = begun c.before.before in
 pub overflow_add-before : goal.overflow_add-before
 overflow_add-before c =    let a = (begun c.before.before.before.before.before.before).args in
     let next = before-short a.k a.s (round_query a.n a.k a.wanted 0 a.key.now) (i c.before.before.before.before.before.before + 1) in
-    let few = symbols-low (given (begun c.before.before.before.before.before.before)) (i c.before.before.before.before.before.before + 1) (omega (arith, low c.before.before.before.before.before.before)) in
+    let few = symbols-low (given (begun c.before.before.before.before.before.before.before.before.before.before.before)) (i c.before.before.before.before.before.before.before.before.before.before.before + 1) (omega (arith, low c.before.before.before.before.before.before.before.before.before.before.before)) in
     record { fits = omega (arith, row-added c) }
 
 pub overflow_add-i : goal.overflow_add-i
@@ -122,7 +122,7 @@ loop-i-preserved c =    let start = begun c.before.before.before.before.before.b
     let message = c.loop-i.message in
     let size = (a.n - 1) * a.s in
     let f = block_at (sum_of a.op) a.n a.k a.s a.wanted a.key.now a.answers.now in
-    let long = blocks-long (given start) (group_of a.op a.s) j (omega (arith, low c.before.before.before.before.before.before)) in
+    let long = blocks-long (given start) (group_of a.op a.s) j (omega (arith, low c.before.before.before.before.before.before.before.before.before.before.before)) in
     let written =
     c.recover_block.ensures
     ∙ ap₂ (λ (v b : ℕ).

@@ -192,10 +192,10 @@ loop-i-preserved c =    let from = begun (at c.before) in
     let mark = marked c.before in (
       omega arith,
       simp length-set loop.inv.1,
-      λ j h. each (at c.before) j h (eqb j loop.i) refl,
+      λ j h. each (at c.before.before.before) j h (eqb j loop.i) refl,
       loop.inv.3
-          ∙ passes-more a.v loop.seen keys loop.i (numbers-left c.before) (omega (arith, mark-low c.before, mark))
-          (omega (arith, mark-low c.before, mark, from.pre.1.0, from.pre.0.blocks-high, loop.inv.1))
+          ∙ passes-more a.v loop.seen keys loop.i (numbers-left c.before.before.before) (omega (arith, mark-low c.before.before.before, mark))
+          (omega (arith, mark-low c.before.before.before, mark, from.pre.1.0, from.pre.0.blocks-high, loop.inv.1))
           (ap (λ (m : ℕ). get_or loop.seen m false) (sym mark) ∙ c.if-seen-number.false)
           ∙ ap (λ (m : ℕ). passes a.v (set loop.seen m true) (drop (loop.i + 1) keys)) (sym mark),
     )
