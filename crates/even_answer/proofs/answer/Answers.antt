@@ -152,4 +152,4 @@ pub returns : goal.returns
 unfolding row_answers
 returns c =    let k = c.args.k in
     let over : length (all_sets k) ≤ c.loop-i.i = omega (arith, c.power-count.ensures, all-length k) in
-    pending_done (rw (rows_none c.args.n k c.loop-i.i over) c.before c.loop-i.invariant.2)
+    pending_done (rw (rows_none c.args.n k c.loop-i.i over) at c.loop-i.invariant.2)

@@ -105,11 +105,11 @@ loop-p-preserved c =    let n = c.args.n in
       turn.left,
       sym (row_more sum n k s store given.whole group bytes p taken (members_from k (p + 1) (rest / 2)) numbers out (omega arith) turn.inside
           given.named)
-          ∙ rw (members_kept k p rest (omega arith) t.0.taken) c.before.before c.loop-p.invariant.3,
+          ∙ rw (members_kept k p rest (omega arith) t.0.taken) at c.loop-p.invariant.3,
     ))
     (λ t.
     let skipped = members-skipped k p rest (omega arith) t.0.left in
-    rw (t.1, t.2) (omega arith, c.loop-p.invariant.1, rw skipped c.before.before c.loop-p.invariant.2, rw skipped c.before.before c.loop-p.invariant.3))
+    rw (t.1, t.2) (omega arith, c.loop-p.invariant.1, rw skipped at c.loop-p.invariant.2, rw skipped at c.loop-p.invariant.3))
     c.if-rest-eq1.branch
 
 pub shape_of-out : goal.shape_of-out
@@ -118,6 +118,6 @@ shape_of-out c = c.loop-p.invariant.1 ∙ sym c.requires.1
 pub returns : goal.returns
 unfolding members set_in zip_with total_from
 returns c =    let none : c.args.k - c.loop-p.p ≡ 0 = omega arith in
-    let all : c.loop-p.taken + 0 ≡ count c.args.set = rw none c.before c.loop-p.invariant.2 in
+    let all : c.loop-p.taken + 0 ≡ count c.args.set = rw none at c.loop-p.invariant.2 in
     let later = ne_eqb c.loop-p.taken 0 (λ e. let w : ⊥ = omega (arith, c.requires.0.some) in w) in
-    rw later c.before (rw none c.before c.loop-p.invariant.3)
+    rw later at (rw none at c.loop-p.invariant.3)

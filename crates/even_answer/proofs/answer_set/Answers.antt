@@ -110,4 +110,4 @@ shape_of-out c = c.loop-row.invariant.1.long
 pub returns : goal.returns
 unfolding row_answers
 returns c =    let none : c.args.rows - c.loop-row.row ≡ 0 = omega arith in
-    pending_done (rw none c.before c.loop-row.invariant.1)
+    pending_done (rw none at c.loop-row.invariant.1)

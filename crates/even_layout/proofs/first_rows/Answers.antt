@@ -78,4 +78,4 @@ pub returns : goal.returns
 unfolding filled
 returns c =    let k = c.args.k in
     let none = drop_of_length-le (all_sets k) {i = c.loop-i.i} (omega (arith, c.power-count.ensures, all-length k)) in
-    rw none c.before c.loop-i.invariant.3 ∙ filled-firsts c.args.n k c.requires
+    rw none at c.loop-i.invariant.3 ∙ filled-firsts c.args.n k c.requires

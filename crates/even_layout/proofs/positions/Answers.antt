@@ -58,7 +58,7 @@ write_rows-at-requires c =    let n = c.args.n in
     let rows =
     set-positions n k (get_or c.ordered_sets-sets.result i 0) c.rows_of.result (get_or (all_sets k) i []) s
     c.rows_of.ensures in
-    let p = rw (positions-more n k i (inside c.before.before)) c.before.before c.loop-i.invariant.1 in
+    let p = rw (positions-more n k i (inside c.before.before)) at c.loop-i.invariant.1 in
     let many = length-append (set_positions n (get_or (all_sets k) i [])) (positions_from n k (i + 1)) in
     (c.requires.messages-high, omega (arith, p.room, ap length rows))
 
@@ -76,14 +76,14 @@ loop-i-preserved c =    let n = c.args.n in
     let called = c.rows_of in 
     let A = get_or (all_sets k) i [] in
     let rows = set-positions n k (get_or c.ordered_sets-sets.result i 0) c.rows_of.result A s c.rows_of.ensures in
-    let p = rw (positions-more n k i (inside c.before.before.before.before)) c.before.before.before.before c.loop-i.invariant.1 in
+    let p = rw (positions-more n k i (inside c.before.before.before.before)) at c.loop-i.invariant.1 in
     let written = c.write_rows-at in  (
       omega arith,
-      pending-as (rw rows c.before.before.before.before c.write_rows-at.ensures.0) refl (rw rows c.before.before.before.before c.write_rows-at.ensures.1) (pending-part (set_positions n A) (positions_from n k (i + 1)) p),
+      pending-as (rw rows at c.write_rows-at.ensures.0) refl (rw rows at c.write_rows-at.ensures.1) (pending-part (set_positions n A) (positions_from n k (i + 1)) p),
     )
 
 pub returns : goal.returns
 returns c =    let n = c.args.n in
     let k = c.args.k in
     let none = positions-none n k c.loop-i.i (let w : length (all_sets k) ≤ c.loop-i.i = omega (arith, c.power-count.ensures, all-length k) in w) in
-    pending_done (rw none c.before c.loop-i.invariant.1) ∙ put-padded (positions n k) 1024
+    pending_done (rw none at c.loop-i.invariant.1) ∙ put-padded (positions n k) 1024

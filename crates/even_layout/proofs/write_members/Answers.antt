@@ -17,11 +17,11 @@ pub overflow_cast-out : goal.overflow_cast-out
 overflow_cast-out c = omega arith
 
 pub bounds-out-end : goal.bounds-out-end
-bounds-out-end c =    let p = rw (members_kept c.args.k c.loop-p.p c.loop-p.rest (omega arith) c.if-rest-eq1.true) c.before.before c.loop-p.invariant.1 in
+bounds-out-end c =    let p = rw (members_kept c.args.k c.loop-p.p c.loop-p.rest (omega arith) c.if-rest-eq1.true) at c.loop-p.invariant.1 in
     omega (arith, p.room)
 
 pub overflow_add-end : goal.overflow_add-end
-overflow_add-end c =    let p = rw (members_kept c.args.k c.loop-p.p c.loop-p.rest (omega arith) c.if-rest-eq1.true) c.before.before c.loop-p.invariant.1 in
+overflow_add-end c =    let p = rw (members_kept c.args.k c.loop-p.p c.loop-p.rest (omega arith) c.if-rest-eq1.true) at c.loop-p.invariant.1 in
     omega (arith, p.room)
 
 pub overflow_add-p : goal.overflow_add-p
@@ -36,8 +36,8 @@ loop-p-preserved c =    let k = c.args.k in
     let rest = c.loop-p.rest in (
       omega arith,
       ⊎_elim
-          (λ kept. pending-as kept.2 refl kept.1 (pending-byte (rw (members_kept k p rest (omega arith) kept.0.taken) c.before.before c.loop-p.invariant.1)))
-          (λ skipped. pending-as skipped.2 refl skipped.1 (rw (members-skipped k p rest (omega arith) skipped.0.left) c.before.before c.loop-p.invariant.1))
+          (λ kept. pending-as kept.2 refl kept.1 (pending-byte (rw (members_kept k p rest (omega arith) kept.0.taken) at c.loop-p.invariant.1)))
+          (λ skipped. pending-as skipped.2 refl skipped.1 (rw (members-skipped k p rest (omega arith) skipped.0.left) at c.loop-p.invariant.1))
           c.if-rest-eq1.branch,
     )
 
@@ -47,5 +47,5 @@ shape_of-out c = c.loop-p.invariant.1.long
 pub returns : goal.returns
 unfolding members set_in
 returns c =    let none : c.args.k - c.loop-p.p ≡ 0 = omega arith in
-    let p = rw none c.before c.loop-p.invariant.1 in
+    let p = rw none at c.loop-p.invariant.1 in
     (pending-ends p, pending_done p)

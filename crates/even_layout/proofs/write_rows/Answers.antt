@@ -17,7 +17,7 @@ loop-i-init c = (omega arith, rw (sub-zero c.args.count) (pending-start c.requir
 pub write_members-end-requires : goal.write_members-end-requires
 write_members-end-requires c =    let A = set_in c.args.k c.args.set in
     let count = c.args.count in
-    let p = rw (rows_more A count c.loop-i.i (omega arith)) c.before.before c.loop-i.invariant.1 in
+    let p = rw (rows_more A count c.loop-i.i (omega arith)) at c.loop-i.invariant.1 in
     let many = length-append (members 0 A) (flat_map (members 0) (replicate (count - (c.loop-i.i + 1)) A)) in
     (c.requires.0, omega (arith, p.room))
 
@@ -30,7 +30,7 @@ loop-i-smaller c = omega arith
 pub loop-i-preserved : goal.loop-i-preserved
 loop-i-preserved c =    let A = set_in c.args.k c.args.set in
     let count = c.args.count in
-    let p = rw (rows_more A count c.loop-i.i (omega arith)) c.before.before.before.before.before c.loop-i.invariant.1 in
+    let p = rw (rows_more A count c.loop-i.i (omega arith)) at c.loop-i.invariant.1 in
     let written = c.write_members-end in 
     let left = flat_map (members 0) (replicate (count - (c.loop-i.i + 1)) A) in
     (omega arith, pending-as c.write_members-end.ensures.0 refl c.write_members-end.ensures.1 (pending-part (members 0 A) left p))
@@ -41,5 +41,5 @@ shape_of-out c = c.loop-i.invariant.1.long
 pub returns : goal.returns
 unfolding flat_map
 returns c =    let none : c.args.count - c.loop-i.i ≡ 0 = omega arith in
-    let p = rw none c.before c.loop-i.invariant.1 in
+    let p = rw none at c.loop-i.invariant.1 in
     (pending-ends p, pending_done p)

@@ -175,4 +175,4 @@ pub returns : goal.returns
 unfolding set_rows place_naming
 returns c =    let a = c.args in
     let over : length (all_sets a.k) ≤ c.loop-i.i = omega (arith, c.power-count.ensures, all-length a.k) in
-    sym (rw (rows_none a.n a.k c.loop-i.i over) c.before c.loop-i.invariant.3)
+    sym (rw (rows_none a.n a.k c.loop-i.i over) at c.loop-i.invariant.3)

@@ -77,7 +77,7 @@ loop-p-preserved c =    let a = c.args in
     ))
     (λ t.
     let skipped = members-skipped a.k p rest (omega arith) t.0.left in
-    rw t.1 (omega arith, rw skipped c.before.before c.loop-p.invariant.1, rw skipped c.before.before c.loop-p.invariant.2))
+    rw t.1 (omega arith, rw skipped at c.loop-p.invariant.1, rw skipped at c.loop-p.invariant.2))
     c.if-rest-eq1.branch
 
 pub returns : goal.returns
@@ -85,4 +85,4 @@ unfolding members set_in
 returns c =    let a = c.args in
     let none : a.k - c.loop-p.p ≡ 0 = omega arith in
     none_named a.message a.symbol (zip (members 0 (set_in a.k a.set)) a.numbers.now)
-    (sym (rw none c.before c.loop-p.invariant.2) ∙ no_cells a.message a.symbol (drop c.loop-p.taken a.numbers.now))
+    (sym (rw none at c.loop-p.invariant.2) ∙ no_cells a.message a.symbol (drop c.loop-p.taken a.numbers.now))

@@ -99,4 +99,4 @@ pub returns : goal.returns
 unfolding set_rows place_naming
 returns c =    let a = c.args in
     let none : a.rows - c.loop-row.row ≡ 0 = omega arith in
-    sym (rw none c.before c.loop-row.invariant.1)
+    sym (rw none at c.loop-row.invariant.1)

@@ -53,7 +53,7 @@ loop-i-preserved c =    let a = c.args in
     let i = c.loop-i.i in (
       omega arith,
       pending-byte
-          (rw (entries-more a.symbols i a.key.now a.messages.now a.places.now c.requires.0.even (omega arith)) c.before.before.before.before c.loop-i.invariant.1),
+          (rw (entries-more a.symbols i a.key.now a.messages.now a.places.now c.requires.0.even (omega arith)) at c.loop-i.invariant.1),
     )
 
 pub shape_of-out : goal.shape_of-out
@@ -61,4 +61,4 @@ shape_of-out c = c.loop-i.invariant.1.long
 
 pub returns : goal.returns
 returns c =    let a = c.args in
-    pending_done (rw (entries-done a.symbols c.loop-i.i a.key.now a.messages.now a.places.now (omega arith)) c.before c.loop-i.invariant.1)
+    pending_done (rw (entries-done a.symbols c.loop-i.i a.key.now a.messages.now a.places.now (omega arith)) at c.loop-i.invariant.1)

@@ -20,29 +20,29 @@ loop-p-init c =    let a = c.args in
 pub place-requires : goal.place-requires
 place-requires c =    let a = c.args in
     let kept = members_kept a.k c.loop-p.p c.loop-p.rest (omega arith) c.if-rest-eq1.true in
-    let small = rw kept c.before.before c.loop-p.invariant.1 in
-    let left = rw kept c.before.before c.loop-p.invariant.2 in
+    let small = rw kept at c.loop-p.invariant.1 in
+    let left = rw kept at c.loop-p.invariant.2 in
     (c.requires.0, c.requires.1, omega (arith, c.requires.2), omega (arith, c.requires.3), small 0 (omega arith))
 
 pub overflow_cast-out : goal.overflow_cast-out
 overflow_cast-out c =    let a = c.args in
     let kept = members_kept a.k c.loop-p.p c.loop-p.rest (omega arith) c.if-rest-eq1.true in
-    let small = rw kept c.before.before.before c.loop-p.invariant.1 in
-    let left = rw kept c.before.before.before c.loop-p.invariant.2 in
+    let small = rw kept at c.loop-p.invariant.1 in
+    let left = rw kept at c.loop-p.invariant.2 in
     omega (arith, c.place.ensures, small 0 (omega arith))
 
 pub bounds-out-end : goal.bounds-out-end
 bounds-out-end c =    let a = c.args in
     let kept = members_kept a.k c.loop-p.p c.loop-p.rest (omega arith) c.if-rest-eq1.true in
-    let small = rw kept c.before.before.before c.loop-p.invariant.1 in
-    let left = rw kept c.before.before.before c.loop-p.invariant.2 in
+    let small = rw kept at c.loop-p.invariant.1 in
+    let left = rw kept at c.loop-p.invariant.2 in
     omega (arith, left.room)
 
 pub overflow_add-end : goal.overflow_add-end
 overflow_add-end c =    let a = c.args in
     let kept = members_kept a.k c.loop-p.p c.loop-p.rest (omega arith) c.if-rest-eq1.true in
-    let small = rw kept c.before.before.before c.loop-p.invariant.1 in
-    let left = rw kept c.before.before.before c.loop-p.invariant.2 in
+    let small = rw kept at c.loop-p.invariant.1 in
+    let left = rw kept at c.loop-p.invariant.2 in
     omega (arith, left.room, left.long, c.well_formed.1.1.1.1.1.1.1.1.0.0)
 
 pub overflow_add-p : goal.overflow_add-p
@@ -58,15 +58,15 @@ loop-p-preserved c =    let a = c.args in
     ⊎_elim
     (λ w.
     let kept = members_kept a.k p rest (omega arith) w.0.taken in
-    let small = rw kept c.before.before c.loop-p.invariant.1 in
-    let left = rw kept c.before.before c.loop-p.invariant.2 in (
+    let small = rw kept at c.loop-p.invariant.1 in
+    let left = rw kept at c.loop-p.invariant.2 in (
       omega arith,
       (λ i h. small (suc i) (omega arith)),
       pending-as w.3 refl (w.2 ∙ ap (set c.loop-p.out c.loop-p.end) w.1.ensures) (pending-byte left),
     ))
     (λ w.
     let skipped = members-skipped a.k p rest (omega arith) w.0.left in
-    (omega arith, rw skipped c.before.before c.loop-p.invariant.1, pending-as w.2 refl w.1 (rw skipped c.before.before c.loop-p.invariant.2)))
+    (omega arith, rw skipped at c.loop-p.invariant.1, pending-as w.2 refl w.1 (rw skipped at c.loop-p.invariant.2)))
     c.if-rest-eq1.branch
 
 pub shape_of-out : goal.shape_of-out
@@ -76,6 +76,6 @@ pub returns : goal.returns
 unfolding members set_in
 returns c =    let a = c.args in
     let none : a.k - c.loop-p.p ≡ 0 = omega arith in
-    let left = rw none c.before c.loop-p.invariant.2 in
+    let left = rw none at c.loop-p.invariant.2 in
     let many = length-map (members 0 (set_in a.k a.set)) (origin_place a.n a.wanted a.totals.now a.ranks.now a.o) in
     (omega (arith, pending-ends left, many), pending_done left)

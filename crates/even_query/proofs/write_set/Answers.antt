@@ -88,5 +88,5 @@ shape_of-out c = c.loop-i.invariant.2.long
 pub returns : goal.returns
 returns c =    let a = c.args in
     let done = rows-done a.n a.wanted a.server a.totals.now a.ranks.now (set_in a.k a.set) c.loop-i.i (omega (arith, rows_at c.before)) in
-    let left = rw done c.before c.loop-i.invariant.2 in
+    let left = rw done at c.loop-i.invariant.2 in
     (pending-ends left, pending_done left)

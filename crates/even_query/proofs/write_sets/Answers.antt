@@ -122,4 +122,4 @@ shape_of-out c = c.loop-i.invariant.4.long
 pub returns : goal.returns
 returns c =    let a = c.args in
     let all : length (all_sets a.k) ≤ c.loop-i.i = omega (arith, ap length c.requires.2, length-map (all_sets a.k) byte_of) in
-    pending_done (rw (sets-done a.n a.wanted a.server a.totals.now c.loop-i.counts (all_sets a.k) c.loop-i.i all) c.before c.loop-i.invariant.4)
+    pending_done (rw (sets-done a.n a.wanted a.server a.totals.now c.loop-i.counts (all_sets a.k) c.loop-i.i all) at c.loop-i.invariant.4)

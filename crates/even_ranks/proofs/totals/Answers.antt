@@ -61,4 +61,4 @@ pub returns : goal.returns
 unfolding counted_all
 returns c =    let a = c.args in
     let all : length (all_sets a.k) ≤ c.loop-i.i = omega (arith, ap length c.requires.2, length-map (all_sets a.k) byte_of) in
-    rw (drop_of_length-le (all_sets a.k) all) c.before c.loop-i.invariant.3
+    rw (drop_of_length-le (all_sets a.k) all) at c.loop-i.invariant.3

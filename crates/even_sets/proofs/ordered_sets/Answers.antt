@@ -59,10 +59,10 @@ loop-i-preserved c =    let first = c.power-first in
     let read =
     ap₂ (λ (rows : List (List ℕ)) (n : ℕ). get_or (get_or rows ((n + i) / 8) []) ((n + i) % 8) 0) c.listed_sets-table.ensures c.power-first.ensures
     ∙ listed-entry k i [] c.requires inside in
-    (omega arith, pending-as refl refl (ap (set c.loop-i.sets i) read) (pending-byte (rw next c.before.before c.loop-i.invariant.1)))
+    (omega arith, pending-as refl refl (ap (set c.loop-i.sets i) read) (pending-byte (rw next at c.loop-i.invariant.1)))
 
 pub returns : goal.returns
 returns c =    let k = c.args.k in
     let bytes = map byte_of (all_sets k) in
     let none = drop_of_length-le bytes {i = c.loop-i.i} (omega (arith, c.power-first.ensures, all-length k, length-map (all_sets k) byte_of)) in
-    pending_done (rw none c.before c.loop-i.invariant.1) ∙ put-padded bytes 256
+    pending_done (rw none at c.loop-i.invariant.1) ∙ put-padded bytes 256

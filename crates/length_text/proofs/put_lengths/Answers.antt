@@ -65,6 +65,6 @@ returns c =    let a = c.args in
     let last : c.loop-i.i ≡ c.line_count-lines.result = omega arith in
     let all : take c.loop-i.i a.l.places ≡ numbers_of a.k a.l = ap (λ (n : ℕ). take n a.l.places) last ∙ numbers_of c.before in
     record {
-      value = rw all c.before c.loop-i.invariant.2;
-      out_after = rw all c.before c.loop-i.invariant.3;
+      value = rw all at c.loop-i.invariant.2;
+      out_after = rw all at c.loop-i.invariant.3;
     }

@@ -59,4 +59,4 @@ loop-i-preserved c =    let n = c.args.n in
 pub returns : goal.returns
 unfolding digits
 returns c =    let last : c.loop-i.i ≡ 0 = omega arith in
-    rw last c.before c.loop-i.invariant.3
+    rw last at c.loop-i.invariant.3

@@ -54,4 +54,4 @@ loop-m-preserved c =    let a = c.args in
 pub returns : goal.returns
 returns c =    let a = c.args in
     let last : c.loop-m.m ≡ 16 = omega arith in
-    filled-all (start_of a.slot a.before a.behind) 16 c.loop-m.starts c.loop-m.invariant.2 (rw last c.before c.loop-m.invariant.3)
+    filled-all (start_of a.slot a.before a.behind) 16 c.loop-m.starts c.loop-m.invariant.2 (rw last at c.loop-m.invariant.3)

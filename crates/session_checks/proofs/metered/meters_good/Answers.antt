@@ -32,7 +32,7 @@ unfolding meters_good
 returns-then-not-sent_good c =    let args = c.args in
     let i = c.loop-i.i in
     let bad : sent_good (scheme_of args.c).sizes.query (marked args.issued.now i) (counted args.m.sent i) ≡ false =
-    rw c.requires.query_value.0 c.before.before.before.before (sym c.sent_good.ensures ∙ not-true _ c.if-not-sent_good.true-raw) in
+    rw c.requires.query_value.0 at (sym c.sent_good.ensures ∙ not-true _ c.if-not-sent_good.true-raw) in
     sym (every-false 16 _ i (omega arith) (first-bad _ _ bad))
 
 pub got_good-requires : goal.got_good-requires
@@ -61,4 +61,4 @@ loop-i-preserved c =    (
 pub returns : goal.returns
 unfolding meters_good
 returns c =    let e : c.loop-i.i ≡ 16 = omega arith in
-    sym (rw (e, c.requires.query_value.0) c.before c.loop-i.invariant.1)
+    sym (rw (e, c.requires.query_value.0) at c.loop-i.invariant.1)

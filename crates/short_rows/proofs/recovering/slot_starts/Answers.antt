@@ -39,4 +39,4 @@ loop-i-preserved c =    let s = c.args.s in (
 pub returns : goal.returns
 returns c =    let last : c.loop-i.i ≡ 16 = omega arith in
     let s = c.args.s in
-    filled-all (λ j. j * s) 16 c.loop-i.starts c.loop-i.invariant.1 (rw last c.before c.loop-i.invariant.2)
+    filled-all (λ j. j * s) 16 c.loop-i.starts c.loop-i.invariant.1 (rw last at c.loop-i.invariant.2)
