@@ -42,7 +42,7 @@ use Rattle.catalogue_text.specs.Parsing.{
 }
 use Rattle.catalogue_text.proofs.TextParts.{first_text, head-parts, parts-length}
 use Rattle.catalogue_text.proofs.FirstLines.{first-written, FirstRead, first_read}
-use Rattle.catalogue_text.proofs.SumLine.{sum_goes_on, sum_number, sum-written, SumRead, sum-read}
+use Rattle.catalogue_text.proofs.SumLine.{sum_goes_on, sum_number_lem, sum-written, SumRead, sum-read}
 use Rattle.catalogue_text.proofs.Ends.{dates-end, parts-end, both_end, ends-head, head-ends}
 
 -- ---- what is written reads back
@@ -75,7 +75,7 @@ lines-written c ns rest fit ends =
           (dates-end c.opening c.closing c.sum behind both.1),
       sum-written c.sum text behind (length first + length season) at_sum both.0,
       lengths-written c.messages ns text rest (length (head_text c)) fit.lengths at-lengths stops.0,
-      sum_number c.sum,
+      sum_number_lem c.sum,
       sym fit.kept-are,
       parts-length c,
       sym (length-append (head_text c) lengths),

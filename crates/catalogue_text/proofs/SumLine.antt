@@ -23,9 +23,9 @@ abbrev pub sum_number : Operation → ℕ
 sum_number ExclusiveOr = 0
 sum_number Addition = 1
 
-pub sum_number : (sum : Operation) → sum_named (sum_number sum) ≡ sum
-sum_number ExclusiveOr = refl
-sum_number Addition = refl
+pub sum_number_lem : (sum : Operation) → sum_named (sum_number sum) ≡ sum
+sum_number_lem ExclusiveOr = refl
+sum_number_lem Addition = refl
 
 -- no line of the sum was read, and one begins
 abbrev pub sum_goes_on : Operation → List ℕ → Bool

@@ -46,11 +46,11 @@ filled-length N row [] table = refl
 filled-length N row (A ∷ L) table = filled-length N (row + rows_of N A) L (set table (byte_of A) row) ∙ length-set table (byte_of A) row
 
 -- a byte of none of the sets
-filled-other : (N row x : ℕ) {L : List (List Bool)} (table : List ℕ) → All (λ A. x ≢ byte_of A) L → get_or (filled N row L table) x 0 ≡ get_or table x 0
+filled-other : (N x row : ℕ) {L : List (List Bool)} (table : List ℕ) → All (λ A. x ≢ byte_of A) L → get_or (filled N row L table) x 0 ≡ get_or table x 0
 unfolding filled
-filled-other N row x table all_nil = refl
-filled-other N row x table (all_cons {x = A} {xs = L} d a) =
-    filled-other N (row + rows_of N A) x (set table (byte_of A) row) a ∙ get_or-set_other table (byte_of A) x row 0 d
+filled-other N x row table all_nil = refl
+filled-other N x row table (all_cons {x = A} {xs = L} d a) =
+    filled-other N x (row + rows_of N A) (set table (byte_of A) row) a ∙ get_or-set_other table (byte_of A) x row 0 d
 
 byte-apart : (K : ℕ) (X A : List Bool) → length X ≡ K → length A ≡ K → alike X A ≡ false → byte_of X ≢ byte_of A
 byte-apart K X A e f d same =
@@ -79,7 +79,7 @@ filled_at N K row X table bounds e h (all_cons {x = A} {xs = L} s a) one =
     go true t once ih =
         let others : All (λ B. byte_of X ≢ byte_of B) L =
         All-imp (λ B b. byte-apart K X B e b.0.long b.1) (All-both a (sum-none (alike X) L (omega arith))) in
-        filled-other N (row + rows_of N A) (byte_of X) (set table (byte_of A) row) others
+        filled-other N (byte_of X) (row + rows_of N A) (set table (byte_of A) row) others
         ∙ ap (λ (B : List Bool). get_or (set table (byte_of A) row) (byte_of B) 0) (alike-eq X A t)
         ∙ get_or-set_same table (byte_of A) row 0 inside
         ∙ sym (add-zero row)
@@ -131,7 +131,7 @@ filled-entry N K size x bounds room h = go (ltb 0 x) (ltb x (2 ^ K)) refl refl
     X = set_in K x
 
     none : All (λ A. x ≢ byte_of A) (all_sets K) → get_or (filled N 0 (all_sets K) (replicate size 0)) x 0 ≡ 0
-    none a = filled-other N 0 x (replicate size 0) a ∙ get_or-replicate size x 0 0 h
+    none a = filled-other N x 0 (replicate size 0) a ∙ get_or-replicate size x 0 0 h
 
     go : (t u : Bool) → ltb 0 x ≡ t → ltb x (2 ^ K) ≡ u → get_or (filled N 0 (all_sets K) (replicate size 0)) x 0 ≡ cond (t && u) (first_row X (layout N K)) 0
     go true true t u =

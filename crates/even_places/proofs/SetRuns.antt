@@ -9,7 +9,7 @@ use mathlib.Core.Bool.{Bool, true, false}
 use lib.ListN.{length, get_or, replicate, length-append, get_or-append}
 use lib.Seq.{get_or-append-add}
 use Rattle.lists.specs.Any.{Any, any_here, any_later}
-use Rattle.lists.specs.Sums.{All, all_cons}
+use Rattle.lists.specs.Sums.{All, all_nil, all_cons}
 use Rattle.even_places.specs.Rule.{alike, first_row}
 use Rattle.even_places.proofs.SetLaws.{alike-eq, alike_self}
 
@@ -57,6 +57,7 @@ module _ {R : Type 0} (q : List Bool → ℕ) (rows_of : List Bool → List R) (
 
   pub numbered : (A : List Bool) (i : ℕ) → i < q A → {L : List (List Bool)} → All (λ B. (0 < q B) × (length (rows_of B) ≡ q B)) L → Any (λ B. A ≡ B) L
       → Numbered L A i
+  numbered A i h all_nil x3 = elim x3 [ ]
   numbered A i h (all_cons {x = B} {xs = L} s a) (any_here e) = numbered-here A B L i s.0 s.1 (ap (alike A) (sym e) ∙ alike_self A) h
   numbered A i h (all_cons {x = B} {xs = L} s a) (any_later t) = go (alike A B) refl (numbered A i h a t)
     where

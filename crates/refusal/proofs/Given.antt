@@ -78,10 +78,12 @@ foremost-given (f ∷ faults) refusal e = go f.there refl e (foremost-given faul
 
 -- of two refusals, one that is first among the faults that are there and one of such a fault
 not_after : (first other : Refusal) {faults : List Fault} → All (NotBefore first) faults → Any (There other) faults → rank first ≤ rank other
+not_after first other all_nil x3 = elim x3 [ ]
 not_after first other (all_cons here rest) (any_here t) = rw t.1 at (here t.0)
 not_after first other (all_cons here rest) (any_later t) = not_after first other rest t
 
 none-there : {A : Type 0} {refusal : Refusal} (faults : List Fault) → NoneThere faults → Any (There refusal) faults → A
+none-there [] n x = elim x [ ]
 none-there (f ∷ faults) n (any_here t) = not_there n.0 t.0
 none-there (f ∷ faults) n (any_later t) = none-there faults n.1 t
 

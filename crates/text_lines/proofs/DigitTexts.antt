@@ -16,8 +16,8 @@ use Rattle.text_lines.specs.Decimal.{digit, is_digit, digit_count, value_from}
 
 -- ---- one digit
 
-pub is_digit : (byte : ℕ) → 48 ≤ byte → byte ≤ 57 → is_digit byte ≡ true
-is_digit byte h k = simp (le-leb 48 byte h, le-leb byte 57 k)
+pub is_digit_lem : (byte : ℕ) → 48 ≤ byte → byte ≤ 57 → is_digit byte ≡ true
+is_digit_lem byte h k = simp (le-leb 48 byte h, le-leb byte 57 k)
 
 pub below-digits : (byte : ℕ) → byte < 48 → is_digit byte ≡ false
 below-digits byte h = simp (lt-leb 48 byte h)
@@ -26,7 +26,7 @@ pub above-digits : (byte : ℕ) → 57 < byte → is_digit byte ≡ false
 above-digits byte h = let k : 48 ≤ byte = omega arith in simp (le-leb 48 byte k, lt-leb byte 57 h)
 
 pub digit-is : (n : ℕ) → n < 10 → is_digit (digit n) ≡ true
-digit-is n h = is_digit (digit n) (omega arith) (omega arith)
+digit-is n h = is_digit_lem (digit n) (omega arith) (omega arith)
 
 pub digit-range : (byte : ℕ) → is_digit byte ≡ true → (48 ≤ byte) × (byte ≤ 57)
 digit-range byte e =

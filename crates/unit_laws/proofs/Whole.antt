@@ -35,7 +35,7 @@ use Rattle.unit_laws.proofs.Written.{Wrote, written}
 run-append : (u : AnswerUnit) (first rest : List Access) → run u (first ++ rest) ≡ run (run u first) rest
 unfolding run
 run-append u [] rest = refl
-run-append u (access ∷ first) rest = run-append _ first rest
+run-append u (access ∷ first) rest = run-append (run u (access ∷ [])) first rest
 
 run-one : (u : AnswerUnit) (value : ℕ) (store : List ℕ) → run u (writing 0 value store ∷ []) ≡ (write_register u 0 value store).unit
 unfolding run

@@ -1,7 +1,7 @@
 -- `text_lines::digits` meets its contract: i digits are passed, and the rest has the others.
 use Prim.Native.Nat.{◌-◌}
 use native.Mathlib.Omega.{arith}
-use Rattle.text_lines.proofs.DigitTexts.{is_digit, below-digits, above-digits, count-more, count-stop, count-end}
+use Rattle.text_lines.proofs.DigitTexts.{is_digit_lem, below-digits, above-digits, count-more, count-stop, count-end}
 use Rattle.text_lines.proofs.digits.Goals as goal
 
 pub loop-i-init : goal.loop-i-init
@@ -31,7 +31,7 @@ pub loop-i-smaller : goal.loop-i-smaller
 loop-i-smaller c = omega arith
 
 pub loop-i-preserved : goal.loop-i-preserved
-loop-i-preserved c =    let e = count-more c.args.text.now c.loop-i.i (omega arith) (is_digit _ c.if-byte-lt48.false c.if-byte-gt57.false) in
+loop-i-preserved c =    let e = count-more c.args.text.now c.loop-i.i (omega arith) (is_digit_lem _ c.if-byte-lt48.false c.if-byte-gt57.false) in
     omega arith
 
 pub returns : goal.returns
