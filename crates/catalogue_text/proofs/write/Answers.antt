@@ -29,4 +29,4 @@ unfolding write_verdict
 returns c =    let args = c.args in
     let long = le-ltb _ _ (rw c.text_length.ensures at c.if-out-text_length.false) in
     let written = c.put_text.ensures in
-    wrote-text args.c args.out.now _ _ (after-catalogue args.c _ refl Accepted _ (sym (admitted c.before.before.before.before.before.before)) (rw long)) written.0 written.1
+    wrote-text args.c args.out.now _ _ (after-catalogue args.c _ refl Accepted _ (sym (admitted c.before.before.before.before.before.before)) (rw long)) c.put_text.ensures.value c.put_text.ensures.out_after

@@ -11,7 +11,12 @@ pub answer-requires : goal.answer-requires
 answer-requires c =    let a = c.args in
     let e = c.in-Short.is in
     let p = rw (scheme-short a.c e) at c.requires in
-    (admitted-short a.c c.requires.admitted e, (p.1.1.0, (admits-row a.c.servers a.c.messages a.server a.query.now p.1.0, p.1.1.1)))
+    record {
+      s_value = admitted-short a.c c.requires.admitted e;
+      store_len = p.1.1.0;
+      digit_row = admits-row a.c.servers a.c.messages a.server a.query.now p.1.0;
+      query_in_bounds = p.1.1.1;
+    }
 
 pub answer-requires-in-Even : goal.answer-requires-in-Even
 unfolding even_sizes
@@ -26,15 +31,22 @@ unfolding turn_sizes
 answer-requires-in-Turn c =    let a = c.args in
     let e = c.in-Turn.is in
     let p = rw (scheme-turn a.c e) at c.requires in
-    (admitted-turn a.c c.requires.admitted e, (p.1.1.0, (admitted-row a.c.servers a.c.messages a.query.now p.1.0, p.1.1.1)))
+    record {
+      s_value = admitted-turn a.c c.requires.admitted e;
+      store_len = p.1.1.0;
+      digit_row = admitted-row a.c.servers a.c.messages a.query.now p.1.0;
+      query_in_bounds = p.1.1.1;
+    }
 
 pub answer-requires-in-Round : goal.answer-requires-in-Round
 answer-requires-in-Round c =    let a = c.args in
     let e = c.in-Round.is in
-    let p = rw (scheme-round a.c e) at c.requires in (
-      admitted-round a.c c.requires.admitted e,
-      (p.1.1.0, (admitted-digits a.c.servers a.c.messages a.server a.query.now p.1.0, p.1.1.1)),
-    )
+    let p = rw (scheme-round a.c e) at c.requires in record {
+      s_value = admitted-round a.c c.requires.admitted e;
+      store_len = p.1.1.0;
+      digit_rows = admitted-digits a.c.servers a.c.messages a.server a.query.now p.1.0;
+      k_in_bounds = p.1.1.1;
+    }
 
 pub returns-in-Short : goal.returns-in-Short
 returns-in-Short c =    rw (scheme-short c.args.c

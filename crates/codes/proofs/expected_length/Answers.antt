@@ -11,7 +11,7 @@ expected_length-requires-in-Turn c =    let a = c.args in
     let key = (rw (scheme-turn a.c c.in-Turn.is) at c.requires).1.1 in
     let long = key.long in
     record {
-      server_lt_n = c.requires.wanted_lt_messages.0.1;
+      server_lt_n = c.requires.wanted_lt_messages.1;
       key_nonzero = (omega arith, key.good);
     }
 
@@ -19,7 +19,11 @@ pub expected_length-requires-in-Round : goal.expected_length-requires-in-Round
 expected_length-requires-in-Round c =    let a = c.args in
     let e = c.in-Round.is in
     let key = (rw (scheme-round a.c e) at c.requires).1.1 in
-    (admitted-round a.c c.requires.admitted e, (c.requires.wanted_lt_messages.0, key.good))
+    record {
+      s_value = admitted-round a.c c.requires.admitted e;
+      wanted_lt_k = c.requires.wanted_lt_messages;
+      key_value = key.good;
+    }
 
 pub returns-in-Short : goal.returns-in-Short
 returns-in-Short c =    rw (scheme-short c.args.c c.in-Short.is) c.expected_length.ensures

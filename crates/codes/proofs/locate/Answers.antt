@@ -73,7 +73,11 @@ unfolding round_sizes
 locate-requires-in-Round c =    let a = c.args in
     let e = c.in-Round.is in
     let p = rw (scheme-round a.c e) at c.requires in
-    (admitted-round a.c c.requires.admitted e, (admitted-digits a.c.servers a.c.messages a.server a.query.now p.1.0, p.1.1))
+    record {
+      s_value = admitted-round a.c c.requires.admitted e;
+      digit_rows = admitted-digits a.c.servers a.c.messages a.server a.query.now p.1.0;
+      message_lt_k = p.1.1;
+    }
 
 pub returns-in-Short : goal.returns-in-Short
 returns-in-Short c =    let a = c.args in

@@ -17,7 +17,11 @@ query-requires c =    let a = c.args in
     let key = p.1.1.0 in
     let long = key.long in
     let room = p.1.1.1 in
-    ((p.1.0.1, b.servers-high), (key.good, (omega arith, omega arith)))
+    record {
+      server_lt_n = (p.1.0.1, b.servers-high);
+      key_value = key.good;
+      wanted_in_bounds = (omega arith, omega arith);
+    }
 
 pub query-requires-in-Even : goal.query-requires-in-Even
 unfolding even_sizes
@@ -45,16 +49,22 @@ query-requires-in-Turn c =    let a = c.args in
     let key = p.1.1.0 in
     let long = key.long in
     let room = p.1.1.1 in
-    ((p.1.0.1, b.servers-high), (key.good, (omega arith, omega arith)))
+    record {
+      server_lt_n = (p.1.0.1, b.servers-high);
+      key_value = key.good;
+      wanted_in_bounds = (omega arith, omega arith);
+    }
 
 pub query-requires-in-Round : goal.query-requires-in-Round
 unfolding round_sizes
 query-requires-in-Round c =    let a = c.args in
     let e = c.in-Round.is in
-    let p = rw (scheme-round a.c e) at c.requires in (
-      fits-numbers a.c.servers a.c.messages a.c.symbol (admitted-round a.c c.requires.admitted e),
-      (p.1.0, (p.1.1.0.good, p.1.1.1)),
-    )
+    let p = rw (scheme-round a.c e) at c.requires in record {
+      round_numbers = fits-numbers a.c.servers a.c.messages a.c.symbol (admitted-round a.c c.requires.admitted e);
+      wanted_lt_k = p.1.0;
+      key_value = p.1.1.0.good;
+      k_in_bounds = p.1.1.1;
+    }
 
 pub returns-in-Short : goal.returns-in-Short
 returns-in-Short c =    rw (scheme-short c.args.c c.in-Short.is)

@@ -38,7 +38,12 @@ bounds-store-place c =    let a = c.args in
 
 pub update-requires : goal.update-requires
 update-requires c =    let p = passed c.before.before.before in
-    (p.admitted, (p.admits, (known c.before.before.before, p.saved-long)))
+    record {
+      admitted = p.admitted;
+      query_value = p.admits;
+      edit_in = known c.before.before.before;
+      answer_len = p.saved-long;
+    }
 
 pub bounds-store-place-2 : goal.bounds-store-place-2
 bounds-store-place-2 c =    let a = c.args in

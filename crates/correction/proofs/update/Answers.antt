@@ -26,11 +26,15 @@ inside c =
       arith,
       place-within a.c.symbol a.edit.message a.edit.symbol (rows_of a.c a.query.now) c.in-At.at (found c),
       (asks_of a.c c.requires.admitted).lengths a.query.now,
-      c.requires.query_value.1.1,
+      c.requires.answer_len,
     )
 
 pub locate-requires : goal.locate-requires
-locate-requires c =    (c.requires.admitted, (c.requires.query_value.0, (c.requires.query_value.1.0.message-in, c.requires.query_value.1.0.symbol-in)))
+locate-requires c =    record {
+      admitted = c.requires.admitted;
+      query_value = c.requires.query_value;
+      message_lt_messages = (c.requires.edit_in.message-in, c.requires.edit_in.symbol-in);
+    }
 
 pub returns-in_default : goal.returns-in_default
 unfolding moved

@@ -80,7 +80,7 @@ loop-i-smaller c = omega arith
 pub loop-i-preserved : goal.loop-i-preserved
 loop-i-preserved c =    let t = turn_at c.before.before.before.before in
     let written = c.write_row-end.ensures in
-    (omega arith, t.rest-small, pending-as written.0 refl written.1 t.rest)
+    (omega arith, t.rest-small, pending-as c.write_row-end.ensures.0 refl c.write_row-end.ensures.1 t.rest)
 
 pub shape_of-out : goal.shape_of-out
 shape_of-out c = c.loop-i.invariant.2.long

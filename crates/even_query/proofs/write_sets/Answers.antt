@@ -112,8 +112,8 @@ loop-i-preserved c =    let loop = c.loop-i in
           (stands_set a.k byte (stands_here c.before.before.before.before.before.before.before.before.before.before).0) c.loop-i.invariant.1,
       rw (next, add-one c.loop-i.i) (counted-below (suc c.loop-i.i) a.wanted A c.loop-i.counts c.loop-i.invariant.2),
       rw next t.rest-small,
-      pending-as written.0
-          (ap (λ (d : List ℕ). sets_places a.n a.wanted a.server a.totals.now d (drop (c.loop-i.i + 1) (all_sets a.k))) next) written.1 t.rest,
+      pending-as c.write_set-end.ensures.0
+          (ap (λ (d : List ℕ). sets_places a.n a.wanted a.server a.totals.now d (drop (c.loop-i.i + 1) (all_sets a.k))) next) c.write_set-end.ensures.1 t.rest,
     )
 
 pub shape_of-out : goal.shape_of-out

@@ -22,18 +22,23 @@ loop-i-init c =    let at = c.args in (
     )
 
 pub bounds-query-cell : goal.bounds-query-cell
-bounds-query-cell c =    rw c.loop-i.invariant.2 (c.requires.grouped.1.cells c.loop-i.i (omega arith))
+bounds-query-cell c =    rw c.loop-i.invariant.2 (c.requires.named.cells c.loop-i.i (omega arith))
 
 pub overflow_cast-number : goal.overflow_cast-number
 overflow_cast-number c = omega (arith, c.shared_slice_known-in-loop-i-1.given c.loop-i.cell)
 
 pub from_row-requires : goal.from_row-requires
 from_row-requires c =    let pre = c.requires in
-    (pre.0, (pre.1.0, (omega arith, omega (arith, c.shared_slice_known-in-loop-i-1.given c.loop-i.cell))))
+    record {
+      held = c.requires.held;
+      grouped = c.requires.grouped;
+      i_lt_count = omega arith;
+      number_bound = omega (arith, c.shared_slice_known-in-loop-i-1.given c.loop-i.cell);
+    }
 
 pub overflow_add-cell : goal.overflow_add-cell
 overflow_add-cell c =    let group = c.args.group in
-    omega (arith, c.loop-i.invariant.2, c.requires.grouped.0.small, c.requires.grouped.1.cells c.loop-i.i (omega arith))
+    omega (arith, c.loop-i.invariant.2, c.requires.grouped.small, c.requires.named.cells c.loop-i.i (omega arith))
 
 pub overflow_add-i : goal.overflow_add-i
 overflow_add-i c = omega arith

@@ -16,7 +16,7 @@ use Rattle.even_recover.proofs.from_server.Goals as goal
 pub server_rows_of-here-requires : goal.server_rows_of-here-requires
 server_rows_of-here-requires c = record {
       s_value = c.requires.s_value;
-      wanted_lt_k = c.requires.wanted_lt_k.0.0;
+      wanted_lt_k = c.requires.wanted_lt_k.0;
     }
 
 pub slice_bounds-query-end : goal.slice_bounds-query-end
@@ -25,14 +25,14 @@ slice_bounds-query-end c = refl
 pub query-requires : goal.query-requires
 query-requires c =    let at = c.args in
     let bounds = even-bounds at.n at.k at.s c.requires.s_value in
-    let known = c.requires.wanted_lt_k.0 in
+    let known = c.requires.wanted_lt_k in
     let asks : Asks at.n at.k at.wanted at.server =
     record { bounds = layout-bounds bounds; servers-high = bounds.servers-high; message = known.0; server-low = known.1 } in
-    (asks, c.requires.wanted_lt_k.1.0, (sized bounds known.0).query-high)
+    (asks, c.requires.key_len, (sized bounds known.0).query-high)
 
 pub loop-j-init : goal.loop-j-init
 loop-j-init c =    let at = c.args in
-    let pre = c.requires.wanted_lt_k in
+    let pre = c.requires.1 in
     fetched-none at.n at.k at.s at.wanted at.server c.requires.s_value pre.0.0 pre.0.1 (sum_of at.op)
     at.key.now at.sets.now at.firsts.now at.answers.now at.message.now
     c.server_rows_of-here.result _ (replicate 1024 0)
@@ -48,7 +48,11 @@ slice_bounds-from_set-end c = sym c.query.auto.1.1.1.1.1.0
 pub from_set-requires : goal.from_set-requires
 from_set-requires c =    let inv = c.loop-j.invariant in
     let more = c.loop-j-test.true in
-    (bit-some inv more, (inv.held, set-ready inv more))
+    record {
+      le_bit = bit-some inv more;
+      held = inv.held;
+      ready = set-ready inv more;
+    }
 
 pub rows_of-requires : goal.rows_of-requires
 rows_of-requires c =    let inv = c.loop-j.invariant in

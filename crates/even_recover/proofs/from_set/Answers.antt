@@ -9,12 +9,16 @@ use Rattle.even_recover.specs.Rows.{group_parts, set_parts}
 use Rattle.even_recover.proofs.from_set.Goals as goal
 
 pub group_of-requires : goal.group_of-requires
-group_of-requires c = (c.requires.held.1 c.if-set-here-eq1.true).given
+group_of-requires c = (c.requires.ready c.if-set-here-eq1.true).given
 
 pub from_group-requires : goal.from_group-requires
 from_group-requires c =    let pre = c.requires in
-    let ready = pre.1.1 c.if-set-here-eq1.true in
-    (pre.1.0, (rw c.group_of.ensures ready.grouped, rw c.group_of.ensures ready.named))
+    let ready = c.requires.ready c.if-set-here-eq1.true in
+    record {
+      held = c.requires.held;
+      grouped = rw c.group_of.ensures ready.grouped;
+      named = rw c.group_of.ensures ready.named;
+    }
 
 pub returns-then-set-here-eq1 : goal.returns-then-set-here-eq1
 unfolding set_parts

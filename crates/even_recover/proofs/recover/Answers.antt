@@ -55,7 +55,13 @@ pub from_server-requires : goal.from_server-requires
 unfolding even_sizes
 from_server-requires c =    let inv = c.loop-server.invariant in
     let pre = c.requires in
-    (pre.0, ((pre.1.0, c.loop-server-test.true), (pre.1.1.0.long, ((inv.2.is, inv.3), pre.1.1.1))))
+    record {
+      s_value = c.requires.s_value;
+      wanted_lt_k = (c.requires.wanted_lt_k, c.loop-server-test.true);
+      key_len = c.requires.valid.long;
+      sets_value = (inv.2.is, inv.3);
+      s_in_bounds = c.requires.s_in_bounds;
+    }
 
 pub overflow_add-server : goal.overflow_add-server
 overflow_add-server c =    let a = c.args in
@@ -86,5 +92,5 @@ returns c =    let at = c.args in
     c.loop-server.invariant.4
     ∙ ap (λ (l : List (ℕ × List ℕ)). lay_all l at.message.now)
     (before-all (sum_of at.op) at.n at.k at.s at.wanted at.key.now at.answers.now c.loop-server.server all)
-    ∙ even-written (sum_of at.op) at.n at.k at.s (group_of at.op at.s) pre.0 at.wanted pre.1.0 at.key.now pre.1.1.0
-    at.answers.now pre.1.1.1 at.message.now
+    ∙ even-written (sum_of at.op) at.n at.k at.s (group_of at.op at.s) c.requires.s_value at.wanted c.requires.wanted_lt_k at.key.now c.requires.valid
+    at.answers.now c.requires.s_in_bounds at.message.now

@@ -58,4 +58,8 @@ returns c =    let at = c.loop-i in
     let a = c.args in
     let numbers = a.numbers.now in
     let all : take c.loop-i.i numbers ≡ numbers = take_all c.loop-i.i numbers (omega arith) in
-    (rw all at c.loop-i.invariant.1, (omega arith, rw all at c.loop-i.invariant.3))
+    record {
+      value = rw all at c.loop-i.invariant.1;
+      upper_bound = omega arith;
+      out_after = rw all at c.loop-i.invariant.3;
+    }

@@ -16,7 +16,11 @@ pub returns-then-numbers-eq0 : goal.returns-then-numbers-eq0
 returns-then-numbers-eq0 c =    let a = c.args in
     let none : spaced a.numbers.now ≡ [] = spaced-none a.numbers.now (omega arith) in
     let l = ap length none in
-    (omega arith, (omega arith, sym (ap (λ (t : List ℕ). put a.at t a.out.now) none ∙ put-nil a.at a.out.now)))
+    record {
+      value = omega arith;
+      upper_bound = omega arith;
+      out_after = sym (ap (λ (t : List ℕ). put a.at t a.out.now) none ∙ put-nil a.at a.out.now);
+    }
 
 pub overflow_cast-first : goal.overflow_cast-first
 overflow_cast-first c = omega (arith, c.shared_slice_known-2-1.given 0)
@@ -49,14 +53,12 @@ returns c =    let a = c.args in
     let f : c.put_after_spaces.result ≡ c.put_decimal-rest.result + length others =
     c.put_after_spaces.ensures.value ∙ ap (λ (t : List ℕ). c.put_decimal-rest.result + length (after_spaces t)) end
     in
-    let g = c.put_after_spaces.ensures.upper_bound.0 in
-    let h = ap length end in (
-      omega arith,
-      (
-        omega arith,
-        c.put_after_spaces.ensures.upper_bound.1
+    let g = c.put_after_spaces.ensures.upper_bound in
+    let h = ap length end in record {
+      value = omega arith;
+      upper_bound = omega arith;
+      out_after = c.put_after_spaces.ensures.out_after
             ∙ ap (λ (t : List ℕ). put c.put_decimal-rest.result (after_spaces t) c.put_decimal-rest.new.out) end
             ∙ put_next a.at c.put_decimal-rest.result (decimal (get_or numbers 0 0)) others a.out.now c.put_decimal-rest.new.out (omega arith) e c.put_decimal-rest.ensures.out_after
-            ∙ ap (λ (t : List ℕ). put a.at t a.out.now) (sym whole),
-      ),
-    )
+            ∙ ap (λ (t : List ℕ). put a.at t a.out.now) (sym whole);
+    }

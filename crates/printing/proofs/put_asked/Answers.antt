@@ -11,7 +11,11 @@ pub put_checked-requires : goal.put_checked-requires
 put_checked-requires c =    let a = c.args in
     let given = value-given _ _ _ (sym c.check-outcome.ensures ∙ c.in-Value.is) in
     let bytes = (check-passed scheme_of a.c a.wanted a.count a.bytes given.0).1 in
-    (rw bytes at given.0, (rw bytes at c.requires.at_value, (given.1, c.requires.page_bytes_in_bounds)))
+    record {
+      true_value = rw bytes at given.0;
+      at_value = rw bytes at c.requires.at_value;
+      size_value = (given.1, c.requires.page_bytes_in_bounds);
+    }
 
 pub returns-in-Refused : goal.returns-in-Refused
 returns-in-Refused c =    let a = c.args in

@@ -25,7 +25,7 @@ module _ (from : goal.Start) (zeros : List ℕ) (blank : zeros ≡ blank_places)
   numbers = list_of (numbers_at c.args.text.now c.args.at)
 
   found : (length numbers ≡ c.args.count) × (all_below 256 numbers ≡ true)
-  found = scanned-list (numbers_at c.args.text.now c.args.at) c.args.count true c.requires.at_value.0
+  found = scanned-list (numbers_at c.args.text.now c.args.at) c.args.count true c.requires.at_value
 
   checked : Checked scheme_of c.args.c c.args.wanted c.args.count
   checked = (check-passed scheme_of c.args.c c.args.wanted c.args.count true c.requires.true_value).0
@@ -51,7 +51,7 @@ slice_bounds-put_numbers-end c = let zeros = c.zeros-places in  sym (part_length
 
 pub put_numbers-requires : goal.put_numbers-requires
 put_numbers-requires c =    let zeros = c.zeros-places in 
-    c.requires.at_value.0 ∙ ap (λ (n : ℕ). Of n true) (sym (part_length c.before.before.before.before c.zeros-places.result c.zeros-places.ensures))
+    c.requires.at_value ∙ ap (λ (n : ℕ). Of n true) (sym (part_length c.before.before.before.before c.zeros-places.result c.zeros-places.ensures))
 
 pub slice_bounds-places-end-2 : goal.slice_bounds-places-end-2
 slice_bounds-places-end-2 c =    let zeros = c.zeros-places in 
@@ -70,7 +70,11 @@ put_keyed-requires c =    let read = c.put_numbers in
     let is = found c.before.before.before.before.before.before.before.before c.zeros-places.result c.zeros-places.ensures in
     let k = checked c.before.before.before.before.before.before.before.before c.zeros-places.result c.zeros-places.ensures in
     let part = part-is c.before.before.before.before.before.before.before.before c.zeros-places.result c.zeros-places.ensures c.put_numbers.new.1.1.0 c.put_numbers.ensures in
-    ((k.admitted, k.inside), ((ap length part ∙ is.0 ∙ k.long, ap (all_below 256) part ∙ is.1), c.requires.at_value.1))
+    record {
+      admitted = (k.admitted, k.inside);
+      key_len = (ap length part ∙ is.0 ∙ k.long, ap (all_below 256) part ∙ is.1);
+      size_value = c.requires.size_value;
+    }
 
 pub returns : goal.returns
 returns c =    let a = c.args in

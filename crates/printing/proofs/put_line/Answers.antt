@@ -22,7 +22,7 @@ put_bytes-requires c =    let s = length_most 1 c.args.server (omega arith) in
     let l = head-length c.args.server in
     let e = c.put_head-first.ensures.value in
     let k = c.put_head-first.auto.0 in
-    let f = c.put_spaced-end.ensures.upper_bound.0 in
+    let f = c.put_spaced-end.ensures.upper_bound in
     let m = c.put_spaced-end.auto.0 in
     omega arith
 
@@ -38,12 +38,16 @@ returns c =    let a = c.args in
     let e = c.put_head-first.ensures.value in
     let f = c.put_spaced-end.ensures.value in
     let g = c.put_bytes.ensures.value in
-    let h = c.put_spaced-end.ensures.upper_bound.0 in
+    let h = c.put_spaced-end.ensures.upper_bound in
     let m = length-append (query_head a.server) (spaced query ++ ascii "\n") in
     let n = length-append (spaced query) (ascii "\n") in
     let written =
     put_three a.at (query_head a.server) (spaced query) (ascii "\n")
     a.out.now c.put_head-first.new.out c.put_spaced-end.new.out c.put_bytes.new.out
     c.put_head-first.result c.put_spaced-end.result (omega arith) e f
-    c.put_head-first.ensures.out_after c.put_spaced-end.ensures.upper_bound.1 c.put_bytes.ensures.out_after in
-    (omega arith, (omega arith, written))
+    c.put_head-first.ensures.out_after c.put_spaced-end.ensures.out_after c.put_bytes.ensures.out_after in
+    record {
+      value = omega arith;
+      upper_bound = omega arith;
+      out_after = written;
+    }

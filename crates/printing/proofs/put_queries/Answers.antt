@@ -54,7 +54,11 @@ put_query-at-requires c =    let a = c.args in
     let admitted = (begin-passed scheme_of a.c a.wanted a.key.now c.requires.key_value).admitted in
     let fits = next_fits a.c a.size c.loop-server.at c.loop-server.server admitted c.requires.size_value.0 (omega arith) c.loop-server.invariant.most in
     let same = c.loop-server.invariant.same in
-    (c.requires.key_value, ((omega arith, c.requires.size_value.0), omega arith))
+    record {
+      key_value = c.requires.key_value;
+      server_lt_servers = (omega arith, c.requires.size_value.0);
+      size_in_bounds = omega arith;
+    }
 
 pub overflow_add-server : goal.overflow_add-server
 overflow_add-server c =    omega arith
@@ -71,7 +75,7 @@ loop-server-preserved c =    let a = c.args in
     let more = lines_more scheme_of ask c.loop-server.server in
     let l = ap length more ∙ length-append (lines_to scheme_of ask c.loop-server.server) line in
     let e = c.put_query-at.ensures.value in
-    let f = c.put_query-at.ensures.upper_bound.0 in
+    let f = c.put_query-at.ensures.upper_bound in
     let k = c.put_query-at.auto.0 in
     let i = c.loop-server.invariant in
     let long = 19 + 4 * a.size in
@@ -81,7 +85,7 @@ loop-server-preserved c =    let a = c.args in
       place = omega arith;
       most = omega arith;
       lines =
-          c.put_query-at.ensures.upper_bound.1
+          c.put_query-at.ensures.out_after
           ∙ put_next 0 c.loop-server.at (lines_to scheme_of ask c.loop-server.server) line a.out.now c.loop-server.out (omega arith) (omega arith) i.lines
           ∙ ap (λ (t : List ℕ). put 0 t a.out.now) (sym more);
       same = omega arith;

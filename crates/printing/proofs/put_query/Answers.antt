@@ -27,7 +27,7 @@ module _ (from : goal.Start) (zeros : List ℕ) (blank : zeros ≡ blank_places)
   fits : c.args.size ≤ length zeros
   fits =
       let f = query-fits c.args.c begun.admitted in
-      let due = c.requires.server_lt_servers.0.1 in
+      let due = c.requires.server_lt_servers.1 in
       omega (arith, ap length blank ∙ places-many)
 
   part_length : length (take c.args.size zeros) ≡ c.args.size
@@ -36,8 +36,8 @@ module _ (from : goal.Start) (zeros : List ℕ) (blank : zeros ≡ blank_places)
   query-length : length query ≡ c.args.size
   query-length =
       (promises c.args.c begun.admitted).query-length
-      c.args.wanted c.args.server c.args.key.now begun.inside c.requires.server_lt_servers.0.0 begun.valid
-      ∙ sym c.requires.server_lt_servers.0.1
+      c.args.wanted c.args.server c.args.key.now begun.inside c.requires.server_lt_servers.0 begun.valid
+      ∙ sym c.requires.server_lt_servers.1
 
   -- the part that was lent, as the code left it
   module _ (lent : List ℕ) (left : lent ≡ put 0 query (take c.args.size zeros)) where
@@ -63,8 +63,13 @@ pub query-requires : goal.query-requires
 query-requires c =    let zeros = c.zeros-query in 
     let b = begun c.before.before.before.before c.zeros-query.result c.zeros-query.ensures in
     let l = part_length c.before.before.before.before c.zeros-query.result c.zeros-query.ensures in
-    let due = c.requires.server_lt_servers.0.1 in
-    (b.admitted, ((b.inside, c.requires.server_lt_servers.0.0), (b.valid, omega arith)))
+    let due = c.requires.server_lt_servers.1 in
+    record {
+      admitted = b.admitted;
+      wanted_lt_messages = (b.inside, c.requires.server_lt_servers.0);
+      valid = b.valid;
+      c_in_bounds = omega arith;
+    }
 
 pub slice_bounds-query-end-3 : goal.slice_bounds-query-end-3
 slice_bounds-query-end-3 c =    let made = c.query in 
@@ -82,8 +87,8 @@ put_line-requires c =    let made = c.query in
     let zeros = c.zeros-query in 
     let l = filled-length c.before.before.before.before.before.before.before.before c.zeros-query.result c.zeros-query.ensures c.query.new.1.1.1.1.0 c.query.ensures in
     let n = admitted-numbers c.args.c (begun c.before.before.before.before.before.before.before.before c.zeros-query.result c.zeros-query.ensures).admitted in
-    let below = c.requires.server_lt_servers.0.0 in
-    let roomy = c.requires.server_lt_servers.1 in
+    let below = c.requires.server_lt_servers.0 in
+    let roomy = c.requires.size_in_bounds in
     (omega arith, omega arith)
 
 pub returns : goal.returns
@@ -93,7 +98,8 @@ returns c =    let a = c.args in
     let line = c.put_line in 
     let part = part-is c.before.before.before.before.before.before.before.before.before.before.before c.zeros-query.result c.zeros-query.ensures c.query.new.1.1.1.1.0 c.query.ensures in
     let l = filled-length c.before.before.before.before.before.before.before.before.before.before.before c.zeros-query.result c.zeros-query.ensures c.query.new.1.1.1.1.0 c.query.ensures in
-    let most = c.put_line.ensures.upper_bound.0 in (
-      c.put_line.ensures.value ∙ ap (λ (q : List ℕ). a.at + length (query_line a.server q)) part,
-      (omega arith, c.put_line.ensures.upper_bound.1 ∙ ap (λ (q : List ℕ). put a.at (query_line a.server q) a.out.now) part),
-    )
+    let most = c.put_line.ensures.upper_bound in record {
+      value = c.put_line.ensures.value ∙ ap (λ (q : List ℕ). a.at + length (query_line a.server q)) part;
+      upper_bound = omega arith;
+      out_after = c.put_line.ensures.out_after ∙ ap (λ (q : List ℕ). put a.at (query_line a.server q) a.out.now) part;
+    }

@@ -22,4 +22,8 @@ returns-then-query-v c =    let a = c.args in
     (λ e. c.if-query-v.true (e ∙ ap (λ (v : ℕ). v * a.k) (sym c.power-v.ensures))))
 
 pub rows_fresh-requires : goal.rows_fresh-requires
-rows_fresh-requires c = (c.requires, (c.power-v.ensures, c.if-query-v.false))
+rows_fresh-requires c = record {
+      round_numbers = c.requires;
+      v_value = c.power-v.ensures;
+      query_len = c.if-query-v.false;
+    }

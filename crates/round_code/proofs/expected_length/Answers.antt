@@ -17,7 +17,7 @@ numbers : (c : goal.Start) → RoundNumbers c.args.n c.args.k
 numbers c = fits-numbers c.args.n c.args.k c.args.s c.requires.s_value
 
 all : (c : goal.Start) → Permutation (blocks c.args.n c.args.k) c.args.key.now
-all c = permutation-facts (blocks c.args.n c.args.k) c.args.key.now c.requires.wanted_lt_k.1
+all c = permutation-facts (blocks c.args.n c.args.k) c.args.key.now c.requires.key_value
 
 small : (c : goal.Start) (i : ℕ) → i ≤ length c.args.key.now → i * c.args.s ≤ 64 * 4096
 small c i h =
@@ -35,7 +35,7 @@ returns-then-server-eq0 c =    let a = c.args in
     let key = a.key.now in
     let some : 0 < a.n = omega (arith, (numbers c.before).servers-low) in
     ap (λ (v : ℕ). (v - 1) * a.s) (all c.before).long
-    ∙ sym (first-sent a.n a.k a.s a.wanted some c.requires.wanted_lt_k.0.0 key (all c.before))
+    ∙ sym (first-sent a.n a.k a.s a.wanted some c.requires.wanted_lt_k.0 key (all c.before))
     ∙ ap (λ (n : ℕ). length_before a.k a.s (round_query a.n a.k a.wanted n key) (blocks a.n a.k)) (sym c.if-server-eq0.true)
 
 pub overflow_mul-result-2 : goal.overflow_mul-result-2
@@ -46,6 +46,6 @@ returns c =    let a = c.args in
     let key = a.key.now in
     let some : 0 < a.n = omega (arith, (numbers c.before).servers-low) in
     let other : 0 < a.server = omega (arith, c.if-server-eq0.false) in
-    let admitted = query-admitted a.n a.k some key (all c.before) a.wanted a.server c.requires.wanted_lt_k.0.0 c.requires.wanted_lt_k.0.1 in
+    let admitted = query-admitted a.n a.k some key (all c.before) a.wanted a.server c.requires.wanted_lt_k.0 c.requires.wanted_lt_k.1 in
     ap (λ (v : ℕ). v * a.s) (all c.before).long
     ∙ sym (other_length a.n a.k a.s a.server (round_query a.n a.k a.wanted a.server key) admitted other)

@@ -34,7 +34,7 @@ found c =
     let b = round-bounds a.n a.k a.s c.requires.s_value in
     let some : 0 < a.n - 1 = omega (arith, b.servers-low) in
     let whole : a.symbol / (a.n - 1) * (a.n - 1) + a.symbol % (a.n - 1) ≡ a.symbol = div-add-mod' a.symbol (a.n - 1) in
-    let block : a.symbol / (a.n - 1) < blocks a.n a.k = (div-lt_iff_lt-mul some).1 c.requires.digit_rows.1.1 in
+    let block : a.symbol / (a.n - 1) < blocks a.n a.k = (div-lt_iff_lt-mul some).1 c.requires.message_lt_k.1 in
     record {
       divisor = some;
       whole = whole;
@@ -58,8 +58,8 @@ told c t e =
     let d = a.symbol % (a.n - 1) in
     let at = At (length_before a.k a.s query b) in
     ap (λ (y : ℕ). place_naming a.s a.message y (block_rows a.n a.k query)) (sym f.whole)
-    ∙ round-located a.n a.k a.s query c.requires.digit_rows.0.rows (omega (arith, f.divisor)) a.message b d f.block f.digit
-    ∙ ap (λ (x : ℕ). cond (eqb x (suc d)) at Nowhere) (cut_at (b * a.k) a.k a.message query c.requires.digit_rows.1.0)
+    ∙ round-located a.n a.k a.s query c.requires.digit_rows.rows (omega (arith, f.divisor)) a.message b d f.block f.digit
+    ∙ ap (λ (x : ℕ). cond (eqb x (suc d)) at Nowhere) (cut_at (b * a.k) a.k a.message query c.requires.message_lt_k.0)
     ∙ ap (λ (u : Bool). cond u at Nowhere) e
 
 pub overflow_sub-block : goal.overflow_sub-block
@@ -69,13 +69,13 @@ pub nonzero_div-block : goal.nonzero_div-block
 nonzero_div-block c = let f = found c.before in omega (arith, f.divisor)
 
 pub overflow_mul-digit : goal.overflow_mul-digit
-overflow_mul-digit c = let f = found c.before in omega (arith, f.place, c.requires.digit_rows.0.long)
+overflow_mul-digit c = let f = found c.before in omega (arith, f.place, c.requires.digit_rows.long)
 
 pub overflow_add-digit : goal.overflow_add-digit
-overflow_add-digit c = let f = found c.before in omega (arith, f.place, c.requires.digit_rows.0.long)
+overflow_add-digit c = let f = found c.before in omega (arith, f.place, c.requires.digit_rows.long)
 
 pub bounds-query-block : goal.bounds-query-block
-bounds-query-block c = let f = found c.before.before in omega (arith, f.place, c.requires.digit_rows.0.long)
+bounds-query-block c = let f = found c.before.before in omega (arith, f.place, c.requires.digit_rows.long)
 
 pub overflow_cast-digit : goal.overflow_cast-digit
 overflow_cast-digit c =    let a = c.args in

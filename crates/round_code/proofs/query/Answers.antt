@@ -20,7 +20,7 @@ use Rattle.round_code.proofs.query.Invariants.{asked}
 use Rattle.round_code.proofs.query.Goals as goal
 
 all : (c : goal.Start) → Permutation (blocks c.args.n c.args.k) c.args.key.now
-all c = permutation-facts (blocks c.args.n c.args.k) c.args.key.now c.requires.wanted_lt_k.1.0
+all c = permutation-facts (blocks c.args.n c.args.k) c.args.key.now c.requires.key_value
 
 -- the row of a turn ends inside `out`, and what the numbers on the way are
 inside : (c : goal.In-loop-i)
@@ -30,7 +30,7 @@ inside c =
     let a = c.args in
     let i = c.loop-i.i in
     let low : i < blocks a.n a.k = omega (arith, (all c.before.before.before.before).long) in
-    (omega (arith, slot-end i (blocks a.n a.k) a.k low, c.requires.wanted_lt_k.1.1), rows-small a.n a.k c.requires.round_numbers i (omega arith))
+    (omega (arith, slot-end i (blocks a.n a.k) a.k low, c.requires.k_in_bounds), rows-small a.n a.k c.requires.round_numbers i (omega arith))
 
 pub loop-i-init : goal.loop-i-init
 unfolding range flat_map
@@ -60,17 +60,13 @@ slice_bounds-write_row-end c = omega (arith, (inside c.before).0, c.loop-i.invar
 pub write_row-requires : goal.write_row-requires
 write_row-requires c =    let a = c.args in
     let i = c.loop-i.i in
-    let long = (all c.before.before.before.before.before.before).long in (
-      c.requires.round_numbers,
-      (
-        c.requires.wanted_lt_k.0,
-        (
-          (all c.before.before.before.before.before.before).low i (omega arith),
-          ap (λ (n : ℕ). length (take n (drop (i * a.k) c.loop-i.out))) (add-sub_cancel_left (i * a.k) a.k)
-              ∙ cut-length (i * a.k) a.k c.loop-i.out (omega (arith, (inside c.before.before).0, c.loop-i.invariant.1)),
-        ),
-      ),
-    )
+    let long = (all c.before.before.before.before.before.before).long in record {
+      round_numbers = c.requires.round_numbers;
+      wanted_lt_k = c.requires.wanted_lt_k;
+      bound = (all c.before.before.before.before.before.before).low i (omega arith);
+      out_len = ap (λ (n : ℕ). length (take n (drop (i * a.k) c.loop-i.out))) (add-sub_cancel_left (i * a.k) a.k)
+              ∙ cut-length (i * a.k) a.k c.loop-i.out (omega (arith, (inside c.before.before).0, c.loop-i.invariant.1));
+    }
 
 pub overflow_add-i : goal.overflow_add-i
 overflow_add-i c = omega arith
@@ -86,8 +82,8 @@ loop-i-preserved c =    let a = c.args in
     let f = asked a.n a.k a.wanted a.server a.key.now in
     let low : i < blocks a.n a.k = omega (arith, (all c.before.before.before.before.before.before.before.before.before).long) in
     let some : 0 < a.n = omega (arith, c.requires.round_numbers.servers-low) in
-    let known = c.requires.wanted_lt_k.0.0 in
-    let there = c.requires.wanted_lt_k.0.1 in
+    let known = c.requires.wanted_lt_k.0 in
+    let there = c.requires.wanted_lt_k.1 in
     let before = rows_long a.n a.k some a.key.now (all c.before.before.before.before.before.before.before.before.before) a.wanted a.server known there i (omega arith) in
     let one = asked-long a.n a.k some a.key.now (all c.before.before.before.before.before.before.before.before.before) a.wanted a.server known there i low in
     let written =

@@ -26,7 +26,7 @@ use Rattle.round_code.proofs.recover.Goals as goal
 
 given : (c : goal.Start)
     → Given (sum_of c.args.op) c.args.n c.args.k c.args.s c.args.wanted c.args.key.now c.args.answers.now
-given c = record { fits = c.requires.s_value; known = c.requires.wanted_lt_k.0; valid = c.requires.wanted_lt_k.1.0; room = c.requires.wanted_lt_k.1.1 }
+given c = record { fits = c.requires.s_value; known = c.requires.wanted_lt_k; valid = c.requires.valid; room = c.requires.s_in_bounds }
 
 -- the slots by the key's length, as the code has them
 slot_is : (c : goal.Start) → length c.args.key.now * c.args.s ≡ blocks c.args.n c.args.k * c.args.s
@@ -92,16 +92,12 @@ recover_block-requires c =    let start = begun c.before.before in
     let a = start.args in
     let g = given start in
     let slot = slot_is start in
-    let ends = before-inside g (i c.before.before.before.before.before.before.before) (low c.before.before.before.before.before.before.before) in (
-      fits-numbers a.n a.k a.s g.fits,
-      (
-        (all g).low (i c.before.before.before.before.before.before.before) (low c.before.before.before.before.before.before.before),
-        (
-          ((bounds g).symbol_low, omega (arith, ends.1, slot), omega (arith, slot-low start)),
-          (omega (arith, ends.0, slot, c.loop-i.invariant.1), omega (arith, ends.1, slot), rw slot g.room),
-        ),
-      ),
-    )
+    let ends = before-inside g (i c.before.before.before.before.before.before.before) (low c.before.before.before.before.before.before.before) in record {
+      round_numbers = fits-numbers a.n a.k a.s g.fits;
+      bound = (all g).low (i c.before.before.before.before.before.before.before) (low c.before.before.before.before.before.before.before);
+      s_nonzero = ((bounds g).symbol_low, omega (arith, ends.1, slot), omega (arith, slot-low start));
+      s_bound = (omega (arith, ends.0, slot, c.loop-i.invariant.1), omega (arith, ends.1, slot), rw slot g.room);
+    }
 
 pub overflow_add-before : goal.overflow_add-before
 overflow_add-before c =    let a = (begun c.before.before.before.before.before.before).args in

@@ -111,7 +111,7 @@ loop-i-init c =    let a = c.args in (
       omega arith,
       length-replicate {A = Bool} 64 false,
       λ j h. absurd (not-suc-le-zero h),
-      permutation-passes a.v 64 (round_key a.n a.k 0 a.query.now) (key-length a.n a.k 0 a.query.now ∙ sym c.requires.v_value.0),
+      permutation-passes a.v 64 (round_key a.n a.k 0 a.query.now) (key-length a.n a.k 0 a.query.now ∙ sym c.requires.v_value),
     )
 
 pub overflow_mul-from : goal.overflow_mul-from
@@ -204,8 +204,8 @@ pub returns : goal.returns
 returns c =    let loop = c.loop-i in 
     let a = c.args in
     let keys = round_key a.n a.k 0 a.query.now in
-    let last : c.loop-i.i ≡ length keys = omega (arith, key-length a.n a.k 0 a.query.now, c.requires.v_value.0) in
+    let last : c.loop-i.i ≡ length keys = omega (arith, key-length a.n a.k 0 a.query.now, c.requires.v_value) in
     let fresh : is_permutation a.v keys ≡ true = c.loop-i.invariant.3 ∙ passes-end a.v c.loop-i.seen keys c.loop-i.i last in
     sym (fresh-admitted a.n a.k a.server a.query.now (omega (arith, c.requires.round_numbers.servers-low))
-    (c.requires.v_value.1 ∙ ap (λ (v : ℕ). v * a.k) c.requires.v_value.0) (λ j h. c.loop-i.invariant.2 j (omega (arith, c.requires.v_value.0)))
-    (ap (λ (v : ℕ). is_permutation v keys) (sym c.requires.v_value.0) ∙ fresh))
+    (c.requires.query_len ∙ ap (λ (v : ℕ). v * a.k) c.requires.v_value) (λ j h. c.loop-i.invariant.2 j (omega (arith, c.requires.v_value)))
+    (ap (λ (v : ℕ). is_permutation v keys) (sym c.requires.v_value) ∙ fresh))

@@ -21,7 +21,12 @@ returns-in-Refused c =    let a = c.args in
     answer-refused scheme_of a.c a.today a.server a.store.now a.query.now a.out.now c.verdict.result told.0.0 c.verdict.ensures told.1
 
 pub answer-requires : goal.answer-requires
-answer-requires c =    let p = passed c.before in (p.admitted, (p.admits, (p.store_long, p.roomy)))
+answer-requires c =    let p = passed c.before in record {
+      admitted = p.admitted;
+      query_value = p.admits;
+      store_len = p.store_long;
+      query_in_bounds = p.roomy;
+    }
 
 pub answer_length-requires : goal.answer_length-requires
 answer_length-requires c = (passed c.before.before.before.before).admitted

@@ -8,7 +8,13 @@ returns-then-not-marks_good c = rw (sym c.marks_good.ensures ∙ not-true _ c.if
 
 pub meters_good-requires : goal.meters_good-requires
 meters_good-requires c =    let pre = c.requires in
-    (pre.0, (pre.1.0, (pre.1.1.0, (pre.1.1.1, sym c.marks_good.ensures ∙ not-false _ c.if-not-marks_good.false-raw))))
+    record {
+      admitted = c.requires.admitted;
+      query_value = c.requires.query_value;
+      wanted_lt_messages = c.requires.wanted_lt_messages;
+      valid = c.requires.valid;
+      taken_value = sym c.marks_good.ensures ∙ not-false _ c.if-not-marks_good.false-raw;
+    }
 
 pub returns-then-not-meters_good : goal.returns-then-not-meters_good
 returns-then-not-meters_good c =    rw (sym c.marks_good.ensures ∙ not-false _ c.if-not-marks_good.false-raw, sym c.meters_good.ensures ∙ not-true _ c.if-not-meters_good.true-raw)

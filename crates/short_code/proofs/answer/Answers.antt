@@ -14,7 +14,11 @@ pub answer-requires : goal.answer-requires
 unfolding short_sizes
 answer-requires c =    let a = c.args in
     let b = short-bounds a.n a.k a.s c.requires.s_value in
-    (b.symbol_low, (query-stored a.n a.k a.s a.store.now a.query.now c.requires.store_len.0 c.requires.store_len.1.0, c.requires.store_len.1.1))
+    record {
+      s_nonzero = b.symbol_low;
+      row_stored = query-stored a.n a.k a.s a.store.now a.query.now c.requires.store_len c.requires.digit_row;
+      row_in_bounds = c.requires.query_in_bounds;
+    }
 
 pub returns : goal.returns
 unfolding short_answer

@@ -22,13 +22,13 @@ bounds c = short-bounds c.args.n c.args.k c.args.s c.requires.s_value
 
 slotted : (c : goal.Start) → Slotted c.args.n c.args.s c.args.answers.now
 unfolding short_sizes
-slotted c = fits-slotted c.args.n c.args.k c.args.s c.args.answers.now c.requires.s_value c.requires.valid.1
+slotted c = fits-slotted c.args.n c.args.k c.args.s c.args.answers.now c.requires.s_value c.requires.s_in_bounds
 
 bytes : (c : goal.After-shared_slice_known-2-1) → Below 256 c.args.answers.now
 bytes c i h = omega (arith, c.shared_slice_known-2-1.given i)
 
 pub digit_sum-t-requires : goal.digit_sum-t-requires
-digit_sum-t-requires c = c.requires.valid.0.good
+digit_sum-t-requires c = c.requires.valid.good
 
 pub recover_slots-requires : goal.recover_slots-requires
 recover_slots-requires c =    let a = c.args in

@@ -16,7 +16,11 @@ pub query-requires : goal.query-requires
 query-requires c =    let a = c.args in
     let key = a.key.now in
     let low : c.part-played.result < a.n = omega (arith, c.part-played.ensures, part-below a.n key (omega arith) a.server) in
-    ((low, c.requires.server_lt_n.1), (others-good a.n key c.requires.key_value.0, (omega (arith, others-length key), omega (arith, others-length key))))
+    record {
+      server_lt_n = (low, c.requires.server_lt_n.1);
+      key_value = others-good a.n key c.requires.key_value;
+      wanted_in_bounds = (omega (arith, others-length key), omega (arith, others-length key));
+    }
 
 pub returns : goal.returns
 unfolding turn_query

@@ -26,14 +26,14 @@ bounds c = short-bounds c.args.n c.args.k c.args.s c.requires.s_value
 
 some : (c : goal.Start) → 0 < length c.args.key.now
 unfolding turn_sizes
-some c = omega (arith, c.requires.valid.0.long, (bounds c).messages-low)
+some c = omega (arith, c.requires.valid.long, (bounds c).messages-low)
 
 low : (c : goal.Start) → turn_of c.args.key.now < c.args.n
-low c = turn_below c.args.n c.args.key.now c.requires.valid.0.good (some c)
+low c = turn_below c.args.n c.args.key.now c.requires.valid.good (some c)
 
 slotted : (c : goal.Start) → Slotted c.args.n c.args.s c.args.answers.now
 unfolding turn_sizes short_sizes
-slotted c = fits-slotted c.args.n c.args.k c.args.s c.args.answers.now c.requires.s_value c.requires.valid.1
+slotted c = fits-slotted c.args.n c.args.k c.args.s c.args.answers.now c.requires.s_value c.requires.s_in_bounds
 
 bytes : (c : goal.After-shared_slice_known-2-1) → Below 256 c.args.answers.now
 bytes c i h = omega (arith, c.shared_slice_known-2-1.given i)
@@ -51,7 +51,7 @@ pub slice_bounds-digit_sum-end : goal.slice_bounds-digit_sum-end
 slice_bounds-digit_sum-end c = sym (others-length c.args.key.now)
 
 pub digit_sum-t-requires : goal.digit_sum-t-requires
-digit_sum-t-requires c =    others-good c.args.n c.args.key.now c.requires.valid.0.good
+digit_sum-t-requires c =    others-good c.args.n c.args.key.now c.requires.valid.good
 
 pub subtract_modulo-player-requires : goal.subtract_modulo-player-requires
 subtract_modulo-player-requires c =    let a = c.args in

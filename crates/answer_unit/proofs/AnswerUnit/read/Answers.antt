@@ -15,7 +15,11 @@ shown-requires c =    let a = c.args in
     let u = a.self in
     let p = access-passed u a.register (length a.store.now) (sym c.access_verdict-verdict.ensures ∙ c.in_default.is) in
     let s = set-up-passed u.catalogue u.server p.set-up in
-    (p.known, (p.waiting-fits, (unit-takes u.catalogue s.takes).small))
+    record {
+      register_bound = p.known;
+      waiting_le_symbol = p.waiting-fits;
+      symbol_bound = (unit-takes u.catalogue s.takes).small;
+    }
 
 pub returns : goal.returns
 returns c =    let a = c.args in

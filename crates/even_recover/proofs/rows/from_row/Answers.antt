@@ -15,7 +15,7 @@ use Rattle.even_recover.proofs.rows.from_row.Goals as goal
 
 -- the row itself is one of the servers' rows
 own : (start : goal.Start) → let a = c.args in RowAt a.here (own_row a.here a.group a.i)
-own start = let a = c.args in own-row a.here a.group a.i c.requires.held.bounded c.requires.grouped.0 c.requires.grouped.1.0
+own start = let a = c.args in own-row a.here a.group a.i c.requires.held.bounded c.requires.grouped c.requires.i_lt_count
 
 -- and in the answer buffer
 own-inside : (start : goal.Start) → let a = c.args in
@@ -29,7 +29,7 @@ from-inside c =
     let a = c.args in
     rw c.joined_from.ensures
     (row_inside a.here a.answers.now (joined_from a.here a.group a.i) c.requires.held
-    (joined-row a.here a.group a.i c.requires.held.bounded c.requires.grouped.0 c.requires.grouped.1.0))
+    (joined-row a.here a.group a.i c.requires.held.bounded c.requires.grouped c.requires.i_lt_count))
 
 pub overflow_mul-own : goal.overflow_mul-own
 overflow_mul-own c = omega (arith, (own c.before.before.before).small)
@@ -59,7 +59,7 @@ pub slice_bounds-write_difference-end-2 : goal.slice_bounds-write_difference-end
 slice_bounds-write_difference-end-2 c = from-inside c.before.before
 
 pub overflow_mul-number : goal.overflow_mul-number
-overflow_mul-number c =    omega (arith, mul-le-mul c.requires.grouped.1.1 c.requires.held.bounded.narrow)
+overflow_mul-number c =    omega (arith, mul-le-mul c.requires.number_bound c.requires.held.bounded.narrow)
 
 pub returns : goal.returns
 unfolding group_symbol

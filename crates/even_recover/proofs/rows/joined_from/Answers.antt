@@ -12,12 +12,12 @@ use Rattle.even_recover.proofs.rows.joined_from.Goals as goal
 
 -- the row itself is one of the servers' rows
 own : (start : goal.Start) → let a = c.args in RowAt a.here (own_row a.here a.group a.i)
-own start = let a = c.args in own-row a.here a.group a.i c.requires.bounded c.requires.grouped.0 c.requires.grouped.1
+own start = let a = c.args in own-row a.here a.group a.i c.requires.bounded c.requires.grouped c.requires.i_lt_count
 
 -- and so is the row that it was joined from
 from : (start : goal.Start) → let a = c.args in
-    a.group.messages ≢ 1 → Source a.here a.group a.i c.requires.bounded c.requires.grouped.0 c.requires.grouped.1
-from start = let a = c.args in source_row_lem a.here a.group a.i c.requires.bounded c.requires.grouped.0 c.requires.grouped.1
+    a.group.messages ≢ 1 → Source a.here a.group a.i c.requires.bounded c.requires.grouped c.requires.i_lt_count
+from start = let a = c.args in source_row_lem a.here a.group a.i c.requires.bounded c.requires.grouped c.requires.i_lt_count
 
 -- the other server, by its turn
 other : (c : goal.After-other_server) → let a = c.args in

@@ -11,7 +11,11 @@ returns-in-Refused c =    let a = c.args in
     let told = c.verdict-1.given in
     let did = text-refused a.mirror a.store.now a.request.now (edit_of a.pack a.piece a.byte a.value) a.answer.now
     a.catalogue.now c.read-reading.result c.read-reading.ensures told.0.0 told.1 in
-    (to_z-of_z (record { sfits = c.minus.type-inv }) ∙ c.minus.ensures ∙ ap signed_verdict did.verdict, (did.store, did.answer))
+    record {
+      value = to_z-of_z (record { sfits = c.minus.type-inv }) ∙ c.minus.ensures ∙ ap signed_verdict did.verdict;
+      store_after = did.store;
+      answer_after = did.answer;
+    }
 
 pub returns : goal.returns
 returns c =    let a = c.args in
@@ -20,4 +24,8 @@ returns c =    let a = c.args in
     let did = text-corrected a.mirror a.store.now a.request.now (edit_of a.pack a.piece a.byte a.value) a.answer.now
     a.catalogue.now c.read-reading.result c.read-reading.ensures c.in_default.is
     c.correct.result _ _ c.correct.ensures in
-    (to_z-of_z (record { sfits = c.told.type-inv }) ∙ c.told.ensures ∙ ap signed_verdict did.verdict, (did.store, did.answer))
+    record {
+      value = to_z-of_z (record { sfits = c.told.type-inv }) ∙ c.told.ensures ∙ ap signed_verdict did.verdict;
+      store_after = did.store;
+      answer_after = did.answer;
+    }

@@ -27,7 +27,7 @@ module _ (c : goal.In-loop-i) where
   small : c.loop-i.result * n + get_or row i 0 < 2 ^ 64
   small =
       let pre = c.requires in
-      let low = read_low n pre.0.0 row (all_below-below n row pre.0.1) pre.1 (i + 1) (omega arith) in
+      let low = read_low n c.requires.n_nonzero.0 row (all_below-below n row c.requires.n_nonzero.1) c.requires.row_bound (i + 1) (omega arith) in
       omega (arith, next)
 
 pub loop-i-init : goal.loop-i-init

@@ -12,10 +12,11 @@ use Rattle.short_scheme.specs.Short.{strided_answer}
 use Rattle.round_code.proofs.rows.answer_row.Goals as goal
 
 pub answer-written-requires : goal.answer-written-requires
-answer-written-requires c =    let a = c.args in (
-      c.requires.s_nonzero,
-      (c.requires.row_stored.0, rw (to_end a.out.now a.at) (omega (arith, length-drop a.at a.out.now, c.requires.row_stored.1))),
-    )
+answer-written-requires c =    let a = c.args in record {
+      s_nonzero = c.requires.s_nonzero;
+      row_stored = c.requires.row_stored;
+      row_in_bounds = rw (to_end a.out.now a.at) (omega (arith, length-drop a.at a.out.now, c.requires.row_in_bounds));
+    }
 
 pub returns : goal.returns
 returns c =    let a = c.args in

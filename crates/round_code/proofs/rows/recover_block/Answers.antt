@@ -24,8 +24,8 @@ placed : (c : goal.Start) → Placed c.args.n c.args.s (row_starts c.args.slot c
 placed c =
     let a = c.args in
     let pre = c.requires in
-    starts-placed a.n a.s a.slot a.before a.behind a.answers.now pre.0.servers-high pre.1.1.0.0 pre.1.1.0.2
-    pre.1.1.1.0 pre.1.1.1.1 pre.1.1.1.2
+    starts-placed a.n a.s a.slot a.before a.behind a.answers.now c.requires.round_numbers.servers-high c.requires.s_nonzero.0 c.requires.s_nonzero.2
+    c.requires.s_bound.0 c.requires.s_bound.1 c.requires.s_bound.2
 
 pub returns-then-message-at : goal.returns-then-message-at
 returns-then-message-at c =    let a = c.args in
@@ -33,7 +33,7 @@ returns-then-message-at c =    let a = c.args in
     a.message.now c.if-message-at.true)
 
 pub row_starts-starts-requires : goal.row_starts-starts-requires
-row_starts-starts-requires c = let pre = c.requires in (pre.1.1.0.2, omega (arith, pre.1.1.0.2, pre.1.1.1.1))
+row_starts-starts-requires c = let pre = c.requires in (c.requires.s_nonzero.2, omega (arith, c.requires.s_nonzero.2, c.requires.s_bound.1))
 
 pub recover_row-requires : goal.recover_row-requires
 recover_row-requires c =    let a = c.args in
@@ -55,7 +55,7 @@ returns c =    let a = c.args in
     let same : f c.asked_none-t.result (eqb a.entry 0) c.row_starts-starts.result ≡ block =
     ap (λ (t : ℕ). f t (eqb a.entry 0) c.row_starts-starts.result) c.asked_none-t.ensures
     ∙ ap₂ (λ (empty : Bool) (begin : List ℕ). f (key_sum a.n short) empty begin)
-    (sym (entry-zeros a.n a.k a.entry c.requires.round_numbers c.requires.bound.0)) c.row_starts-starts.ensures in
+    (sym (entry-zeros a.n a.k a.entry c.requires.round_numbers c.requires.bound)) c.row_starts-starts.ensures in
     ap (λ (l : List ℕ). take a.at message ++ (l ++ drop (length message - a.at) (drop a.at message)))
     (c.recover_row.ensures ∙ ap₂ (λ (l m : List ℕ). lay 0 l m) same (to_end message a.at))
     ∙ lay-rest a.at block message

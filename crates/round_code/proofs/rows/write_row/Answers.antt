@@ -14,8 +14,8 @@ overflow_sub-last c = omega (arith, c.requires.round_numbers.messages-low)
 pub digits_of-short-requires : goal.digits_of-short-requires
 digits_of-short-requires c =    let pre = c.requires in
     record {
-      le_n = (pre.0.servers-low, pre.0.servers-high);
-      count_le_most_digits = (omega (arith, pre.0.messages-high), pre.1.1.0);
+      le_n = (c.requires.round_numbers.servers-low, c.requires.round_numbers.servers-high);
+      count_le_most_digits = (omega (arith, c.requires.round_numbers.messages-high), c.requires.bound);
     }
 
 pub slice_bounds-short-end : goal.slice_bounds-short-end
@@ -30,13 +30,11 @@ query-requires c =    let a = c.args in
     let b = c.requires.round_numbers in
     let array = c.digits_of-short.result in
     let e = c.digits_of-short.ensures in
-    let long = held-long a.n a.k a.entry array e in (
-      (c.requires.wanted_lt_k.0.1, b.servers-high),
-      (
-        held_below a.n a.k a.entry array e b c.requires.wanted_lt_k.1.0,
-        (omega (arith, c.requires.wanted_lt_k.0.0), omega (arith, c.requires.wanted_lt_k.1.1, b.messages-low)),
-      ),
-    )
+    let long = held-long a.n a.k a.entry array e in record {
+      server_lt_n = (c.requires.wanted_lt_k.1, b.servers-high);
+      key_value = held_below a.n a.k a.entry array e b c.requires.bound;
+      wanted_in_bounds = (omega (arith, c.requires.wanted_lt_k.0), omega (arith, c.requires.out_len, b.messages-low));
+    }
 
 pub returns : goal.returns
 returns c =    let a = c.args in
@@ -46,7 +44,7 @@ returns c =    let a = c.args in
     let row : List _ → List _ = short_query a.n a.wanted a.server in
     c.query.ensures
     ∙ put_whole (row _) a.out.now
-    (query-long a.n a.k a.wanted a.server _ c.requires.wanted_lt_k.0.0 c.requires.wanted_lt_k.0.1 (held-long a.n a.k a.entry array e)
-    (held_below a.n a.k a.entry array e b c.requires.wanted_lt_k.1.0)
-    ∙ sym c.requires.wanted_lt_k.1.1)
+    (query-long a.n a.k a.wanted a.server _ c.requires.wanted_lt_k.0 c.requires.wanted_lt_k.1 (held-long a.n a.k a.entry array e)
+    (held_below a.n a.k a.entry array e b c.requires.bound)
+    ∙ sym c.requires.out_len)
     ∙ ap row (held a.n a.k a.entry array e)

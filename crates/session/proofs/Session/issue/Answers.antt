@@ -19,7 +19,13 @@ pub write_query-bytes-requires : goal.write_query-bytes-requires
 write_query-bytes-requires c =    let args = c.args in
     let v = c.issue_verdict-verdict in 
     let i = issue-passed scheme_of args.self args.today args.server (length args.query.now) (sym c.issue_verdict-verdict.ensures ∙ c.in_default.is) in
-    (i.sound.admitted, (key-places args.self _ c.well_formed.0, ((i.sound.inside, i.below), (i.sound.good, i.roomy))))
+    record {
+      admitted = i.sound.admitted;
+      places_len = key-places args.self _ c.well_formed.0;
+      wanted_lt_messages = (i.sound.inside, i.below);
+      places_value = i.sound.good;
+      c_in_bounds = i.roomy;
+    }
 
 pub mark_issued-requires : goal.mark_issued-requires
 mark_issued-requires c =    let args = c.args in

@@ -15,7 +15,14 @@ pub write_message-requires : goal.write_message-requires
 write_message-requires c =    let args = c.args in
     let v = c.recover_verdict-verdict in 
     let r = recover-passed scheme_of args.self (length args.answers.now) (length args.message.now) (sym c.recover_verdict-verdict.ensures ∙ c.in_default.is) in
-    (r.sound.admitted, (key-places args.self _ c.well_formed.0, (r.sound.inside, (r.sound.good, (r.slots-fit, r.roomy)))))
+    record {
+      admitted = r.sound.admitted;
+      places_len = key-places args.self _ c.well_formed.0;
+      wanted_lt_messages = r.sound.inside;
+      places_value = r.sound.good;
+      c_in_bounds = r.slots-fit;
+      wanted_in_bounds = r.roomy;
+    }
 
 pub returns : goal.returns
 returns c =    let args = c.args in

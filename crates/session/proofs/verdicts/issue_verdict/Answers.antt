@@ -57,7 +57,13 @@ sent_verdict-requires c =    let s = c.args.s in
     let holds = passed.holds in
     let valid = key-valid s.catalogue s.key long c.sizes_of-sizes.result holds.admitted c.sizes_of-sizes.ensures holds.good in
     let few = (sizes-small s.catalogue c.sizes_of-sizes.result holds.admitted c.sizes_of-sizes.ensures).servers in
-    (holds.admitted, (ap (λ (z : Sizes). z.query) c.sizes_of-sizes.ensures, (holds.inside, (valid, omega (arith, passed.below, few)))))
+    record {
+      admitted = holds.admitted;
+      query_value = ap (λ (z : Sizes). z.query) c.sizes_of-sizes.ensures;
+      wanted_lt_messages = holds.inside;
+      valid = valid;
+      server_bound = omega (arith, passed.below, few);
+    }
 
 pub returns : goal.returns
 unfolding issue_verdict

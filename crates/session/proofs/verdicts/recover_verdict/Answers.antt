@@ -65,7 +65,13 @@ missing_verdict-requires c =    let s = c.args.s in
     let holds = session-passed scheme_of s.catalogue s.wanted s.key (accepted c.before.before.before.before.before.before.before.before.before.before.before.before) in
     let valid = key-valid s.catalogue s.key long c.sizes_of-sizes.result holds.admitted c.sizes_of-sizes.ensures holds.good in
     let few = (sizes-small s.catalogue c.sizes_of-sizes.result holds.admitted c.sizes_of-sizes.ensures).servers in
-    (holds.admitted, (ap (λ (z : Sizes). z.query) c.sizes_of-sizes.ensures, (holds.inside, (valid, few))))
+    record {
+      admitted = holds.admitted;
+      query_value = ap (λ (z : Sizes). z.query) c.sizes_of-sizes.ensures;
+      wanted_lt_messages = holds.inside;
+      valid = valid;
+      servers_bound = few;
+    }
 
 pub returns : goal.returns
 unfolding recover_verdict

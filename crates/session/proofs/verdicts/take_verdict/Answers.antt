@@ -47,7 +47,12 @@ returns-then-room-s c =    after_first_lem _ _ refl refl Accepted _ (sym (accept
 
 pub answer_length-requires : goal.answer_length-requires
 answer_length-requires c =    let passed = asks c.before.before.before.before.before.before in
-    (passed.holds.admitted, (key-places c.args.s _ c.well_formed.0, ((passed.holds.inside, passed.below), passed.holds.good)))
+    record {
+      admitted = passed.holds.admitted;
+      places_len = key-places c.args.s _ c.well_formed.0;
+      wanted_lt_messages = (passed.holds.inside, passed.below);
+      places_value = passed.holds.good;
+    }
 
 pub returns-then-size-answer_length : goal.returns-then-size-answer_length
 unfolding take_verdict
@@ -70,7 +75,13 @@ due_verdict-requires c =    let s = c.args.s in
     let holds = passed.holds in
     let valid = key-valid s.catalogue s.key long c.sizes_of-sizes.result holds.admitted c.sizes_of-sizes.ensures holds.good in
     let few = (sizes-small s.catalogue c.sizes_of-sizes.result holds.admitted c.sizes_of-sizes.ensures).servers in
-    (holds.admitted, (ap (λ (z : Sizes). z.query) c.sizes_of-sizes.ensures, (holds.inside, (valid, omega (arith, passed.below, few)))))
+    record {
+      admitted = holds.admitted;
+      query_value = ap (λ (z : Sizes). z.query) c.sizes_of-sizes.ensures;
+      wanted_lt_messages = holds.inside;
+      valid = valid;
+      server_bound = omega (arith, passed.below, few);
+    }
 
 pub returns : goal.returns
 unfolding take_verdict

@@ -8,13 +8,17 @@ use Rattle.session_checks.proofs.keyed.answer_length.Goals as goal
 
 pub slice_bounds-expected_length-end : goal.slice_bounds-expected_length-end
 slice_bounds-expected_length-end c =    let args = c.args in
-    sym (key-count args.c args.places.now c.requires.places_len.0 c.sizes_of-sizes.result c.requires.admitted c.sizes_of-sizes.ensures)
+    sym (key-count args.c args.places.now c.requires.places_len c.sizes_of-sizes.result c.requires.admitted c.sizes_of-sizes.ensures)
 
 pub expected_length-requires : goal.expected_length-requires
 expected_length-requires c =    let args = c.args in
     let pre = c.requires in
     let sizes = c.sizes_of-sizes in 
-    (pre.0, (pre.1.1.0, key-valid args.c args.places.now pre.1.0 c.sizes_of-sizes.result pre.0 c.sizes_of-sizes.ensures pre.1.1.1))
+    record {
+      admitted = c.requires.admitted;
+      wanted_lt_messages = c.requires.wanted_lt_messages;
+      valid = key-valid args.c args.places.now c.requires.places_len c.sizes_of-sizes.result c.requires.admitted c.sizes_of-sizes.ensures c.requires.places_value;
+    }
 
 pub returns : goal.returns
 returns c =    let args = c.args in

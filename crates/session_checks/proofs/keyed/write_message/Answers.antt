@@ -15,11 +15,11 @@ use Rattle.session_checks.proofs.keyed.write_message.Goals as goal
 
 -- the buffer has room for the message
 fits : (c : goal.After-message_length-length) → c.message_length-length.result ≤ length c.args.message.now
-fits c = omega (arith, c.message_length-length.ensures, c.requires.places_len.1.1.1.1)
+fits c = omega (arith, c.message_length-length.ensures, c.requires.wanted_in_bounds)
 
 pub slice_bounds-recover-end : goal.slice_bounds-recover-end
 slice_bounds-recover-end c =    let args = c.args in
-    sym (key-count args.c args.places.now c.requires.places_len.0 c.sizes_of-sizes.result c.requires.admitted c.sizes_of-sizes.ensures)
+    sym (key-count args.c args.places.now c.requires.places_len c.sizes_of-sizes.result c.requires.admitted c.sizes_of-sizes.ensures)
 
 pub slice_bounds-recover-end-2 : goal.slice_bounds-recover-end-2
 slice_bounds-recover-end-2 c = fits c
@@ -31,8 +31,13 @@ pub recover-requires : goal.recover-requires
 recover-requires c =    let args = c.args in
     let pre = c.requires in
     let sizes = c.sizes_of-sizes in 
-    let rest = pre.1.1 in
-    (pre.0, (rest.0, (key-valid args.c args.places.now pre.1.0 c.sizes_of-sizes.result pre.0 c.sizes_of-sizes.ensures rest.1.0, rest.1.1.0)))
+    let rest = c.requires.1.1 in
+    record {
+      admitted = c.requires.admitted;
+      wanted_lt_messages = rest.0;
+      valid = key-valid args.c args.places.now c.requires.places_len c.sizes_of-sizes.result c.requires.admitted c.sizes_of-sizes.ensures rest.1.0;
+      c_in_bounds = rest.1.1.0;
+    }
 
 pub returns : goal.returns
 returns c =    let args = c.args in

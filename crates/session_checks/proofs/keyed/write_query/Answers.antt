@@ -9,14 +9,19 @@ use Rattle.session_checks.proofs.keyed.write_query.Goals as goal
 
 pub slice_bounds-query-end : goal.slice_bounds-query-end
 slice_bounds-query-end c =    let args = c.args in
-    sym (key-count args.c args.places.now c.requires.places_len.0 c.sizes_of-sizes.result c.requires.admitted c.sizes_of-sizes.ensures)
+    sym (key-count args.c args.places.now c.requires.places_len c.sizes_of-sizes.result c.requires.admitted c.sizes_of-sizes.ensures)
 
 pub query-requires : goal.query-requires
 query-requires c =    let args = c.args in
     let pre = c.requires in
     let sizes = c.sizes_of-sizes in 
-    let rest = pre.1.1 in
-    (pre.0, (rest.0, (key-valid args.c args.places.now pre.1.0 c.sizes_of-sizes.result pre.0 c.sizes_of-sizes.ensures rest.1.0, rest.1.1)))
+    let rest = c.requires.1.1 in
+    record {
+      admitted = c.requires.admitted;
+      wanted_lt_messages = rest.0;
+      valid = key-valid args.c args.places.now c.requires.places_len c.sizes_of-sizes.result c.requires.admitted c.sizes_of-sizes.ensures rest.1.0;
+      c_in_bounds = rest.1.1;
+    }
 
 pub returns : goal.returns
 returns c =    let args = c.args in

@@ -9,7 +9,11 @@ returns-then-not-taken c = rw (not-true c.args.taken c.if-not-taken.true-raw)
 
 pub expected_length-requires : goal.expected_length-requires
 expected_length-requires c =    let pre = c.requires in
-    (pre.0, ((pre.1.0, pre.1.1.1 (not-false c.args.taken c.if-not-taken.false-raw)), pre.1.1.0))
+    record {
+      admitted = c.requires.admitted;
+      wanted_lt_messages = (c.requires.wanted_lt_messages, c.requires.server_lt_servers (not-false c.args.taken c.if-not-taken.false-raw));
+      valid = c.requires.valid;
+    }
 
 pub returns : goal.returns
 returns c =    let args = c.args in

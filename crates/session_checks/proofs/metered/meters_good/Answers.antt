@@ -25,21 +25,26 @@ pub loop-i-init : goal.loop-i-init
 loop-i-init c = (omega arith, every-none _)
 
 pub sent_good-requires : goal.sent_good-requires
-sent_good-requires c =    omega (arith, c.requires.query_value.0, query-some c.args.c c.requires.admitted)
+sent_good-requires c =    omega (arith, c.requires.query_value, query-some c.args.c c.requires.admitted)
 
 pub returns-then-not-sent_good : goal.returns-then-not-sent_good
 unfolding meters_good
 returns-then-not-sent_good c =    let args = c.args in
     let i = c.loop-i.i in
     let bad : sent_good (scheme_of args.c).sizes.query (marked args.issued.now i) (counted args.m.sent i) ≡ false =
-    rw c.requires.query_value.0 at (sym c.sent_good.ensures ∙ not-true _ c.if-not-sent_good.true-raw) in
+    rw c.requires.query_value at (sym c.sent_good.ensures ∙ not-true _ c.if-not-sent_good.true-raw) in
     sym (every-false 16 _ i (omega arith) (first-bad _ _ bad))
 
 pub got_good-requires : goal.got_good-requires
 got_good-requires c =    let pre = c.requires in
     let args = c.args in
-    let below = taken-below args.c.servers args.issued.now args.taken.now pre.1.1.1.1 c.loop-i.i (omega arith) in
-    (pre.0, (pre.1.1.0, (pre.1.1.1.0, below)))
+    let below = taken-below args.c.servers args.issued.now args.taken.now c.requires.taken_value c.loop-i.i (omega arith) in
+    record {
+      admitted = c.requires.admitted;
+      wanted_lt_messages = c.requires.wanted_lt_messages;
+      valid = c.requires.valid;
+      server_lt_servers = below;
+    }
 
 pub returns-then-not-got_good : goal.returns-then-not-got_good
 unfolding meters_good
@@ -61,4 +66,4 @@ loop-i-preserved c =    (
 pub returns : goal.returns
 unfolding meters_good
 returns c =    let e : c.loop-i.i ≡ 16 = omega arith in
-    sym (rw (e, c.requires.query_value.0) at c.loop-i.invariant.1)
+    sym (rw (e, c.requires.query_value) at c.loop-i.invariant.1)

@@ -22,7 +22,7 @@ bytes c i h = omega (arith, c.shared_slice_known-1.given i)
 roomy : (c : goal.Else-empty) → c.args.s ≤ length c.args.out.now
 roomy c =
     let a = c.args in
-    room-some a.s a.row.now (length a.out.now) (sym c.all_below-empty.ensures ∙ c.if-empty.false) c.requires.row_stored.1
+    room-some a.s a.row.now (length a.out.now) (sym c.all_below-empty.ensures ∙ c.if-empty.false) c.requires.row_in_bounds
 
 pub returns-then-empty : goal.returns-then-empty
 returns-then-empty c =    let a = c.args in
@@ -40,13 +40,17 @@ slice_bounds-gather-end-2 c =    let a = c.args in
 
 pub gather-requires : goal.gather-requires
 gather-requires c =    let a = c.args in
-    (c.requires.s_nonzero, (c.requires.row_stored.0, length-take-le a.s a.out.now (roomy c.before)))
+    record {
+      s_nonzero = c.requires.s_nonzero;
+      row_stored = c.requires.row_stored;
+      out_len = length-take-le a.s a.out.now (roomy c.before);
+    }
 
 pub returns : goal.returns
 returns c =    let a = c.args in
     let some : all_zero a.row.now ≡ false = sym c.all_below-empty.ensures ∙ c.if-empty.false in record {
       value = sym (length_some a.s a.row.now some);
       out_after = gathered-answer (sum_of a.op) a.stride a.s a.store.now (group_of a.op a.s) (bytes c.before.before.before.before.before.before.before.before)
-          a.first a.row.now (take a.s a.out.now) a.out.now c.requires.row_stored.0 some c.gather.ensures
+          a.first a.row.now (take a.s a.out.now) a.out.now c.requires.row_stored some c.gather.ensures
           (c.gather.auto.1.1.1.1.1.1.0 ∙ length-take-le a.s a.out.now (roomy c.before.before.before.before));
     }

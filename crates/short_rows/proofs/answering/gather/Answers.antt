@@ -18,7 +18,7 @@ small : (c : goal.In-loop-p) → let a = c.args in
 small c =
     let a = c.args in
     let n = a.first + c.loop-p.p * a.stride + get_or a.row.now c.loop-p.p 0 in
-    omega (arith, c.requires.row_stored.0.stored c.loop-p.p (omega arith), le-mul_of_pos_right n c.requires.s_nonzero)
+    omega (arith, c.requires.row_stored.stored c.loop-p.p (omega arith), le-mul_of_pos_right n c.requires.s_nonzero)
 
 pub loop-p-init : goal.loop-p-init
 loop-p-init c =    let a = c.args in
@@ -39,7 +39,7 @@ overflow_cast-row c = omega (arith, c.shared_slice_known-in-loop-p-1.given c.loo
 
 pub gather_digit-begun-requires : goal.gather_digit-begun-requires
 gather_digit-begun-requires c =    record {
-      s_nonzero = (c.requires.s_nonzero, c.requires.row_stored.0.stored c.loop-p.p (omega arith));
+      s_nonzero = (c.requires.s_nonzero, c.requires.row_stored.stored c.loop-p.p (omega arith));
       out_len = omega arith;
     }
 

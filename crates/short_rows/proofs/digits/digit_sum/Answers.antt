@@ -12,7 +12,11 @@ loop-i-init c =    let a = c.args in
     (omega arith, sym (first-sum a.n a.digits.now))
 
 pub next_sum-sum-requires : goal.next_sum-sum-requires
-next_sum-sum-requires c =    (c.requires, (omega arith, c.loop-i.invariant.1))
+next_sum-sum-requires c =    record {
+      digits_value = c.requires;
+      i_in_bounds = omega arith;
+      sum_value = c.loop-i.invariant.1;
+    }
 
 pub overflow_add-i : goal.overflow_add-i
 overflow_add-i c = omega arith

@@ -14,15 +14,15 @@ overflow_cast-digits c = omega (arith, c.shared_slice_known-2-1.given c.args.i)
 pub add_modulo-requires : goal.add_modulo-requires
 add_modulo-requires c =    let a = c.args in
     let s = sums-below a.n a.digits.now c.requires.digits_value a.i (omega arith) in
-    (omega (arith, c.requires.i_in_bounds.1), all_below-below a.n a.digits.now c.requires.digits_value a.i (omega arith))
+    (omega (arith, c.requires.sum_value), all_below-below a.n a.digits.now c.requires.digits_value a.i (omega arith))
 
 pub returns : goal.returns
 returns c =    let a = c.args in
     let l = a.digits.now in
     let s = sums-below a.n l c.requires.digits_value a.i (omega arith) in
     let n = next-sum a.n l c.requires.digits_value a.i (omega arith) in
-    let e = c.add_modulo.ensures ∙ ap (λ (x : ℕ). (x + get_or l a.i 0) % a.n) c.requires.i_in_bounds.1 ∙ sym n in
+    let e = c.add_modulo.ensures ∙ ap (λ (x : ℕ). (x + get_or l a.i 0) % a.n) c.requires.sum_value ∙ sym n in
     record {
       value = e;
-      sum_lt_n = (omega (arith, c.requires.i_in_bounds.1), omega arith);
+      sum_lt_n = (omega (arith, c.requires.sum_value), omega arith);
     }
