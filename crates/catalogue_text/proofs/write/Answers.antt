@@ -8,10 +8,6 @@ use Rattle.catalogue_text.specs.Writing.{write_verdict}
 use Rattle.catalogue_text.proofs.Faults.{wrote-refused, wrote-text}
 use Rattle.catalogue_text.proofs.write.Goals as goal
 
--- once the catalogue is accepted
-admitted : (c : goal.In_default) → Admitted c.args.c
-admitted c = sym c.verdict.ensures ∙ c.in_default.is
-
 pub returns-in-Refused : goal.returns-in-Refused
 unfolding write_verdict
 returns-in-Refused c =    let args = c.args in
@@ -20,13 +16,17 @@ returns-in-Refused c =    let args = c.args in
 
 pub returns-then-out-text_length : goal.returns-then-out-text_length
 unfolding write_verdict
-returns-then-out-text_length c =    let args = c.args in
+returns-then-out-text_length c =    let admitted : Admitted c.args.c =
+        sym c.verdict.ensures ∙ c.in_default.is in
+    let args = c.args in
     let short = lt-ltb _ _ (rw c.text_length.ensures at c.if-out-text_length.true) in
-    wrote-refused args.c args.out.now _ (after-catalogue args.c _ refl Accepted _ (sym (admitted c.before.before)) (rw short))
+    wrote-refused args.c args.out.now _ (after-catalogue args.c _ refl Accepted _ (sym (admitted)) (rw short))
 
 pub returns : goal.returns
 unfolding write_verdict
-returns c =    let args = c.args in
+returns c =    let admitted : Admitted c.args.c =
+        sym c.verdict.ensures ∙ c.in_default.is in
+    let args = c.args in
     let long = le-ltb _ _ (rw c.text_length.ensures at c.if-out-text_length.false) in
     let written = c.put_text.ensures in
-    wrote-text args.c args.out.now _ _ (after-catalogue args.c _ refl Accepted _ (sym (admitted c.before.before.before.before.before.before)) (rw long)) c.put_text.ensures.value c.put_text.ensures.out_after
+    wrote-text args.c args.out.now _ _ (after-catalogue args.c _ refl Accepted _ (sym (admitted)) (rw long)) c.put_text.ensures.value c.put_text.ensures.out_after

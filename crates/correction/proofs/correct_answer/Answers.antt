@@ -7,40 +7,48 @@ use Rattle.correction.proofs.Verdicts.{Corrects, correct-passed, inside_of}
 use Rattle.correction.proofs.Calls.{answer-refused, answer-done, place_inside, answer-made}
 use Rattle.correction.proofs.correct_answer.Goals as goal
 
--- once the verdict is accepted
-passed : (c : goal.In_default) →
-    let a = c.args in
-    Corrects a.c a.server (length a.store.now) a.query.now a.edit (length a.answer.now)
-passed c =
-    let a = c.args in
-    correct-passed a.c a.server (length a.store.now) a.query.now a.edit (length a.answer.now)
-    (sym c.verdict-told.ensures ∙ c.in_default.is)
-
-known : (c : goal.In_default) → let a = c.args in EditIn a.c a.edit
-known c = let a = c.args in inside_of a.c a.edit (passed c).inside
-
 pub returns-in-Refused : goal.returns-in-Refused
 returns-in-Refused c =    let a = c.args in
     let asked = c.verdict-told in 
-    let told = c.told-1.given in
-    answer-refused a.c a.server a.store.now a.query.now a.edit a.answer.now c.verdict-told.result c.verdict-told.ensures told.0.0 told.1
+    answer-refused a.c a.server a.store.now a.query.now a.edit a.answer.now c.verdict-told.result c.verdict-told.ensures c.in-Refused.refusal c.in-Refused.is
 
 pub place_of-requires : goal.place_of-requires
-place_of-requires c = record {
-      admitted = (passed c).admitted;
-      edit_in = known c;
+place_of-requires c =    let passed : let a = c.args in
+    Corrects a.c a.server (length a.store.now) a.query.now a.edit (length a.answer.now) =
+        let a = c.args in
+        correct-passed a.c a.server (length a.store.now) a.query.now a.edit (length a.answer.now)
+        (sym c.verdict-told.ensures ∙ c.in_default.is) in
+    let known : let a = c.args in EditIn a.c a.edit =
+        let a = c.args in inside_of a.c a.edit (passed).inside in
+    record {
+      admitted = (passed).admitted;
+      edit_in = known;
     }
 
 pub bounds-store-place_of : goal.bounds-store-place_of
-bounds-store-place_of c =    let a = c.args in
-    omega (arith, c.place_of.ensures, place_inside a.c a.edit (passed c.before.before).admitted (known c.before.before), (passed c.before.before).store_long)
+bounds-store-place_of c =    let passed : let a = c.args in
+    Corrects a.c a.server (length a.store.now) a.query.now a.edit (length a.answer.now) =
+        let a = c.args in
+        correct-passed a.c a.server (length a.store.now) a.query.now a.edit (length a.answer.now)
+        (sym c.verdict-told.ensures ∙ c.in_default.is) in
+    let known : let a = c.args in EditIn a.c a.edit =
+        let a = c.args in inside_of a.c a.edit (passed).inside in
+    let a = c.args in
+    omega (arith, c.place_of.ensures, place_inside a.c a.edit (passed).admitted (known), (passed).store_long)
 
 pub update-requires : goal.update-requires
-update-requires c =    let p = passed c.before.before.before in
+update-requires c =    let passed : let a = c.args in
+    Corrects a.c a.server (length a.store.now) a.query.now a.edit (length a.answer.now) =
+        let a = c.args in
+        correct-passed a.c a.server (length a.store.now) a.query.now a.edit (length a.answer.now)
+        (sym c.verdict-told.ensures ∙ c.in_default.is) in
+    let known : let a = c.args in EditIn a.c a.edit =
+        let a = c.args in inside_of a.c a.edit (passed).inside in
+    let p = passed in
     record {
       admitted = p.admitted;
       query_value = p.admits;
-      edit_in = known c.before.before.before;
+      edit_in = known;
       answer_len = p.saved-long;
     }
 

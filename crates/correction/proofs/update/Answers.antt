@@ -14,21 +14,6 @@ use Rattle.scheme.proofs.Places.{place-within}
 use Rattle.correction.proofs.Calls.{part_moved}
 use Rattle.correction.proofs.update.Goals as goal
 
--- the row is found
-found : (c : goal.In-At-2) → let a = c.args in
-    place_naming a.c.symbol a.edit.message a.edit.symbol (rows_of a.c a.query.now) ≡ At c.in-At.at
-found c = sym c.locate.ensures ∙ c.in-At.is
-
-inside : (c : goal.In-At-2) → let a = c.args in c.in-At.at + a.c.symbol ≤ length a.answer.now
-inside c =
-    let a = c.args in
-    omega (
-      arith,
-      place-within a.c.symbol a.edit.message a.edit.symbol (rows_of a.c a.query.now) c.in-At.at (found c),
-      (asks_of a.c c.requires.admitted).lengths a.query.now,
-      c.requires.answer_len,
-    )
-
 pub locate-requires : goal.locate-requires
 locate-requires c =    record {
       admitted = c.requires.admitted;
@@ -44,15 +29,48 @@ returns-in_default c =    let a = c.args in
     (sym c.locate.ensures ∙ c.in_default.is))
 
 pub overflow_add-end : goal.overflow_add-end
-overflow_add-end c = omega (arith, inside c.before.before)
+overflow_add-end c =    let found : let a = c.args in
+    place_naming a.c.symbol a.edit.message a.edit.symbol (rows_of a.c a.query.now) ≡ At c.in-At.at =
+        sym c.locate.ensures ∙ c.in-At.is in
+    let inside : let a = c.args in c.in-At.at + a.c.symbol ≤ length a.answer.now =
+        let a = c.args in
+        omega (
+          arith,
+          place-within a.c.symbol a.edit.message a.edit.symbol (rows_of a.c a.query.now) c.in-At.at (found),
+          (asks_of a.c c.requires.admitted).lengths a.query.now,
+          c.requires.answer_len,
+        ) in
+    omega (arith, inside)
 
 pub slice_bounds-move_symbol-end : goal.slice_bounds-move_symbol-end
-slice_bounds-move_symbol-end c = omega (arith, inside c.before.before)
+slice_bounds-move_symbol-end c =    let found : let a = c.args in
+    place_naming a.c.symbol a.edit.message a.edit.symbol (rows_of a.c a.query.now) ≡ At c.in-At.at =
+        sym c.locate.ensures ∙ c.in-At.is in
+    let inside : let a = c.args in c.in-At.at + a.c.symbol ≤ length a.answer.now =
+        let a = c.args in
+        omega (
+          arith,
+          place-within a.c.symbol a.edit.message a.edit.symbol (rows_of a.c a.query.now) c.in-At.at (found),
+          (asks_of a.c c.requires.admitted).lengths a.query.now,
+          c.requires.answer_len,
+        ) in
+    omega (arith, inside)
 
 pub returns : goal.returns
-returns c =    let a = c.args in
+returns c =    let found : let a = c.args in
+    place_naming a.c.symbol a.edit.message a.edit.symbol (rows_of a.c a.query.now) ≡ At c.in-At.at =
+        sym c.locate.ensures ∙ c.in-At.is in
+    let inside : let a = c.args in c.in-At.at + a.c.symbol ≤ length a.answer.now =
+        let a = c.args in
+        omega (
+          arith,
+          place-within a.c.symbol a.edit.message a.edit.symbol (rows_of a.c a.query.now) c.in-At.at (found),
+          (asks_of a.c c.requires.admitted).lengths a.query.now,
+          c.requires.answer_len,
+        ) in
+    let a = c.args in
     let at = c.in-At.at in
     let shift = shift_of (sum_of a.c.sum) a.c.symbol a.edit.byte a.edit.value a.old in
-    part_moved a.c.sum a.c.symbol at a.edit.byte a.edit.value a.old a.answer.now _ (inside c.before.before.before.before.before.before)
+    part_moved a.c.sum a.c.symbol at a.edit.byte a.edit.value a.old a.answer.now _ (inside)
     c.move_symbol.ensures
-    ∙ ap (λ (place : Place). moved (sum_of a.c.sum) a.c.symbol place shift a.answer.now) (sym (found c.before.before.before.before.before.before))
+    ∙ ap (λ (place : Place). moved (sum_of a.c.sum) a.c.symbol place shift a.answer.now) (sym (found))

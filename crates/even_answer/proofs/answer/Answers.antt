@@ -27,16 +27,6 @@ use Rattle.even_layout.proofs.RowRuns.{rows_all_lem, rows_none, numbers-all}
 use Rattle.even_answer.proofs.Turns.{SetTurn, set-turn}
 use Rattle.even_answer.proofs.answer.Goals as goal
 
--- the turn of the set at hand
-turn-of : (c : goal.After-rows_of-rows)
-    → let args = c.args in
-    SetTurn (sum_of args.op) args.n args.k args.s args.store.now args.query.now args.out.now
-    c.loop-i.i c.loop-i.at c.loop-i.end (get_or c.ordered_sets-sets.result c.loop-i.i 0) c.rows_of-rows.result c.loop-i.out
-turn-of c =
-    let inside : c.loop-i.i < length (all_sets c.args.k) = omega (arith, c.power-count.ensures, all-length c.args.k) in
-    set-turn c.loop-i.i c.loop-i.at (group_of c.args.op c.args.s).plus-length c.requires
-    c.ordered_sets-sets.ensures inside c.rows_of-rows.ensures c.loop-i.invariant.1 c.loop-i.invariant.2
-
 pub power-symbols-requires : goal.power-symbols-requires
 power-symbols-requires c =    omega (arith, (even-bounds c.args.n c.args.k c.args.s c.requires.fits).symbols-high)
 
@@ -82,45 +72,117 @@ rows_of-rows-requires c =    let n = c.args.n in
     (omega (arith, bounds.servers-low), b.some, omega (arith, b.rows, b.high))
 
 pub slice_bounds-answer_set-count : goal.slice_bounds-answer_set-count
-slice_bounds-answer_set-count c = let turn = turn-of c in omega (arith, turn.read, turn.written)
+slice_bounds-answer_set-count c =    let turn-of : let args = c.args in
+    SetTurn (sum_of args.op) args.n args.k args.s args.store.now args.query.now args.out.now
+    c.loop-i.i c.loop-i.at c.loop-i.end (get_or c.ordered_sets-sets.result c.loop-i.i 0) c.rows_of-rows.result c.loop-i.out =
+        let inside : c.loop-i.i < length (all_sets c.args.k) = omega (arith, c.power-count.ensures, all-length c.args.k) in
+        set-turn c.loop-i.i c.loop-i.at (group_of c.args.op c.args.s).plus-length c.requires
+        c.ordered_sets-sets.ensures inside c.rows_of-rows.ensures c.loop-i.invariant.1 c.loop-i.invariant.2 in
+    let turn = turn-of in omega (arith, turn.read, turn.written)
 
 pub slice_bounds-answer_set-start : goal.slice_bounds-answer_set-start
-slice_bounds-answer_set-start c = let turn = turn-of c in omega (arith, turn.read, turn.written)
+slice_bounds-answer_set-start c =    let turn-of : let args = c.args in
+    SetTurn (sum_of args.op) args.n args.k args.s args.store.now args.query.now args.out.now
+    c.loop-i.i c.loop-i.at c.loop-i.end (get_or c.ordered_sets-sets.result c.loop-i.i 0) c.rows_of-rows.result c.loop-i.out =
+        let inside : c.loop-i.i < length (all_sets c.args.k) = omega (arith, c.power-count.ensures, all-length c.args.k) in
+        set-turn c.loop-i.i c.loop-i.at (group_of c.args.op c.args.s).plus-length c.requires
+        c.ordered_sets-sets.ensures inside c.rows_of-rows.ensures c.loop-i.invariant.1 c.loop-i.invariant.2 in
+    let turn = turn-of in omega (arith, turn.read, turn.written)
 
 pub slice_bounds-answer_set-end : goal.slice_bounds-answer_set-end
-slice_bounds-answer_set-end c = let turn = turn-of c in omega (arith, turn.read, turn.written)
+slice_bounds-answer_set-end c =    let turn-of : let args = c.args in
+    SetTurn (sum_of args.op) args.n args.k args.s args.store.now args.query.now args.out.now
+    c.loop-i.i c.loop-i.at c.loop-i.end (get_or c.ordered_sets-sets.result c.loop-i.i 0) c.rows_of-rows.result c.loop-i.out =
+        let inside : c.loop-i.i < length (all_sets c.args.k) = omega (arith, c.power-count.ensures, all-length c.args.k) in
+        set-turn c.loop-i.i c.loop-i.at (group_of c.args.op c.args.s).plus-length c.requires
+        c.ordered_sets-sets.ensures inside c.rows_of-rows.ensures c.loop-i.invariant.1 c.loop-i.invariant.2 in
+    let turn = turn-of in omega (arith, turn.read, turn.written)
 
 pub slice_bounds-answer_set-count-in-loop-i : goal.slice_bounds-answer_set-count-in-loop-i
-slice_bounds-answer_set-count-in-loop-i c = let turn = turn-of c.before in omega (arith, turn.read, turn.written)
+slice_bounds-answer_set-count-in-loop-i c =    let turn-of : let args = c.args in
+    SetTurn (sum_of args.op) args.n args.k args.s args.store.now args.query.now args.out.now
+    c.loop-i.i c.loop-i.at c.loop-i.end (get_or c.ordered_sets-sets.result c.loop-i.i 0) c.rows_of-rows.result c.loop-i.out =
+        let inside : c.loop-i.i < length (all_sets c.args.k) = omega (arith, c.power-count.ensures, all-length c.args.k) in
+        set-turn c.loop-i.i c.loop-i.at (group_of c.args.op c.args.s).plus-length c.requires
+        c.ordered_sets-sets.ensures inside c.rows_of-rows.ensures c.loop-i.invariant.1 c.loop-i.invariant.2 in
+    let turn = turn-of in omega (arith, turn.read, turn.written)
 
 pub slice_bounds-answer_set-start-in-loop-i : goal.slice_bounds-answer_set-start-in-loop-i
-slice_bounds-answer_set-start-in-loop-i c = let turn = turn-of c.before in omega (arith, turn.read, turn.written)
+slice_bounds-answer_set-start-in-loop-i c =    let turn-of : let args = c.args in
+    SetTurn (sum_of args.op) args.n args.k args.s args.store.now args.query.now args.out.now
+    c.loop-i.i c.loop-i.at c.loop-i.end (get_or c.ordered_sets-sets.result c.loop-i.i 0) c.rows_of-rows.result c.loop-i.out =
+        let inside : c.loop-i.i < length (all_sets c.args.k) = omega (arith, c.power-count.ensures, all-length c.args.k) in
+        set-turn c.loop-i.i c.loop-i.at (group_of c.args.op c.args.s).plus-length c.requires
+        c.ordered_sets-sets.ensures inside c.rows_of-rows.ensures c.loop-i.invariant.1 c.loop-i.invariant.2 in
+    let turn = turn-of in omega (arith, turn.read, turn.written)
 
 pub slice_bounds-answer_set-end-in-loop-i : goal.slice_bounds-answer_set-end-in-loop-i
-slice_bounds-answer_set-end-in-loop-i c = let turn = turn-of c.before in omega (arith, turn.read, turn.written)
+slice_bounds-answer_set-end-in-loop-i c =    let turn-of : let args = c.args in
+    SetTurn (sum_of args.op) args.n args.k args.s args.store.now args.query.now args.out.now
+    c.loop-i.i c.loop-i.at c.loop-i.end (get_or c.ordered_sets-sets.result c.loop-i.i 0) c.rows_of-rows.result c.loop-i.out =
+        let inside : c.loop-i.i < length (all_sets c.args.k) = omega (arith, c.power-count.ensures, all-length c.args.k) in
+        set-turn c.loop-i.i c.loop-i.at (group_of c.args.op c.args.s).plus-length c.requires
+        c.ordered_sets-sets.ensures inside c.rows_of-rows.ensures c.loop-i.invariant.1 c.loop-i.invariant.2 in
+    let turn = turn-of in omega (arith, turn.read, turn.written)
 
 pub answer_set-requires : goal.answer_set-requires
-answer_set-requires c =    let turn = turn-of c.before.before in (
+answer_set-requires c =    let turn-of : let args = c.args in
+    SetTurn (sum_of args.op) args.n args.k args.s args.store.now args.query.now args.out.now
+    c.loop-i.i c.loop-i.at c.loop-i.end (get_or c.ordered_sets-sets.result c.loop-i.i 0) c.rows_of-rows.result c.loop-i.out =
+        let inside : c.loop-i.i < length (all_sets c.args.k) = omega (arith, c.power-count.ensures, all-length c.args.k) in
+        set-turn c.loop-i.i c.loop-i.at (group_of c.args.op c.args.s).plus-length c.requires
+        c.ordered_sets-sets.ensures inside c.rows_of-rows.ensures c.loop-i.invariant.1 c.loop-i.invariant.2 in
+    let turn = turn-of in (
       rw (to_end c.args.query.now c.loop-i.at) turn.given,
       rw (to_end c.loop-i.out c.loop-i.end) (omega (arith, length-drop c.loop-i.end c.loop-i.out, turn.written)),
       c.power-symbols.ensures,
     )
 
 pub overflow_cast-at : goal.overflow_cast-at
-overflow_cast-at c =    let turn = turn-of c.before.before.before.before.before in
+overflow_cast-at c =    let turn-of : let args = c.args in
+    SetTurn (sum_of args.op) args.n args.k args.s args.store.now args.query.now args.out.now
+    c.loop-i.i c.loop-i.at c.loop-i.end (get_or c.ordered_sets-sets.result c.loop-i.i 0) c.rows_of-rows.result c.loop-i.out =
+        let inside : c.loop-i.i < length (all_sets c.args.k) = omega (arith, c.power-count.ensures, all-length c.args.k) in
+        set-turn c.loop-i.i c.loop-i.at (group_of c.args.op c.args.s).plus-length c.requires
+        c.ordered_sets-sets.ensures inside c.rows_of-rows.ensures c.loop-i.invariant.1 c.loop-i.invariant.2 in
+    let turn = turn-of in
     omega (arith, ones-le 8 (get_or c.ordered_sets-sets.result c.loop-i.i 0) turn.small)
 
 pub overflow_mul-at : goal.overflow_mul-at
-overflow_mul-at c = let turn = turn-of c.before.before.before.before.before in omega (arith, turn.read, turn.written)
+overflow_mul-at c =    let turn-of : let args = c.args in
+    SetTurn (sum_of args.op) args.n args.k args.s args.store.now args.query.now args.out.now
+    c.loop-i.i c.loop-i.at c.loop-i.end (get_or c.ordered_sets-sets.result c.loop-i.i 0) c.rows_of-rows.result c.loop-i.out =
+        let inside : c.loop-i.i < length (all_sets c.args.k) = omega (arith, c.power-count.ensures, all-length c.args.k) in
+        set-turn c.loop-i.i c.loop-i.at (group_of c.args.op c.args.s).plus-length c.requires
+        c.ordered_sets-sets.ensures inside c.rows_of-rows.ensures c.loop-i.invariant.1 c.loop-i.invariant.2 in
+    let turn = turn-of in omega (arith, turn.read, turn.written)
 
 pub overflow_add-at : goal.overflow_add-at
-overflow_add-at c = let turn = turn-of c.before.before.before.before.before in omega (arith, turn.read, turn.written)
+overflow_add-at c =    let turn-of : let args = c.args in
+    SetTurn (sum_of args.op) args.n args.k args.s args.store.now args.query.now args.out.now
+    c.loop-i.i c.loop-i.at c.loop-i.end (get_or c.ordered_sets-sets.result c.loop-i.i 0) c.rows_of-rows.result c.loop-i.out =
+        let inside : c.loop-i.i < length (all_sets c.args.k) = omega (arith, c.power-count.ensures, all-length c.args.k) in
+        set-turn c.loop-i.i c.loop-i.at (group_of c.args.op c.args.s).plus-length c.requires
+        c.ordered_sets-sets.ensures inside c.rows_of-rows.ensures c.loop-i.invariant.1 c.loop-i.invariant.2 in
+    let turn = turn-of in omega (arith, turn.read, turn.written)
 
 pub overflow_mul-end : goal.overflow_mul-end
-overflow_mul-end c = let turn = turn-of c.before.before.before.before.before in omega (arith, turn.read, turn.written)
+overflow_mul-end c =    let turn-of : let args = c.args in
+    SetTurn (sum_of args.op) args.n args.k args.s args.store.now args.query.now args.out.now
+    c.loop-i.i c.loop-i.at c.loop-i.end (get_or c.ordered_sets-sets.result c.loop-i.i 0) c.rows_of-rows.result c.loop-i.out =
+        let inside : c.loop-i.i < length (all_sets c.args.k) = omega (arith, c.power-count.ensures, all-length c.args.k) in
+        set-turn c.loop-i.i c.loop-i.at (group_of c.args.op c.args.s).plus-length c.requires
+        c.ordered_sets-sets.ensures inside c.rows_of-rows.ensures c.loop-i.invariant.1 c.loop-i.invariant.2 in
+    let turn = turn-of in omega (arith, turn.read, turn.written)
 
 pub overflow_add-end : goal.overflow_add-end
-overflow_add-end c = let turn = turn-of c.before.before.before.before.before in omega (arith, turn.read, turn.written)
+overflow_add-end c =    let turn-of : let args = c.args in
+    SetTurn (sum_of args.op) args.n args.k args.s args.store.now args.query.now args.out.now
+    c.loop-i.i c.loop-i.at c.loop-i.end (get_or c.ordered_sets-sets.result c.loop-i.i 0) c.rows_of-rows.result c.loop-i.out =
+        let inside : c.loop-i.i < length (all_sets c.args.k) = omega (arith, c.power-count.ensures, all-length c.args.k) in
+        set-turn c.loop-i.i c.loop-i.at (group_of c.args.op c.args.s).plus-length c.requires
+        c.ordered_sets-sets.ensures inside c.rows_of-rows.ensures c.loop-i.invariant.1 c.loop-i.invariant.2 in
+    let turn = turn-of in omega (arith, turn.read, turn.written)
 
 pub overflow_add-i : goal.overflow_add-i
 overflow_add-i c = omega arith
@@ -129,7 +191,13 @@ pub loop-i-smaller : goal.loop-i-smaller
 loop-i-smaller c = omega arith
 
 pub loop-i-preserved : goal.loop-i-preserved
-loop-i-preserved c =    let turn = turn-of c.before.before.before.before.before in
+loop-i-preserved c =    let turn-of : let args = c.args in
+    SetTurn (sum_of args.op) args.n args.k args.s args.store.now args.query.now args.out.now
+    c.loop-i.i c.loop-i.at c.loop-i.end (get_or c.ordered_sets-sets.result c.loop-i.i 0) c.rows_of-rows.result c.loop-i.out =
+        let inside : c.loop-i.i < length (all_sets c.args.k) = omega (arith, c.power-count.ensures, all-length c.args.k) in
+        set-turn c.loop-i.i c.loop-i.at (group_of c.args.op c.args.s).plus-length c.requires
+        c.ordered_sets-sets.ensures inside c.rows_of-rows.ensures c.loop-i.invariant.1 c.loop-i.invariant.2 in
+    let turn = turn-of in
     let end = c.loop-i.end in
     let out = c.loop-i.out in
     let numbers = drop c.loop-i.at c.args.query.now in

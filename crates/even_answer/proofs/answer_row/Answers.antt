@@ -24,20 +24,6 @@ use Rattle.even_answer.proofs.RowLaws.{row_more, symbol-place, symbol-is, added-
 use Rattle.even_answer.proofs.Turns.{SymbolTurn, symbol-turn}
 use Rattle.even_answer.proofs.answer_row.Goals as goal
 
--- the turn of a message that is in the set: its number is the next one, and names a symbol in the store
-turn-of : (c : goal.Then-rest-eq1) → let a = c.args in
-    SymbolTurn a.n a.k a.s a.store.now a.set a.numbers.now a.symbols c.loop-p.p c.loop-p.taken c.loop-p.rest
-turn-of c =
-    let pre = c.requires in
-    symbol-turn c.loop-p.p c.loop-p.taken c.loop-p.rest pre.0 pre.2 (omega arith) c.if-rest-eq1.true c.loop-p.invariant.2
-
--- the numbers of the messages before it are few
-few-before : (c : goal.Then-rest-eq1) → c.loop-p.p * c.args.symbols ≤ 8 * 256
-few-before c =
-    let bounds = even-bounds c.args.n c.args.k c.args.s c.requires.0.fits in
-    mul-le-mul (let w : c.loop-p.p ≤ 8 = omega (arith, bounds.messages-high) in w)
-    (let w : c.args.symbols ≤ 256 = omega (arith, c.requires.2, bounds.symbols-high) in w)
-
 pub loop-p-init : goal.loop-p-init
 unfolding row_answer
 loop-p-init c =    let k = c.args.k in
@@ -49,26 +35,54 @@ loop-p-init c =    let k = c.args.k in
     )
 
 pub bounds-numbers-taken : goal.bounds-numbers-taken
-bounds-numbers-taken c = (turn-of c.before).inside
+bounds-numbers-taken c =    let turn-of : let a = c.args in
+    SymbolTurn a.n a.k a.s a.store.now a.set a.numbers.now a.symbols c.loop-p.p c.loop-p.taken c.loop-p.rest =
+        let pre = c.requires in
+        symbol-turn c.loop-p.p c.loop-p.taken c.loop-p.rest pre.0 pre.2 (omega arith) c.if-rest-eq1.true c.loop-p.invariant.2 in
+    (turn-of).inside
 
 pub overflow_cast-number : goal.overflow_cast-number
 overflow_cast-number c = omega (arith, c.shared_slice_known-then-rest-eq1-1.given c.loop-p.taken)
 
 pub overflow_mul-p : goal.overflow_mul-p
-overflow_mul-p c = omega (arith, few-before c.before)
+overflow_mul-p c =    let few-before : c.loop-p.p * c.args.symbols ≤ 8 * 256 =
+        let bounds = even-bounds c.args.n c.args.k c.args.s c.requires.0.fits in
+        mul-le-mul (let w : c.loop-p.p ≤ 8 = omega (arith, bounds.messages-high) in w)
+        (let w : c.args.symbols ≤ 256 = omega (arith, c.requires.2, bounds.symbols-high) in w) in
+    omega (arith, few-before)
 
 pub overflow_add-p : goal.overflow_add-p
-overflow_add-p c =    let bounds = even-bounds c.args.n c.args.k c.args.s c.requires.0.fits in
-    omega (arith, few-before c.before, (turn-of c.before).number, bounds.symbols-high)
+overflow_add-p c =    let turn-of : let a = c.args in
+    SymbolTurn a.n a.k a.s a.store.now a.set a.numbers.now a.symbols c.loop-p.p c.loop-p.taken c.loop-p.rest =
+        let pre = c.requires in
+        symbol-turn c.loop-p.p c.loop-p.taken c.loop-p.rest pre.0 pre.2 (omega arith) c.if-rest-eq1.true c.loop-p.invariant.2 in
+    let few-before : c.loop-p.p * c.args.symbols ≤ 8 * 256 =
+        let bounds = even-bounds c.args.n c.args.k c.args.s c.requires.0.fits in
+        mul-le-mul (let w : c.loop-p.p ≤ 8 = omega (arith, bounds.messages-high) in w)
+        (let w : c.args.symbols ≤ 256 = omega (arith, c.requires.2, bounds.symbols-high) in w) in
+    let bounds = even-bounds c.args.n c.args.k c.args.s c.requires.0.fits in
+    omega (arith, few-before, (turn-of).number, bounds.symbols-high)
 
 pub overflow_mul-p-then-rest-eq1 : goal.overflow_mul-p-then-rest-eq1
-overflow_mul-p-then-rest-eq1 c = omega (arith, (turn-of c.before).room)
+overflow_mul-p-then-rest-eq1 c =    let turn-of : let a = c.args in
+    SymbolTurn a.n a.k a.s a.store.now a.set a.numbers.now a.symbols c.loop-p.p c.loop-p.taken c.loop-p.rest =
+        let pre = c.requires in
+        symbol-turn c.loop-p.p c.loop-p.taken c.loop-p.rest pre.0 pre.2 (omega arith) c.if-rest-eq1.true c.loop-p.invariant.2 in
+    omega (arith, (turn-of).room)
 
 pub add_symbol-requires : goal.add_symbol-requires
-add_symbol-requires c = omega (arith, (turn-of c.before.before).room, c.loop-p.invariant.1)
+add_symbol-requires c =    let turn-of : let a = c.args in
+    SymbolTurn a.n a.k a.s a.store.now a.set a.numbers.now a.symbols c.loop-p.p c.loop-p.taken c.loop-p.rest =
+        let pre = c.requires in
+        symbol-turn c.loop-p.p c.loop-p.taken c.loop-p.rest pre.0 pre.2 (omega arith) c.if-rest-eq1.true c.loop-p.invariant.2 in
+    omega (arith, (turn-of).room, c.loop-p.invariant.1)
 
 pub overflow_add-taken : goal.overflow_add-taken
-overflow_add-taken c = omega (arith, (turn-of c.before.before.before.before.before).inside)
+overflow_add-taken c =    let turn-of : let a = c.args in
+    SymbolTurn a.n a.k a.s a.store.now a.set a.numbers.now a.symbols c.loop-p.p c.loop-p.taken c.loop-p.rest =
+        let pre = c.requires in
+        symbol-turn c.loop-p.p c.loop-p.taken c.loop-p.rest pre.0 pre.2 (omega arith) c.if-rest-eq1.true c.loop-p.invariant.2 in
+    omega (arith, (turn-of).inside)
 
 pub overflow_add-p-in-loop-p : goal.overflow_add-p-in-loop-p
 overflow_add-p-in-loop-p c = omega arith

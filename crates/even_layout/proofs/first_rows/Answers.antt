@@ -11,19 +11,6 @@ use Rattle.even_sets.proofs.SetBytes.{SetByte, byte_at}
 use Rattle.even_layout.proofs.Firsts.{filled, filled_more, filled-firsts}
 use Rattle.even_layout.proofs.first_rows.Goals as goal
 
--- a turn is of one of the sets, and its byte is that set's
-inside : (c : goal.In-loop-i) → c.loop-i.i < length (all_sets c.args.k)
-inside c = omega (arith, c.power-count.ensures, all-length c.args.k)
-
-set_here : (c : goal.In-loop-i)
-    → let a = c.args in
-    let i = c.loop-i.i in
-    SetByte a.n a.k (get_or c.ordered_sets-sets.result i 0) (get_or (all_sets a.k) i [])
-set_here c =
-    let k = c.args.k in
-    let sets = c.ordered_sets-sets in 
-    byte_at c.args.n k c.loop-i.i c.ordered_sets-sets.result _ c.requires c.ordered_sets-sets.ensures (inside c)
-
 pub ordered_sets-sets-requires : goal.ordered_sets-sets-requires
 ordered_sets-sets-requires c = c.requires.messages-high
 
@@ -41,20 +28,60 @@ bounds-sets-i c =    let k = c.args.k in
     omega (arith, c.power-count.ensures, subsets-few k c.requires.messages-high)
 
 pub overflow_cast-firsts : goal.overflow_cast-firsts
-overflow_cast-firsts c = omega (arith, (set_here c).small)
+overflow_cast-firsts c =    let inside : c.loop-i.i < length (all_sets c.args.k) =
+        omega (arith, c.power-count.ensures, all-length c.args.k) in
+    let set_here : let a = c.args in
+    let i = c.loop-i.i in
+    SetByte a.n a.k (get_or c.ordered_sets-sets.result i 0) (get_or (all_sets a.k) i []) =
+        let k = c.args.k in
+        let sets = c.ordered_sets-sets in 
+        byte_at c.args.n k c.loop-i.i c.ordered_sets-sets.result _ c.requires c.ordered_sets-sets.ensures (inside) in
+    omega (arith, (set_here).small)
 
 pub offset_bounds-firsts-set : goal.offset_bounds-firsts-set
-offset_bounds-firsts-set c = omega (arith, (set_here c).small)
+offset_bounds-firsts-set c =    let inside : c.loop-i.i < length (all_sets c.args.k) =
+        omega (arith, c.power-count.ensures, all-length c.args.k) in
+    let set_here : let a = c.args in
+    let i = c.loop-i.i in
+    SetByte a.n a.k (get_or c.ordered_sets-sets.result i 0) (get_or (all_sets a.k) i []) =
+        let k = c.args.k in
+        let sets = c.ordered_sets-sets in 
+        byte_at c.args.n k c.loop-i.i c.ordered_sets-sets.result _ c.requires c.ordered_sets-sets.ensures (inside) in
+    omega (arith, (set_here).small)
 
 pub bounds-firsts-set : goal.bounds-firsts-set
-bounds-firsts-set c = omega (arith, (set_here c).small)
+bounds-firsts-set c =    let inside : c.loop-i.i < length (all_sets c.args.k) =
+        omega (arith, c.power-count.ensures, all-length c.args.k) in
+    let set_here : let a = c.args in
+    let i = c.loop-i.i in
+    SetByte a.n a.k (get_or c.ordered_sets-sets.result i 0) (get_or (all_sets a.k) i []) =
+        let k = c.args.k in
+        let sets = c.ordered_sets-sets in 
+        byte_at c.args.n k c.loop-i.i c.ordered_sets-sets.result _ c.requires c.ordered_sets-sets.ensures (inside) in
+    omega (arith, (set_here).small)
 
 pub rows_of-row-requires : goal.rows_of-row-requires
-rows_of-row-requires c =    let s = set_here c in
+rows_of-row-requires c =    let inside : c.loop-i.i < length (all_sets c.args.k) =
+        omega (arith, c.power-count.ensures, all-length c.args.k) in
+    let set_here : let a = c.args in
+    let i = c.loop-i.i in
+    SetByte a.n a.k (get_or c.ordered_sets-sets.result i 0) (get_or (all_sets a.k) i []) =
+        let k = c.args.k in
+        let sets = c.ordered_sets-sets in 
+        byte_at c.args.n k c.loop-i.i c.ordered_sets-sets.result _ c.requires c.ordered_sets-sets.ensures (inside) in
+    let s = set_here in
     (omega (arith, c.requires.servers-low), s.some, omega (arith, s.rows, s.high))
 
 pub overflow_add-row : goal.overflow_add-row
-overflow_add-row c =    let s = set_here c.before in
+overflow_add-row c =    let inside : c.loop-i.i < length (all_sets c.args.k) =
+        omega (arith, c.power-count.ensures, all-length c.args.k) in
+    let set_here : let a = c.args in
+    let i = c.loop-i.i in
+    SetByte a.n a.k (get_or c.ordered_sets-sets.result i 0) (get_or (all_sets a.k) i []) =
+        let k = c.args.k in
+        let sets = c.ordered_sets-sets in 
+        byte_at c.args.n k c.loop-i.i c.ordered_sets-sets.result _ c.requires c.ordered_sets-sets.ensures (inside) in
+    let s = set_here in
     omega (arith, c.rows_of-row.ensures, s.rows, s.high, subsets-few c.args.k c.requires.messages-high, c.power-count.ensures)
 
 pub overflow_add-i : goal.overflow_add-i
@@ -64,14 +91,22 @@ pub loop-i-smaller : goal.loop-i-smaller
 loop-i-smaller c = omega arith
 
 pub loop-i-preserved : goal.loop-i-preserved
-loop-i-preserved c =    let a = c.args in
+loop-i-preserved c =    let inside : c.loop-i.i < length (all_sets c.args.k) =
+        omega (arith, c.power-count.ensures, all-length c.args.k) in
+    let set_here : let a = c.args in
     let i = c.loop-i.i in
-    let s = set_here c.before in
+    SetByte a.n a.k (get_or c.ordered_sets-sets.result i 0) (get_or (all_sets a.k) i []) =
+        let k = c.args.k in
+        let sets = c.ordered_sets-sets in 
+        byte_at c.args.n k c.loop-i.i c.ordered_sets-sets.result _ c.requires c.ordered_sets-sets.ensures (inside) in
+    let a = c.args in
+    let i = c.loop-i.i in
+    let s = set_here in
     let rows : c.rows_of-row.result ≡ rows_of a.n (get_or (all_sets a.k) i []) = c.rows_of-row.ensures ∙ s.rows in (
       omega arith,
       simp length-set c.loop-i.invariant.1,
       omega (arith, s.high),
-      rw (s.byte, rows) (sym (filled_more a.n a.k c.loop-i.row i c.loop-i.firsts (inside c.before)) ∙ c.loop-i.invariant.3),
+      rw (s.byte, rows) (sym (filled_more a.n a.k c.loop-i.row i c.loop-i.firsts (inside)) ∙ c.loop-i.invariant.3),
     )
 
 pub returns : goal.returns

@@ -27,50 +27,22 @@ use Rattle.scheme.proofs.Places.{or_later, place-within, later-zero, later-twice
 use Rattle.even_locate.proofs.Scan.{Turn, set-turn, set-decides}
 use Rattle.even_locate.proofs.locate.Goals as goal
 
--- the turn of the set at hand
-turn-of : (c : goal.After-rows_of-rows)
-    → let a = c.args in
-    Turn a.n a.k a.s a.query.now c.loop-i.i c.loop-i.at c.loop-i.end (get_or c.ordered_sets-sets.result c.loop-i.i 0)
-    c.rows_of-rows.result
-turn-of c =
-    let a = c.args in
-    let inside : c.loop-i.i < length (all_sets a.k) = omega (arith, c.power-count.ensures, all-length a.k) in
-    set-turn a.n a.k a.s a.query.now c.ordered_sets-sets.result c.loop-i.i c.loop-i.at c.loop-i.end c.rows_of-rows.result
-    (layout-fits a.n a.k a.s c.requires.s_value) c.ordered_sets-sets.ensures inside c.rows_of-rows.ensures
-    c.loop-i.invariant.1 c.loop-i.invariant.2
-
--- an answer is not long
-slot_small : (c : goal.Start) → let a = c.args in length (layout a.n a.k) * a.s < 2 ^ 32
-unfolding even_sizes
-slot_small c =
-    let a = c.args in
-    let b = even-bounds a.n a.k a.s c.requires.s_value in
-    omega (arith, (even-small a.n a.k a.s b).slot, ap (λ (m : ℕ). m * a.s) (layout-length a.n a.k b.servers-low b.messages-low))
-
--- what the set's rows tell
-seen : (c : goal.After-set_place)
-    → let a = c.args in
-    place_naming a.s a.message a.symbol
-    (set_rows (replicate c.rows_of-rows.result (set_in a.k (get_or c.ordered_sets-sets.result c.loop-i.i 0)))
-    (drop c.loop-i.at a.query.now))
-    ≡ c.set_place.result
-seen c =
-    let a = c.args in
-    let sets = replicate c.rows_of-rows.result (set_in a.k (get_or c.ordered_sets-sets.result c.loop-i.i 0)) in
-    sym (c.set_place.ensures ∙ ap (λ (l : List ℕ). place_naming a.s a.message a.symbol (set_rows sets l)) (to_end a.query.now c.loop-i.at))
-
 -- the set's rows tell, or those after them
-told : (c : goal.After-set_place) (place : Place) → c.set_place.result ≡ place
-    → let a = c.args in
+told : (c : tie.After-set-place invariant-loop decreases-loop) (place : Place) → c.set-place.result ≡ place
+    → let rows = c.before.before in
+    let at = rows.before.before in
+    let a = at.before.before.before.before.args in
     place_naming a.s a.message a.symbol (layout_rows a.n a.k a.query.now)
-    ≡ later c.loop-i.end (or_later (c.rows_of-rows.result * a.s) place
-    (place_naming a.s a.message a.symbol (set_rows (rows_from a.n a.k (c.loop-i.i + 1))
-    (drop (c.loop-i.at + c.rows_of-rows.result * count (get_or c.ordered_sets-sets.result c.loop-i.i 0)) a.query.now))))
+    ≡ later at.loop.end (or_later (rows.rows_of_lem.result * a.s) place
+    (place_naming a.s a.message a.symbol (set_rows (rows_from a.n a.k (at.loop.i + 1))
+    (drop (at.loop.at + rows.rows_of_lem.result * count (get_or at.before.before.ordered-sets.result at.loop.i 0)) a.query.now))))
 told c place e =
-    let a = c.args in
-    set-decides a.n a.k a.s a.message a.symbol a.query.now c.loop-i.i c.loop-i.at c.loop-i.end
-    (get_or c.ordered_sets-sets.result c.loop-i.i 0) c.rows_of-rows.result
-    (place_naming a.s a.message a.symbol (layout_rows a.n a.k a.query.now)) place (turn-of c.before.before) c.loop-i.invariant.3 (seen c ∙ e)
+    let rows = c.before.before in
+    let at = rows.before.before in
+    let a = at.before.before.before.before.args in
+    set-decides a.n a.k a.s a.message a.symbol a.query.now at.loop.i at.loop.at at.loop.end
+    (get_or at.before.before.ordered-sets.result at.loop.i 0) rows.rows_of_lem.result
+    (place_naming a.s a.message a.symbol (layout_rows a.n a.k a.query.now)) place (turn-of rows) at.loop.invariant.3 (seen c ∙ e)
 
 pub ordered_sets-sets-requires : goal.ordered_sets-sets-requires
 ordered_sets-sets-requires c =    (even-bounds c.args.n c.args.k c.args.s c.requires.s_value).messages-high
@@ -107,52 +79,160 @@ rows_of-rows-requires c =    let n = c.args.n in
     (omega (arith, bounds.servers-low), b.some, omega (arith, b.rows, b.high))
 
 pub slice_bounds-set_place-count : goal.slice_bounds-set_place-count
-slice_bounds-set_place-count c = omega (arith, (turn-of c).read)
+slice_bounds-set_place-count c =    let turn-of : let a = c.args in
+    Turn a.n a.k a.s a.query.now c.loop-i.i c.loop-i.at c.loop-i.end (get_or c.ordered_sets-sets.result c.loop-i.i 0)
+    c.rows_of-rows.result =
+        let a = c.args in
+        let inside : c.loop-i.i < length (all_sets a.k) = omega (arith, c.power-count.ensures, all-length a.k) in
+        set-turn a.n a.k a.s a.query.now c.ordered_sets-sets.result c.loop-i.i c.loop-i.at c.loop-i.end c.rows_of-rows.result
+        (layout-fits a.n a.k a.s c.requires.s_value) c.ordered_sets-sets.ensures inside c.rows_of-rows.ensures
+        c.loop-i.invariant.1 c.loop-i.invariant.2 in
+    omega (arith, (turn-of).read)
 
 pub slice_bounds-set_place-start : goal.slice_bounds-set_place-start
-slice_bounds-set_place-start c = omega (arith, (turn-of c).read)
+slice_bounds-set_place-start c =    let turn-of : let a = c.args in
+    Turn a.n a.k a.s a.query.now c.loop-i.i c.loop-i.at c.loop-i.end (get_or c.ordered_sets-sets.result c.loop-i.i 0)
+    c.rows_of-rows.result =
+        let a = c.args in
+        let inside : c.loop-i.i < length (all_sets a.k) = omega (arith, c.power-count.ensures, all-length a.k) in
+        set-turn a.n a.k a.s a.query.now c.ordered_sets-sets.result c.loop-i.i c.loop-i.at c.loop-i.end c.rows_of-rows.result
+        (layout-fits a.n a.k a.s c.requires.s_value) c.ordered_sets-sets.ensures inside c.rows_of-rows.ensures
+        c.loop-i.invariant.1 c.loop-i.invariant.2 in
+    omega (arith, (turn-of).read)
 
 pub slice_bounds-set_place-end : goal.slice_bounds-set_place-end
-slice_bounds-set_place-end c = omega (arith, (turn-of c).read)
+slice_bounds-set_place-end c =    let turn-of : let a = c.args in
+    Turn a.n a.k a.s a.query.now c.loop-i.i c.loop-i.at c.loop-i.end (get_or c.ordered_sets-sets.result c.loop-i.i 0)
+    c.rows_of-rows.result =
+        let a = c.args in
+        let inside : c.loop-i.i < length (all_sets a.k) = omega (arith, c.power-count.ensures, all-length a.k) in
+        set-turn a.n a.k a.s a.query.now c.ordered_sets-sets.result c.loop-i.i c.loop-i.at c.loop-i.end c.rows_of-rows.result
+        (layout-fits a.n a.k a.s c.requires.s_value) c.ordered_sets-sets.ensures inside c.rows_of-rows.ensures
+        c.loop-i.invariant.1 c.loop-i.invariant.2 in
+    omega (arith, (turn-of).read)
 
 pub set_place-requires : goal.set_place-requires
-set_place-requires c =    let turn = turn-of c.before in
+unfolding even_sizes
+set_place-requires c =    let turn-of : let a = c.args in
+    Turn a.n a.k a.s a.query.now c.loop-i.i c.loop-i.at c.loop-i.end (get_or c.ordered_sets-sets.result c.loop-i.i 0)
+    c.rows_of-rows.result =
+        let a = c.args in
+        let inside : c.loop-i.i < length (all_sets a.k) = omega (arith, c.power-count.ensures, all-length a.k) in
+        set-turn a.n a.k a.s a.query.now c.ordered_sets-sets.result c.loop-i.i c.loop-i.at c.loop-i.end c.rows_of-rows.result
+        (layout-fits a.n a.k a.s c.requires.s_value) c.ordered_sets-sets.ensures inside c.rows_of-rows.ensures
+        c.loop-i.invariant.1 c.loop-i.invariant.2 in
+    let slot_small : let a = c.args in length (layout a.n a.k) * a.s < 2 ^ 32 =
+        let a = c.args in
+        let b = even-bounds a.n a.k a.s c.requires.s_value in
+        omega (arith, (even-small a.n a.k a.s b).slot, ap (λ (m : ℕ). m * a.s) (layout-length a.n a.k b.servers-low b.messages-low)) in
+    let turn = turn-of in
     let query = c.args.query.now in record {
       set_value = (turn.ones-in, rw (to_end query c.loop-i.at) (omega (arith, length-drop c.loop-i.at query, turn.read)));
-      s_bound = omega (arith, turn.placed, slot_small c.before.before.before.before.before.before.before);
+      s_bound = omega (arith, turn.placed, slot_small);
     }
 
 pub overflow_add-result : goal.overflow_add-result
-overflow_add-result c =    let a = c.args in
+unfolding even_sizes
+overflow_add-result c =    let turn-of : let a = c.args in
+    Turn a.n a.k a.s a.query.now c.loop-i.i c.loop-i.at c.loop-i.end (get_or c.ordered_sets-sets.result c.loop-i.i 0)
+    c.rows_of-rows.result =
+        let a = c.args in
+        let inside : c.loop-i.i < length (all_sets a.k) = omega (arith, c.power-count.ensures, all-length a.k) in
+        set-turn a.n a.k a.s a.query.now c.ordered_sets-sets.result c.loop-i.i c.loop-i.at c.loop-i.end c.rows_of-rows.result
+        (layout-fits a.n a.k a.s c.requires.s_value) c.ordered_sets-sets.ensures inside c.rows_of-rows.ensures
+        c.loop-i.invariant.1 c.loop-i.invariant.2 in
+    let slot_small : let a = c.args in length (layout a.n a.k) * a.s < 2 ^ 32 =
+        let a = c.args in
+        let b = even-bounds a.n a.k a.s c.requires.s_value in
+        omega (arith, (even-small a.n a.k a.s b).slot, ap (λ (m : ℕ). m * a.s) (layout-length a.n a.k b.servers-low b.messages-low)) in
+    let seen : let a = c.args in
+    place_naming a.s a.message a.symbol
+    (set_rows (replicate c.rows_of-rows.result (set_in a.k (get_or c.ordered_sets-sets.result c.loop-i.i 0)))
+    (drop c.loop-i.at a.query.now))
+    ≡ c.set_place.result =
+        let a = c.args in
+        let sets = replicate c.rows_of-rows.result (set_in a.k (get_or c.ordered_sets-sets.result c.loop-i.i 0)) in
+        sym (c.set_place.ensures ∙ ap (λ (l : List ℕ). place_naming a.s a.message a.symbol (set_rows sets l)) (to_end a.query.now c.loop-i.at)) in
+    let a = c.args in
     let sets = replicate c.rows_of-rows.result (set_in a.k (get_or c.ordered_sets-sets.result c.loop-i.i 0)) in
     let numbers = drop c.loop-i.at a.query.now in
     let many : length (set_rows sets numbers) * a.s ≡ c.rows_of-rows.result * a.s =
     ap (λ (n : ℕ). n * a.s) (sets-many sets numbers ∙ length-replicate c.rows_of-rows.result _) in
     omega (
       arith,
-      place-within a.s a.message a.symbol (set_rows sets numbers) c.in-At.place (seen c.before.before.before ∙ c.in-At.is),
+      place-within a.s a.message a.symbol (set_rows sets numbers) c.in-At.place (seen ∙ c.in-At.is),
       many,
-      (turn-of c.before.before.before.before.before).placed,
-      slot_small c.before.before.before.before.before.before.before.before.before.before.before,
+      (turn-of).placed,
+      slot_small,
     )
 
 pub returns-in-At : goal.returns-in-At
 returns-in-At c = sym (told c.before.before.before (At c.in-At.place) c.in-At.is)
 
 pub overflow_cast-at : goal.overflow_cast-at
-overflow_cast-at c =    omega (arith, ones-le 8 (get_or c.ordered_sets-sets.result c.loop-i.i 0) (turn-of c.before.before.before.before).small)
+overflow_cast-at c =    let turn-of : let a = c.args in
+    Turn a.n a.k a.s a.query.now c.loop-i.i c.loop-i.at c.loop-i.end (get_or c.ordered_sets-sets.result c.loop-i.i 0)
+    c.rows_of-rows.result =
+        let a = c.args in
+        let inside : c.loop-i.i < length (all_sets a.k) = omega (arith, c.power-count.ensures, all-length a.k) in
+        set-turn a.n a.k a.s a.query.now c.ordered_sets-sets.result c.loop-i.i c.loop-i.at c.loop-i.end c.rows_of-rows.result
+        (layout-fits a.n a.k a.s c.requires.s_value) c.ordered_sets-sets.ensures inside c.rows_of-rows.ensures
+        c.loop-i.invariant.1 c.loop-i.invariant.2 in
+    omega (arith, ones-le 8 (get_or c.ordered_sets-sets.result c.loop-i.i 0) (turn-of).small)
 
 pub overflow_mul-at : goal.overflow_mul-at
-overflow_mul-at c = omega (arith, (turn-of c.before.before.before.before).read)
+overflow_mul-at c =    let turn-of : let a = c.args in
+    Turn a.n a.k a.s a.query.now c.loop-i.i c.loop-i.at c.loop-i.end (get_or c.ordered_sets-sets.result c.loop-i.i 0)
+    c.rows_of-rows.result =
+        let a = c.args in
+        let inside : c.loop-i.i < length (all_sets a.k) = omega (arith, c.power-count.ensures, all-length a.k) in
+        set-turn a.n a.k a.s a.query.now c.ordered_sets-sets.result c.loop-i.i c.loop-i.at c.loop-i.end c.rows_of-rows.result
+        (layout-fits a.n a.k a.s c.requires.s_value) c.ordered_sets-sets.ensures inside c.rows_of-rows.ensures
+        c.loop-i.invariant.1 c.loop-i.invariant.2 in
+    omega (arith, (turn-of).read)
 
 pub overflow_add-at : goal.overflow_add-at
-overflow_add-at c = omega (arith, (turn-of c.before.before.before.before).read)
+overflow_add-at c =    let turn-of : let a = c.args in
+    Turn a.n a.k a.s a.query.now c.loop-i.i c.loop-i.at c.loop-i.end (get_or c.ordered_sets-sets.result c.loop-i.i 0)
+    c.rows_of-rows.result =
+        let a = c.args in
+        let inside : c.loop-i.i < length (all_sets a.k) = omega (arith, c.power-count.ensures, all-length a.k) in
+        set-turn a.n a.k a.s a.query.now c.ordered_sets-sets.result c.loop-i.i c.loop-i.at c.loop-i.end c.rows_of-rows.result
+        (layout-fits a.n a.k a.s c.requires.s_value) c.ordered_sets-sets.ensures inside c.rows_of-rows.ensures
+        c.loop-i.invariant.1 c.loop-i.invariant.2 in
+    omega (arith, (turn-of).read)
 
 pub overflow_mul-end : goal.overflow_mul-end
-overflow_mul-end c =    omega (arith, (turn-of c.before.before.before.before).placed, slot_small c.before.before.before.before.before.before.before.before.before.before)
+unfolding even_sizes
+overflow_mul-end c =    let turn-of : let a = c.args in
+    Turn a.n a.k a.s a.query.now c.loop-i.i c.loop-i.at c.loop-i.end (get_or c.ordered_sets-sets.result c.loop-i.i 0)
+    c.rows_of-rows.result =
+        let a = c.args in
+        let inside : c.loop-i.i < length (all_sets a.k) = omega (arith, c.power-count.ensures, all-length a.k) in
+        set-turn a.n a.k a.s a.query.now c.ordered_sets-sets.result c.loop-i.i c.loop-i.at c.loop-i.end c.rows_of-rows.result
+        (layout-fits a.n a.k a.s c.requires.s_value) c.ordered_sets-sets.ensures inside c.rows_of-rows.ensures
+        c.loop-i.invariant.1 c.loop-i.invariant.2 in
+    let slot_small : let a = c.args in length (layout a.n a.k) * a.s < 2 ^ 32 =
+        let a = c.args in
+        let b = even-bounds a.n a.k a.s c.requires.s_value in
+        omega (arith, (even-small a.n a.k a.s b).slot, ap (λ (m : ℕ). m * a.s) (layout-length a.n a.k b.servers-low b.messages-low)) in
+    omega (arith, (turn-of).placed, slot_small)
 
 pub overflow_add-end : goal.overflow_add-end
-overflow_add-end c =    omega (arith, (turn-of c.before.before.before.before).placed, slot_small c.before.before.before.before.before.before.before.before.before.before)
+unfolding even_sizes
+overflow_add-end c =    let turn-of : let a = c.args in
+    Turn a.n a.k a.s a.query.now c.loop-i.i c.loop-i.at c.loop-i.end (get_or c.ordered_sets-sets.result c.loop-i.i 0)
+    c.rows_of-rows.result =
+        let a = c.args in
+        let inside : c.loop-i.i < length (all_sets a.k) = omega (arith, c.power-count.ensures, all-length a.k) in
+        set-turn a.n a.k a.s a.query.now c.ordered_sets-sets.result c.loop-i.i c.loop-i.at c.loop-i.end c.rows_of-rows.result
+        (layout-fits a.n a.k a.s c.requires.s_value) c.ordered_sets-sets.ensures inside c.rows_of-rows.ensures
+        c.loop-i.invariant.1 c.loop-i.invariant.2 in
+    let slot_small : let a = c.args in length (layout a.n a.k) * a.s < 2 ^ 32 =
+        let a = c.args in
+        let b = even-bounds a.n a.k a.s c.requires.s_value in
+        omega (arith, (even-small a.n a.k a.s b).slot, ap (λ (m : ℕ). m * a.s) (layout-length a.n a.k b.servers-low b.messages-low)) in
+    omega (arith, (turn-of).placed, slot_small)
 
 pub overflow_add-i : goal.overflow_add-i
 overflow_add-i c = omega arith
@@ -161,8 +241,16 @@ pub loop-i-smaller : goal.loop-i-smaller
 loop-i-smaller c = omega arith
 
 pub loop-i-preserved : goal.loop-i-preserved
-loop-i-preserved c =    let a = c.args in
-    let turn = turn-of c.before.before.before.before in
+loop-i-preserved c =    let turn-of : let a = c.args in
+    Turn a.n a.k a.s a.query.now c.loop-i.i c.loop-i.at c.loop-i.end (get_or c.ordered_sets-sets.result c.loop-i.i 0)
+    c.rows_of-rows.result =
+        let a = c.args in
+        let inside : c.loop-i.i < length (all_sets a.k) = omega (arith, c.power-count.ensures, all-length a.k) in
+        set-turn a.n a.k a.s a.query.now c.ordered_sets-sets.result c.loop-i.i c.loop-i.at c.loop-i.end c.rows_of-rows.result
+        (layout-fits a.n a.k a.s c.requires.s_value) c.ordered_sets-sets.ensures inside c.rows_of-rows.ensures
+        c.loop-i.invariant.1 c.loop-i.invariant.2 in
+    let a = c.args in
+    let turn = turn-of in
     let rest = place_naming a.s a.message a.symbol (set_rows (rows_from a.n a.k (c.loop-i.i + 1))
     (drop (c.loop-i.at + c.rows_of-rows.result * count (get_or c.ordered_sets-sets.result c.loop-i.i 0)) a.query.now)) in (
       omega arith,

@@ -15,25 +15,25 @@ use Rattle.scheme.specs.Asked.{is_cell, times_in}
 use Rattle.even_locate.proofs.Scan.{cell-next, some-named, none_named, no_cells}
 use Rattle.even_locate.proofs.row_names.Goals as goal
 
--- the message is in the set: its number is the next one
-next-number : (c : goal.Then-rest-eq1) → c.loop-p.taken < length c.args.numbers.now
-next-number c =
-    let a = c.args in
-    omega (arith, ap length (members_kept a.k c.loop-p.p c.loop-p.rest (omega arith) c.if-rest-eq1.true), c.loop-p.invariant.1)
-
 pub loop-p-init : goal.loop-p-init
 loop-p-init c =    let a = c.args in
     (omega arith, rw (sub-zero a.k) (omega (arith, c.requires)), rw (sub-zero a.k) refl)
 
 pub bounds-numbers-taken : goal.bounds-numbers-taken
-bounds-numbers-taken c = next-number c.before
+bounds-numbers-taken c =    let next-number : c.loop-p.taken < length c.args.numbers.now =
+        let a = c.args in
+        omega (arith, ap length (members_kept a.k c.loop-p.p c.loop-p.rest (omega arith) c.if-rest-eq1.true), c.loop-p.invariant.1) in
+    next-number
 
 pub overflow_cast-numbers : goal.overflow_cast-numbers
 overflow_cast-numbers c = omega (arith, c.shared_slice_known-then-rest-eq1-1.given c.loop-p.taken)
 
 pub returns-then-is_cell : goal.returns-then-is_cell
 unfolding bit
-returns-then-is_cell c =    let a = c.args in
+returns-then-is_cell c =    let next-number : c.loop-p.taken < length c.args.numbers.now =
+        let a = c.args in
+        omega (arith, ap length (members_kept a.k c.loop-p.p c.loop-p.rest (omega arith) c.if-rest-eq1.true), c.loop-p.invariant.1) in
+    let a = c.args in
     let numbers = a.numbers.now in
     let p = c.loop-p.p in
     let taken = c.loop-p.taken in
@@ -43,11 +43,14 @@ returns-then-is_cell c =    let a = c.args in
     some-named a.message a.symbol (zip (members 0 (set_in a.k a.set)) numbers) left
     (sym c.loop-p.invariant.2
     ∙ cell-next a.message a.symbol a.k p rest taken numbers (omega arith) c.if-rest-eq1.true
-    (next-number c.before.before.before)
+    (next-number)
     ∙ ap (λ (t : Bool). bit t + left) here)
 
 pub overflow_add-taken : goal.overflow_add-taken
-overflow_add-taken c = omega (arith, next-number c.before.before.before)
+overflow_add-taken c =    let next-number : c.loop-p.taken < length c.args.numbers.now =
+        let a = c.args in
+        omega (arith, ap length (members_kept a.k c.loop-p.p c.loop-p.rest (omega arith) c.if-rest-eq1.true), c.loop-p.invariant.1) in
+    omega (arith, next-number)
 
 pub overflow_add-p : goal.overflow_add-p
 overflow_add-p c = omega arith

@@ -20,32 +20,28 @@ use Rattle.scheme.proofs.Places.{later-zero, later-twice}
 use Rattle.even_locate.proofs.Scan.{row_next}
 use Rattle.even_locate.proofs.set_place.Goals as goal
 
--- the row's numbers, and its part of the answers
-within : (c : goal.In-loop-row) → let a = c.args in
-    (c.loop-row.row * count a.set + count a.set ≤ length a.numbers.now) × (c.loop-row.row * a.s + a.s ≤ a.rows * a.s)
-within c =
-    let a = c.args in
-    (omega (arith, slot-end c.loop-row.row a.rows (count a.set) (omega arith), c.requires.set_value), slot-end c.loop-row.row a.rows a.s (omega arith))
-
 -- the row at hand decides, or those after it
-row-decides : (c : goal.After-row_names) (t : Bool) → c.row_names.result ≡ t
-    → let a = c.args in
+row-decides : (c : tie.After-row-names invariant-loop decreases-loop) (t : Bool) → c.row-names.result ≡ t
+    → let at = c.before.before.before in
+    let a = at.before.before.args in
     place_naming a.s a.message a.symbol (set_rows (replicate a.rows (set_in a.k a.set)) a.numbers.now)
-    ≡ later (c.loop-row.row * a.s) (cond t (At 0)
+    ≡ later (at.loop.row * a.s) (cond t (At 0)
     (later a.s (place_naming a.s a.message a.symbol
-    (set_rows (replicate (a.rows - (c.loop-row.row + 1)) (set_in a.k a.set)) (drop ((c.loop-row.row + 1) * count a.set) a.numbers.now)))))
+    (set_rows (replicate (a.rows - (at.loop.row + 1)) (set_in a.k a.set)) (drop ((at.loop.row + 1) * count a.set) a.numbers.now)))))
 row-decides c t e =
-    let a = c.args in
-    let row = c.loop-row.row in
+    let at = c.before.before.before in
+    let start = at.before.before in
+    let a = start.args in
+    let row = at.loop.row in
     let size = count a.set in
     let numbers = a.numbers.now in
     let A = set_in a.k a.set in
     let rest = later a.s (place_naming a.s a.message a.symbol (set_rows (replicate (a.rows - (row + 1)) A) (drop ((row + 1) * size) numbers))) in
     let told : named_in a.message a.symbol (zip (members 0 A) (drop (row * size) numbers)) ≡ t =
-    sym (c.row_names.ensures ∙ ap (λ (l : List ℕ). named_in a.message a.symbol (zip (members 0 A) l)) (to_end numbers (row * size))) ∙ e in
-    c.loop-row.invariant.1
+    sym (c.row-names.ensures ∙ ap (λ (l : List ℕ). named_in a.message a.symbol (zip (members 0 A) l)) (to_end numbers (row * size))) ∙ e in
+    at.loop.invariant.1
     ∙ ap (later (row * a.s))
-    (row_next a.s a.message a.symbol A a.rows row size numbers (omega arith) c.requires.set_value.0
+    (row_next a.s a.message a.symbol A a.rows row size numbers (omega arith) start.requires.0.0
     ∙ ap (λ (u : Bool). cond u (At 0) rest) told)
 
 pub overflow_cast-size : goal.overflow_cast-size
@@ -57,25 +53,49 @@ loop-row-init c =    let a = c.args in
     (omega arith, rw (zero-mul a.s, zero-mul (count a.set), sub-zero a.rows) (sym (later-zero place)))
 
 pub overflow_mul-at : goal.overflow_mul-at
-overflow_mul-at c = omega (arith, within c)
+overflow_mul-at c =    let within : let a = c.args in
+    (c.loop-row.row * count a.set + count a.set ≤ length a.numbers.now) × (c.loop-row.row * a.s + a.s ≤ a.rows * a.s) =
+        let a = c.args in
+        (omega (arith, slot-end c.loop-row.row a.rows (count a.set) (omega arith), c.requires.set_value), slot-end c.loop-row.row a.rows a.s (omega arith)) in
+    omega (arith, within)
 
 pub slice_bounds-row_names-count : goal.slice_bounds-row_names-count
-slice_bounds-row_names-count c = omega (arith, within c)
+slice_bounds-row_names-count c =    let within : let a = c.args in
+    (c.loop-row.row * count a.set + count a.set ≤ length a.numbers.now) × (c.loop-row.row * a.s + a.s ≤ a.rows * a.s) =
+        let a = c.args in
+        (omega (arith, slot-end c.loop-row.row a.rows (count a.set) (omega arith), c.requires.set_value), slot-end c.loop-row.row a.rows a.s (omega arith)) in
+    omega (arith, within)
 
 pub slice_bounds-row_names-start : goal.slice_bounds-row_names-start
-slice_bounds-row_names-start c = omega (arith, within c)
+slice_bounds-row_names-start c =    let within : let a = c.args in
+    (c.loop-row.row * count a.set + count a.set ≤ length a.numbers.now) × (c.loop-row.row * a.s + a.s ≤ a.rows * a.s) =
+        let a = c.args in
+        (omega (arith, slot-end c.loop-row.row a.rows (count a.set) (omega arith), c.requires.set_value), slot-end c.loop-row.row a.rows a.s (omega arith)) in
+    omega (arith, within)
 
 pub slice_bounds-row_names-end : goal.slice_bounds-row_names-end
-slice_bounds-row_names-end c = omega (arith, within c)
+slice_bounds-row_names-end c =    let within : let a = c.args in
+    (c.loop-row.row * count a.set + count a.set ≤ length a.numbers.now) × (c.loop-row.row * a.s + a.s ≤ a.rows * a.s) =
+        let a = c.args in
+        (omega (arith, slot-end c.loop-row.row a.rows (count a.set) (omega arith), c.requires.set_value), slot-end c.loop-row.row a.rows a.s (omega arith)) in
+    omega (arith, within)
 
 pub row_names-requires : goal.row_names-requires
-row_names-requires c =    let a = c.args in
+row_names-requires c =    let within : let a = c.args in
+    (c.loop-row.row * count a.set + count a.set ≤ length a.numbers.now) × (c.loop-row.row * a.s + a.s ≤ a.rows * a.s) =
+        let a = c.args in
+        (omega (arith, slot-end c.loop-row.row a.rows (count a.set) (omega arith), c.requires.set_value), slot-end c.loop-row.row a.rows a.s (omega arith)) in
+    let a = c.args in
     let from = c.loop-row.row * count a.set in
     rw (to_end a.numbers.now from)
-    (omega (arith, members-length 0 (set_in a.k a.set), c.requires.set_value, length-drop from a.numbers.now, within c.before))
+    (omega (arith, members-length 0 (set_in a.k a.set), c.requires.set_value, length-drop from a.numbers.now, within))
 
 pub overflow_mul-result : goal.overflow_mul-result
-overflow_mul-result c =    omega (arith, within c.before.before.before, c.requires.s_bound)
+overflow_mul-result c =    let within : let a = c.args in
+    (c.loop-row.row * count a.set + count a.set ≤ length a.numbers.now) × (c.loop-row.row * a.s + a.s ≤ a.rows * a.s) =
+        let a = c.args in
+        (omega (arith, slot-end c.loop-row.row a.rows (count a.set) (omega arith), c.requires.set_value), slot-end c.loop-row.row a.rows a.s (omega arith)) in
+    omega (arith, within, c.requires.s_bound)
 
 pub returns-then-row_names : goal.returns-then-row_names
 returns-then-row_names c =    let a = c.args in

@@ -12,7 +12,7 @@ place_in-requires c =    let a = c.args in
 pub returns-then-p-wanted : goal.returns-then-p-wanted
 unfolding origin_place
 returns-then-p-wanted c =    let a = c.args in
-    rw (eq-eqb a.p a.wanted c.if-p-wanted.true) c.IsPlace-in.ensures
+    rw (eq-eqb a.p a.wanted c.if-p-wanted.true) c.place_in.ensures
 
 pub place_in-requires-2 : goal.place_in-requires-2
 unfolding origin_place

@@ -13,14 +13,6 @@ use Rattle.even_ranks.proofs.Steps.{totals-length, totals-below}
 use Rattle.even_query.proofs.Whole.{places-are, places-below, places-length, query-room}
 use Rattle.even_query.proofs.places.Goals as goal
 
-sets-many : (c : goal.After-power-count) → length (bytes_of c) ≡ c.power-count.result - 1
-unfolding bytes_of
-sets-many c = all-bytes c.args.k c.power-count.result c.power-count.ensures
-
-sets-front : (c : goal.After-power-count) → take (c.power-count.result - 1) c.ordered_sets-table.result ≡ map byte_of (all_sets c.args.k)
-unfolding bytes_of more_of
-sets-front c = front-is (c.power-count.result - 1) c.ordered_sets-table.result (bytes_of c) (more_of c) c.ordered_sets-table.ensures (sets-many c)
-
 pub power-count-requires : goal.power-count-requires
 power-count-requires c = omega (arith, subsets-few c.args.k c.requires.bounds.messages-high)
 
@@ -29,15 +21,26 @@ overflow_sub-count c = omega (arith, c.power-count.ensures, all-length c.args.k)
 
 pub slice_bounds-table-end : goal.slice_bounds-table-end
 unfolding bytes_of more_of
-slice_bounds-table-end c =    front_fits (c.power-count.result - 1) c.ordered_sets-table.result (bytes_of c) (more_of c) c.ordered_sets-table.ensures (sets-many c)
+slice_bounds-table-end c =    let sets-many : length (bytes_of c) ≡ c.power-count.result - 1 =
+        all-bytes c.args.k c.power-count.result c.power-count.ensures in
+    front_fits (c.power-count.result - 1) c.ordered_sets-table.result (bytes_of c) (more_of c) c.ordered_sets-table.ensures (sets-many)
 
 pub slice_bounds-sets-end : goal.slice_bounds-sets-end
-unfolding bytes_of
-slice_bounds-sets-end c = sym (ap length (sets-front c.before) ∙ sets-many c.before)
+unfolding bytes_of more_of
+slice_bounds-sets-end c =    let sets-many : length (bytes_of c) ≡ c.power-count.result - 1 =
+        all-bytes c.args.k c.power-count.result c.power-count.ensures in
+    let sets-front : take (c.power-count.result - 1) c.ordered_sets-table.result ≡ map byte_of (all_sets c.args.k) =
+        front-is (c.power-count.result - 1) c.ordered_sets-table.result (bytes_of c) (more_of c) c.ordered_sets-table.ensures (sets-many) in
+    sym (ap length (sets-front) ∙ sets-many)
 
 pub totals-totals-requires : goal.totals-totals-requires
-totals-totals-requires c =    let p = c.requires in
-    (p.bounds.messages-high, p.message, sets-front c.before)
+unfolding bytes_of more_of
+totals-totals-requires c =    let sets-many : length (bytes_of c) ≡ c.power-count.result - 1 =
+        all-bytes c.args.k c.power-count.result c.power-count.ensures in
+    let sets-front : take (c.power-count.result - 1) c.ordered_sets-table.result ≡ map byte_of (all_sets c.args.k) =
+        front-is (c.power-count.result - 1) c.ordered_sets-table.result (bytes_of c) (more_of c) c.ordered_sets-table.ensures (sets-many) in
+    let p = c.requires in
+    (p.bounds.messages-high, p.message, sets-front)
 
 pub takings-taken-requires : goal.takings-taken-requires
 takings-taken-requires c =    let a = c.args in
@@ -51,7 +54,12 @@ takings-taken-requires c =    let a = c.args in
     )
 
 pub write_sets-requires : goal.write_sets-requires
-write_sets-requires c =    let totals = c.totals-totals in 
+unfolding bytes_of more_of
+write_sets-requires c =    let sets-many : length (bytes_of c) ≡ c.power-count.result - 1 =
+        all-bytes c.args.k c.power-count.result c.power-count.ensures in
+    let sets-front : take (c.power-count.result - 1) c.ordered_sets-table.result ≡ map byte_of (all_sets c.args.k) =
+        front-is (c.power-count.result - 1) c.ordered_sets-table.result (bytes_of c) (more_of c) c.ordered_sets-table.ensures (sets-many) in
+    let totals = c.totals-totals in 
     let a = c.args in
     let p = c.requires in
     let are = places-are a.n a.k a.wanted a.server p c.totals-totals.result c.totals-totals.ensures in (
@@ -60,7 +68,7 @@ write_sets-requires c =    let totals = c.totals-totals in
         long = ap length c.totals-totals.ensures ∙ totals-length a.k a.wanted p.bounds.messages-high;
         filled = c.takings-taken.ensures;
       },
-      sets-front c.before.before.before.before.before.before.before,
+      sets-front,
       rw are (places-below a.n a.k a.wanted a.server p),
       rw are (omega (arith, places-length a.n a.k a.wanted a.server p, query-room a.n a.k a.wanted a.server p)),
     )

@@ -10,25 +10,6 @@ use Rattle.lists.proofs.Cuts.{front-is, front_fits}
 use Rattle.even_query.proofs.Whole.{places-length, messages-length, query-room, keyed, entries-are}
 use Rattle.even_query.proofs.query.Goals as goal
 
-count-is : (c : goal.After-power) → count_of c ≡ (begin c).args.k * (begin c).args.n ^ ((begin c).args.k - 1)
-count-is c = ap (λ (x : ℕ). (begin c).args.k * x) c.power.ensures
-
-messages-many : (c : goal.After-power) → length (messages_of (begin c)) ≡ count_of c
-messages-many c = let a = (begin c).args in messages-length a.n a.k a.wanted a.server (begin c).requires.0 ∙ sym (count-is c)
-
-places-many : (c : goal.After-power) → length (places_of (begin c)) ≡ count_of c
-places-many c = let a = (begin c).args in places-length a.n a.k a.wanted a.server (begin c).requires.0 ∙ sym (count-is c)
-
-messages-front : (c : goal.After-power) → take (count_of c) c.positions-messages.result ≡ messages_of (begin c)
-messages-front c =
-    front-is (count_of c) c.positions-messages.result (messages_of (begin c)) (replicate (1024 - length (messages_of (begin c))) 0)
-    c.positions-messages.ensures (messages-many c)
-
-places-front : (c : goal.After-power) → take (count_of c) c.places-places.result ≡ places_of (begin c)
-places-front c =
-    front-is (count_of c) c.places-places.result (places_of (begin c)) (replicate (1024 - length (places_of (begin c))) 0)
-    c.places-places.ensures (places-many c)
-
 pub power-requires : goal.power-requires
 power-requires c =    let a = c.args in
     let p = c.requires.0 in
@@ -36,36 +17,84 @@ power-requires c =    let a = c.args in
     omega (arith, p.bounds.symbols-high)
 
 pub overflow_mul-count : goal.overflow_mul-count
-overflow_mul-count c =    let a = (begin c).args in
-    omega (arith, count-is c, query-room a.n a.k a.wanted a.server (begin c).requires.0)
+overflow_mul-count c =    let count-is : count_of c ≡ (begin c).args.k * (begin c).args.n ^ ((begin c).args.k - 1) =
+        ap (λ (x : ℕ). (begin c).args.k * x) c.power.ensures in
+    let a = (begin c).args in
+    omega (arith, count-is, query-room a.n a.k a.wanted a.server (begin c).requires.0)
 
 pub power-requires-2 : goal.power-requires-2
 power-requires-2 c = omega (arith, (begin c).requires.0.bounds.symbols-high)
 
 pub slice_bounds-messages-end : goal.slice_bounds-messages-end
-slice_bounds-messages-end c =    front_fits (count_of c.before) c.positions-messages.result (messages_of (begin c.before)) (replicate (1024 - length (messages_of (begin c.before))) 0)
-    c.positions-messages.ensures (messages-many c.before)
+slice_bounds-messages-end c =    let count-is : count_of c ≡ (begin c).args.k * (begin c).args.n ^ ((begin c).args.k - 1) =
+        ap (λ (x : ℕ). (begin c).args.k * x) c.power.ensures in
+    let messages-many : length (messages_of (begin c)) ≡ count_of c =
+        let a = (begin c).args in messages-length a.n a.k a.wanted a.server (begin c).requires.0 ∙ sym (count-is) in
+    front_fits (count_of c.before) c.positions-messages.result (messages_of (begin c.before)) (replicate (1024 - length (messages_of (begin c.before))) 0)
+    c.positions-messages.ensures (messages-many)
 
 pub slice_bounds-look_up-end : goal.slice_bounds-look_up-end
-slice_bounds-look_up-end c = sym (ap length (messages-front c.before.before) ∙ messages-many c.before.before)
+slice_bounds-look_up-end c =    let count-is : count_of c ≡ (begin c).args.k * (begin c).args.n ^ ((begin c).args.k - 1) =
+        ap (λ (x : ℕ). (begin c).args.k * x) c.power.ensures in
+    let messages-many : length (messages_of (begin c)) ≡ count_of c =
+        let a = (begin c).args in messages-length a.n a.k a.wanted a.server (begin c).requires.0 ∙ sym (count-is) in
+    let messages-front : take (count_of c) c.positions-messages.result ≡ messages_of (begin c) =
+        front-is (count_of c) c.positions-messages.result (messages_of (begin c)) (replicate (1024 - length (messages_of (begin c))) 0)
+        c.positions-messages.ensures (messages-many) in
+    sym (ap length (messages-front) ∙ messages-many)
 
 pub slice_bounds-places-end : goal.slice_bounds-places-end
-slice_bounds-places-end c =    front_fits (count_of c.before.before) c.places-places.result (places_of (begin c.before.before)) (replicate (1024 - length (places_of (begin c.before.before))) 0)
-    c.places-places.ensures (places-many c.before.before)
+slice_bounds-places-end c =    let count-is : count_of c ≡ (begin c).args.k * (begin c).args.n ^ ((begin c).args.k - 1) =
+        ap (λ (x : ℕ). (begin c).args.k * x) c.power.ensures in
+    let places-many : length (places_of (begin c)) ≡ count_of c =
+        let a = (begin c).args in places-length a.n a.k a.wanted a.server (begin c).requires.0 ∙ sym (count-is) in
+    front_fits (count_of c.before.before) c.places-places.result (places_of (begin c.before.before)) (replicate (1024 - length (places_of (begin c.before.before))) 0)
+    c.places-places.ensures (places-many)
 
 pub slice_bounds-look_up-end-2 : goal.slice_bounds-look_up-end-2
-slice_bounds-look_up-end-2 c = sym (ap length (places-front c.before.before.before) ∙ places-many c.before.before.before)
+slice_bounds-look_up-end-2 c =    let count-is : count_of c ≡ (begin c).args.k * (begin c).args.n ^ ((begin c).args.k - 1) =
+        ap (λ (x : ℕ). (begin c).args.k * x) c.power.ensures in
+    let places-many : length (places_of (begin c)) ≡ count_of c =
+        let a = (begin c).args in places-length a.n a.k a.wanted a.server (begin c).requires.0 ∙ sym (count-is) in
+    let places-front : take (count_of c) c.places-places.result ≡ places_of (begin c) =
+        front-is (count_of c) c.places-places.result (places_of (begin c)) (replicate (1024 - length (places_of (begin c))) 0)
+        c.places-places.ensures (places-many) in
+    sym (ap length (places-front) ∙ places-many)
 
 pub look_up-requires : goal.look_up-requires
-look_up-requires c =    let start = begin c.before.before.before.before in
+look_up-requires c =    let count-is : count_of c ≡ (begin c).args.k * (begin c).args.n ^ ((begin c).args.k - 1) =
+        ap (λ (x : ℕ). (begin c).args.k * x) c.power.ensures in
+    let messages-many : length (messages_of (begin c)) ≡ count_of c =
+        let a = (begin c).args in messages-length a.n a.k a.wanted a.server (begin c).requires.0 ∙ sym (count-is) in
+    let places-many : length (places_of (begin c)) ≡ count_of c =
+        let a = (begin c).args in places-length a.n a.k a.wanted a.server (begin c).requires.0 ∙ sym (count-is) in
+    let messages-front : take (count_of c) c.positions-messages.result ≡ messages_of (begin c) =
+        front-is (count_of c) c.positions-messages.result (messages_of (begin c)) (replicate (1024 - length (messages_of (begin c))) 0)
+        c.positions-messages.ensures (messages-many) in
+    let places-front : take (count_of c) c.places-places.result ≡ places_of (begin c) =
+        front-is (count_of c) c.places-places.result (places_of (begin c)) (replicate (1024 - length (places_of (begin c))) 0)
+        c.places-places.ensures (places-many) in
+    let start = begin c.before.before.before.before in
     let a = start.args in (
-      rw (c.power-2.ensures, messages-front c.before.before.before.before, places-front c.before.before.before.before)
+      rw (c.power-2.ensures, messages-front, places-front)
           (keyed a.n a.k a.wanted a.server start.pre.0 a.key.now start.pre.1),
-      rw (places-front c.before.before.before.before) (omega (arith, places-many c.before.before.before.before, count-is c.before.before.before.before, start.pre.2)),
+      rw (places-front) (omega (arith, places-many, count-is, start.pre.2)),
     )
 
 pub returns : goal.returns
-returns c =    let a = (begin c.before.before.before.before.before.before.before).args in
+returns c =    let count-is : count_of c ≡ (begin c).args.k * (begin c).args.n ^ ((begin c).args.k - 1) =
+        ap (λ (x : ℕ). (begin c).args.k * x) c.power.ensures in
+    let messages-many : length (messages_of (begin c)) ≡ count_of c =
+        let a = (begin c).args in messages-length a.n a.k a.wanted a.server (begin c).requires.0 ∙ sym (count-is) in
+    let places-many : length (places_of (begin c)) ≡ count_of c =
+        let a = (begin c).args in places-length a.n a.k a.wanted a.server (begin c).requires.0 ∙ sym (count-is) in
+    let messages-front : take (count_of c) c.positions-messages.result ≡ messages_of (begin c) =
+        front-is (count_of c) c.positions-messages.result (messages_of (begin c)) (replicate (1024 - length (messages_of (begin c))) 0)
+        c.positions-messages.ensures (messages-many) in
+    let places-front : take (count_of c) c.places-places.result ≡ places_of (begin c) =
+        front-is (count_of c) c.places-places.result (places_of (begin c)) (replicate (1024 - length (places_of (begin c))) 0)
+        c.places-places.ensures (places-many) in
+    let a = (begin c.before.before.before.before.before.before.before).args in
     let found =
-    rw (c.power-2.ensures, messages-front c.before.before.before.before.before.before.before, places-front c.before.before.before.before.before.before.before) at c.look_up.ensures in
+    rw (c.power-2.ensures, messages-front, places-front) at c.look_up.ensures in
     found ∙ ap (λ (l : List ℕ). put 0 l a.out.now) (entries-are a.n a.k a.wanted a.server (begin c.before.before.before.before.before.before.before).requires.0 a.key.now)

@@ -14,25 +14,6 @@ use Rattle.even_query.proofs.Steps.{joined-two}
 use Rattle.even_query.proofs.Rows.{rows_fit, rows_start, rows-done, RowTurn, row-turn}
 use Rattle.even_query.proofs.write_set.Goals as goal
 
--- as many turns as the set has rows
-rows_at : (c : goal.At-loop-i)
-    → let a = c.args in
-    c.rows_of-rows.result ≡ (a.n - 1) ^ (ones_in (set_in a.k a.set) - 1)
-rows_at c =
-    let a = c.args in
-    c.rows_of-rows.ensures ∙ ap (λ (m : ℕ). (a.n - 1) ^ (m - 1)) (stands-count a.k a.set c.requires.2)
-
-turn_at : (c : goal.After-origin-o)
-    → let a = c.args in
-    let loop = c.loop-i in 
-    RowTurn a.n a.k a.wanted a.server a.set c.loop-i.i a.totals.now a.ranks.now c.origin-o.result
-    a.at (set_places a.n a.wanted a.server a.totals.now a.ranks.now (set_in a.k a.set)) a.out.now c.loop-i.end c.loop-i.out
-turn_at c =
-    let joined = c.is_joined-joins in 
-    let asks = c.requires.0 in
-    row-turn c.requires.2 asks.bounds.servers-low asks.bounds.messages-high (omega (arith, rows_at c.before.before)) c.is_joined-joins.ensures c.origin-o.ensures
-    c.loop-i.invariant.1 c.loop-i.invariant.2
-
 pub overflow_cast-ones : goal.overflow_cast-ones
 overflow_cast-ones c = omega (arith, ones-le 8 c.args.set (search rules))
 
@@ -68,7 +49,19 @@ origin-o-requires c =    let a = c.args in
     )
 
 pub write_row-end-requires : goal.write_row-end-requires
-write_row-end-requires c =    let t = turn_at c.before in
+write_row-end-requires c =    let rows_at : let a = c.args in
+    c.rows_of-rows.result ≡ (a.n - 1) ^ (ones_in (set_in a.k a.set) - 1) =
+        let a = c.args in
+        c.rows_of-rows.ensures ∙ ap (λ (m : ℕ). (a.n - 1) ^ (m - 1)) (stands-count a.k a.set c.requires.2) in
+    let turn_at : let a = c.args in
+    let loop = c.loop-i in 
+    RowTurn a.n a.k a.wanted a.server a.set c.loop-i.i a.totals.now a.ranks.now c.origin-o.result
+    a.at (set_places a.n a.wanted a.server a.totals.now a.ranks.now (set_in a.k a.set)) a.out.now c.loop-i.end c.loop-i.out =
+        let joined = c.is_joined-joins in 
+        let asks = c.requires.0 in
+        row-turn c.requires.2 asks.bounds.servers-low asks.bounds.messages-high (omega (arith, rows_at)) c.is_joined-joins.ensures c.origin-o.ensures
+        c.loop-i.invariant.1 c.loop-i.invariant.2 in
+    let t = turn_at in
     (c.requires.1, t.within, c.requires.0.bounds.messages-high, c.requires.3, t.small, t.room)
 
 pub overflow_add-i : goal.overflow_add-i
@@ -78,7 +71,19 @@ pub loop-i-smaller : goal.loop-i-smaller
 loop-i-smaller c = omega arith
 
 pub loop-i-preserved : goal.loop-i-preserved
-loop-i-preserved c =    let t = turn_at c.before.before.before.before in
+loop-i-preserved c =    let rows_at : let a = c.args in
+    c.rows_of-rows.result ≡ (a.n - 1) ^ (ones_in (set_in a.k a.set) - 1) =
+        let a = c.args in
+        c.rows_of-rows.ensures ∙ ap (λ (m : ℕ). (a.n - 1) ^ (m - 1)) (stands-count a.k a.set c.requires.2) in
+    let turn_at : let a = c.args in
+    let loop = c.loop-i in 
+    RowTurn a.n a.k a.wanted a.server a.set c.loop-i.i a.totals.now a.ranks.now c.origin-o.result
+    a.at (set_places a.n a.wanted a.server a.totals.now a.ranks.now (set_in a.k a.set)) a.out.now c.loop-i.end c.loop-i.out =
+        let joined = c.is_joined-joins in 
+        let asks = c.requires.0 in
+        row-turn c.requires.2 asks.bounds.servers-low asks.bounds.messages-high (omega (arith, rows_at)) c.is_joined-joins.ensures c.origin-o.ensures
+        c.loop-i.invariant.1 c.loop-i.invariant.2 in
+    let t = turn_at in
     let written = c.write_row-end.ensures in
     (omega arith, t.rest-small, pending-as c.write_row-end.ensures.0 refl c.write_row-end.ensures.1 t.rest)
 
@@ -86,7 +91,11 @@ pub shape_of-out : goal.shape_of-out
 shape_of-out c = c.loop-i.invariant.2.long
 
 pub returns : goal.returns
-returns c =    let a = c.args in
-    let done = rows-done a.n a.wanted a.server a.totals.now a.ranks.now (set_in a.k a.set) c.loop-i.i (omega (arith, rows_at c.before)) in
+returns c =    let rows_at : let a = c.args in
+    c.rows_of-rows.result ≡ (a.n - 1) ^ (ones_in (set_in a.k a.set) - 1) =
+        let a = c.args in
+        c.rows_of-rows.ensures ∙ ap (λ (m : ℕ). (a.n - 1) ^ (m - 1)) (stands-count a.k a.set c.requires.2) in
+    let a = c.args in
+    let done = rows-done a.n a.wanted a.server a.totals.now a.ranks.now (set_in a.k a.set) c.loop-i.i (omega (arith, rows_at)) in
     let left = rw done at c.loop-i.invariant.2 in
     (pending-ends left, pending_done left)

@@ -17,37 +17,6 @@ use Rattle.even_ranks.proofs.Steps.{stands_at, stands-count, stands_set, Lent, l
 use Rattle.even_query.proofs.Rows.{sets-done, SetTurn, set-turn}
 use Rattle.even_query.proofs.write_sets.Goals as goal
 
--- the byte of this turn stands for the set of this turn
-stands_here : (c : goal.In-loop-i)
-    → let a = c.args in
-    let byte = get_or a.sets.now c.loop-i.i 0 in
-    Stands a.k byte × (set_in a.k byte ≡ get_or (all_sets a.k) c.loop-i.i [])
-stands_here c =
-    let a = c.args in
-    let bounds = c.requires.0.bounds in
-    stands_at a.k c.loop-i.i a.sets.now bounds.messages-low bounds.messages-high c.requires.2 (omega arith)
-
-inside : (c : goal.In-loop-i) → c.loop-i.i < length (all_sets c.args.k)
-inside c =
-    omega (arith, ap length c.requires.2, length-map (all_sets c.args.k) byte_of)
-
-lent-here : (c : goal.After-counters_of-at)
-    → let a = c.args in
-    Lent a.k a.wanted (get_or a.sets.now c.loop-i.i 0) c.counters_of-at.result
-lent-here c =
-    let a = c.args in
-    lent a.k a.wanted (get_or a.sets.now c.loop-i.i 0) c.counters_of-at.result c.requires.0.bounds.messages-high
-    (stands_here c.before.before).0 c.counters_of-at.ensures
-
-turn-here : (c : goal.After-counters_of-at)
-    → let a = c.args in
-    let loop = c.loop-i in 
-    SetTurn a.n a.k a.wanted a.server (get_or a.sets.now c.loop-i.i 0) c.loop-i.i c.counters_of-at.result a.totals.now c.loop-i.counts
-    0 (sets_places a.n a.wanted a.server a.totals.now no_counts (all_sets a.k)) a.out.now c.loop-i.end c.loop-i.out
-turn-here c =
-    let loop = c.loop-i in 
-    set-turn (lent-here c) c.loop-i.invariant.1 (inside c.before.before) (stands_here c.before.before).1 c.loop-i.invariant.3 c.loop-i.invariant.4
-
 pub loop-i-init : goal.loop-i-init
 unfolding no_counts
 loop-i-init c =    (omega arith, refl, below-zeros 1 128 (omega arith), c.requires.3, pending-start (omega (arith, c.requires.4)))
@@ -56,41 +25,118 @@ pub bounds-sets-i : goal.bounds-sets-i
 bounds-sets-i c = omega arith
 
 pub counters_of-at-requires : goal.counters_of-at-requires
-counters_of-at-requires c =    let a = c.args in
+counters_of-at-requires c =    let stands_here : let a = c.args in
+    let byte = get_or a.sets.now c.loop-i.i 0 in
+    Stands a.k byte × (set_in a.k byte ≡ get_or (all_sets a.k) c.loop-i.i []) =
+        let a = c.args in
+        let bounds = c.requires.0.bounds in
+        stands_at a.k c.loop-i.i a.sets.now bounds.messages-low bounds.messages-high c.requires.2 (omega arith) in
+    let a = c.args in
     let asks = c.requires.0 in
-    let stands = (stands_here c.before).0 in (
+    let stands = (stands_here).0 in (
       omega (arith, asks.message, asks.bounds.messages-high),
       omega (arith, stands-count a.k (get_or a.sets.now c.loop-i.i 0) stands, stands.some),
     )
 
 pub overflow_add-at : goal.overflow_add-at
-overflow_add-at c = omega (arith, (lent-here c).ranges)
+overflow_add-at c =    let stands_here : let a = c.args in
+    let byte = get_or a.sets.now c.loop-i.i 0 in
+    Stands a.k byte × (set_in a.k byte ≡ get_or (all_sets a.k) c.loop-i.i []) =
+        let a = c.args in
+        let bounds = c.requires.0.bounds in
+        stands_at a.k c.loop-i.i a.sets.now bounds.messages-low bounds.messages-high c.requires.2 (omega arith) in
+    let lent-here : let a = c.args in
+    Lent a.k a.wanted (get_or a.sets.now c.loop-i.i 0) c.counters_of-at.result =
+        let a = c.args in
+        lent a.k a.wanted (get_or a.sets.now c.loop-i.i 0) c.counters_of-at.result c.requires.0.bounds.messages-high
+        (stands_here).0 c.counters_of-at.ensures in
+    omega (arith, (lent-here).ranges)
 
 pub offset_bounds-counts-at : goal.offset_bounds-counts-at
-offset_bounds-counts-at c = omega (arith, (lent-here c).ranges)
+offset_bounds-counts-at c =    let stands_here : let a = c.args in
+    let byte = get_or a.sets.now c.loop-i.i 0 in
+    Stands a.k byte × (set_in a.k byte ≡ get_or (all_sets a.k) c.loop-i.i []) =
+        let a = c.args in
+        let bounds = c.requires.0.bounds in
+        stands_at a.k c.loop-i.i a.sets.now bounds.messages-low bounds.messages-high c.requires.2 (omega arith) in
+    let lent-here : let a = c.args in
+    Lent a.k a.wanted (get_or a.sets.now c.loop-i.i 0) c.counters_of-at.result =
+        let a = c.args in
+        lent a.k a.wanted (get_or a.sets.now c.loop-i.i 0) c.counters_of-at.result c.requires.0.bounds.messages-high
+        (stands_here).0 c.counters_of-at.ensures in
+    omega (arith, (lent-here).ranges)
 
 pub slice_bounds-write_set-count : goal.slice_bounds-write_set-count
 slice_bounds-write_set-count c = omega arith
 
 pub slice_bounds-write_set-start : goal.slice_bounds-write_set-start
-slice_bounds-write_set-start c = omega (arith, (lent-here c).fits, c.loop-i.invariant.1)
+slice_bounds-write_set-start c =    let stands_here : let a = c.args in
+    let byte = get_or a.sets.now c.loop-i.i 0 in
+    Stands a.k byte × (set_in a.k byte ≡ get_or (all_sets a.k) c.loop-i.i []) =
+        let a = c.args in
+        let bounds = c.requires.0.bounds in
+        stands_at a.k c.loop-i.i a.sets.now bounds.messages-low bounds.messages-high c.requires.2 (omega arith) in
+    let lent-here : let a = c.args in
+    Lent a.k a.wanted (get_or a.sets.now c.loop-i.i 0) c.counters_of-at.result =
+        let a = c.args in
+        lent a.k a.wanted (get_or a.sets.now c.loop-i.i 0) c.counters_of-at.result c.requires.0.bounds.messages-high
+        (stands_here).0 c.counters_of-at.ensures in
+    omega (arith, (lent-here).fits, c.loop-i.invariant.1)
 
 pub slice_bounds-write_set-end : goal.slice_bounds-write_set-end
-slice_bounds-write_set-end c = omega (arith, (lent-here c).fits, c.loop-i.invariant.1)
+slice_bounds-write_set-end c =    let stands_here : let a = c.args in
+    let byte = get_or a.sets.now c.loop-i.i 0 in
+    Stands a.k byte × (set_in a.k byte ≡ get_or (all_sets a.k) c.loop-i.i []) =
+        let a = c.args in
+        let bounds = c.requires.0.bounds in
+        stands_at a.k c.loop-i.i a.sets.now bounds.messages-low bounds.messages-high c.requires.2 (omega arith) in
+    let lent-here : let a = c.args in
+    Lent a.k a.wanted (get_or a.sets.now c.loop-i.i 0) c.counters_of-at.result =
+        let a = c.args in
+        lent a.k a.wanted (get_or a.sets.now c.loop-i.i 0) c.counters_of-at.result c.requires.0.bounds.messages-high
+        (stands_here).0 c.counters_of-at.ensures in
+    omega (arith, (lent-here).fits, c.loop-i.invariant.1)
 
 pub write_set-end-requires : goal.write_set-end-requires
-write_set-end-requires c =    let t = turn-here c.before.before in
-    (c.requires.0, c.requires.1, (stands_here c.before.before.before.before).0, t.ranks-long, t.small, t.room)
+write_set-end-requires c =    let stands_here : let a = c.args in
+    let byte = get_or a.sets.now c.loop-i.i 0 in
+    Stands a.k byte × (set_in a.k byte ≡ get_or (all_sets a.k) c.loop-i.i []) =
+        let a = c.args in
+        let bounds = c.requires.0.bounds in
+        stands_at a.k c.loop-i.i a.sets.now bounds.messages-low bounds.messages-high c.requires.2 (omega arith) in
+    let inside : c.loop-i.i < length (all_sets c.args.k) =
+        omega (arith, ap length c.requires.2, length-map (all_sets c.args.k) byte_of) in
+    let lent-here : let a = c.args in
+    Lent a.k a.wanted (get_or a.sets.now c.loop-i.i 0) c.counters_of-at.result =
+        let a = c.args in
+        lent a.k a.wanted (get_or a.sets.now c.loop-i.i 0) c.counters_of-at.result c.requires.0.bounds.messages-high
+        (stands_here).0 c.counters_of-at.ensures in
+    let turn-here : let a = c.args in
+    let loop = c.loop-i in 
+    SetTurn a.n a.k a.wanted a.server (get_or a.sets.now c.loop-i.i 0) c.loop-i.i c.counters_of-at.result a.totals.now c.loop-i.counts
+    0 (sets_places a.n a.wanted a.server a.totals.now no_counts (all_sets a.k)) a.out.now c.loop-i.end c.loop-i.out =
+        let loop = c.loop-i in 
+        set-turn (lent-here) c.loop-i.invariant.1 (inside) (stands_here).1 c.loop-i.invariant.3 c.loop-i.invariant.4 in
+    let t = turn-here in
+    (c.requires.0, c.requires.1, (stands_here).0, t.ranks-long, t.small, t.room)
 
 pub slice_bounds-count_set-end : goal.slice_bounds-count_set-end
 slice_bounds-count_set-end c = sym c.loop-i.invariant.1
 
 pub count_set-requires : goal.count_set-requires
-count_set-requires c =    let loop = c.loop-i in 
+count_set-requires c =    let stands_here : let a = c.args in
+    let byte = get_or a.sets.now c.loop-i.i 0 in
+    Stands a.k byte × (set_in a.k byte ≡ get_or (all_sets a.k) c.loop-i.i []) =
+        let a = c.args in
+        let bounds = c.requires.0.bounds in
+        stands_at a.k c.loop-i.i a.sets.now bounds.messages-low bounds.messages-high c.requires.2 (omega arith) in
+    let inside : c.loop-i.i < length (all_sets c.args.k) =
+        omega (arith, ap length c.requires.2, length-map (all_sets c.args.k) byte_of) in
+    let loop = c.loop-i in 
     let a = c.args in
     let asks = c.requires.0 in
-    let few : c.loop-i.i ≤ 255 = omega (arith, inside c.before.before.before.before.before.before.before.before, all-length a.k, subsets-few a.k asks.bounds.messages-high) in
-    (asks.bounds.messages-high, asks.message, (stands_here c.before.before.before.before.before.before.before.before).0, c.loop-i.invariant.1, (λ j h. omega (arith, c.loop-i.invariant.2 j h)))
+    let few : c.loop-i.i ≤ 255 = omega (arith, inside, all-length a.k, subsets-few a.k asks.bounds.messages-high) in
+    (asks.bounds.messages-high, asks.message, (stands_here).0, c.loop-i.invariant.1, (λ j h. omega (arith, c.loop-i.invariant.2 j h)))
 
 pub overflow_add-i : goal.overflow_add-i
 overflow_add-i c = omega arith
@@ -99,17 +145,36 @@ pub loop-i-smaller : goal.loop-i-smaller
 loop-i-smaller c = omega arith
 
 pub loop-i-preserved : goal.loop-i-preserved
-loop-i-preserved c =    let loop = c.loop-i in 
+loop-i-preserved c =    let stands_here : let a = c.args in
+    let byte = get_or a.sets.now c.loop-i.i 0 in
+    Stands a.k byte × (set_in a.k byte ≡ get_or (all_sets a.k) c.loop-i.i []) =
+        let a = c.args in
+        let bounds = c.requires.0.bounds in
+        stands_at a.k c.loop-i.i a.sets.now bounds.messages-low bounds.messages-high c.requires.2 (omega arith) in
+    let inside : c.loop-i.i < length (all_sets c.args.k) =
+        omega (arith, ap length c.requires.2, length-map (all_sets c.args.k) byte_of) in
+    let lent-here : let a = c.args in
+    Lent a.k a.wanted (get_or a.sets.now c.loop-i.i 0) c.counters_of-at.result =
+        let a = c.args in
+        lent a.k a.wanted (get_or a.sets.now c.loop-i.i 0) c.counters_of-at.result c.requires.0.bounds.messages-high
+        (stands_here).0 c.counters_of-at.ensures in
+    let turn-here : let a = c.args in
+    let loop = c.loop-i in 
+    SetTurn a.n a.k a.wanted a.server (get_or a.sets.now c.loop-i.i 0) c.loop-i.i c.counters_of-at.result a.totals.now c.loop-i.counts
+    0 (sets_places a.n a.wanted a.server a.totals.now no_counts (all_sets a.k)) a.out.now c.loop-i.end c.loop-i.out =
+        let loop = c.loop-i in 
+        set-turn (lent-here) c.loop-i.invariant.1 (inside) (stands_here).1 c.loop-i.invariant.3 c.loop-i.invariant.4 in
+    let loop = c.loop-i in 
     let a = c.args in
     let byte = get_or a.sets.now c.loop-i.i 0 in
     let A = set_in a.k byte in
-    let t = turn-here c.before.before.before.before.before.before.before.before in
+    let t = turn-here in
     let next = c.count_set.ensures in
     let written = c.write_set-end.ensures in (
       omega arith,
       ap length next
           ∙ counted-length a.k a.wanted c.requires.0.bounds.messages-high A c.loop-i.counts
-          (stands_set a.k byte (stands_here c.before.before.before.before.before.before.before.before.before.before).0) c.loop-i.invariant.1,
+          (stands_set a.k byte (stands_here).0) c.loop-i.invariant.1,
       rw (next, add-one c.loop-i.i) (counted-below (suc c.loop-i.i) a.wanted A c.loop-i.counts c.loop-i.invariant.2),
       rw next t.rest-small,
       pending-as c.write_set-end.ensures.0

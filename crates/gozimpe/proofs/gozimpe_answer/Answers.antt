@@ -8,21 +8,19 @@ use Rattle.gozimpe.proofs.gozimpe_answer.Goals as goal
 pub returns-in-Refused : goal.returns-in-Refused
 returns-in-Refused c =    let a = c.args in
     let from = c.read-reading in 
-    let told = c.verdict-1.given in
     let did = text-refused a.catalogue.now c.read-reading.result c.read-reading.ensures (day_of a.year a.month a.day)
-    a.mirror a.store.now a.request.now a.answer.now told.0.0 told.1 in
+    a.mirror a.store.now a.request.now a.answer.now c.in-Refused.fault c.in-Refused.is in
     record {
-      value = to_z-of_z (record { sfits = c.minus.type-inv }) ∙ c.minus.ensures ∙ ap signed did.outcome;
+      value = to_z-of_z (record { sfits = c.minus.type_inv }) ∙ c.minus.ensures ∙ ap signed did.outcome;
       answer_after = did.buffer;
     }
 
 pub plus-requires : goal.plus-requires
 plus-requires c =    let a = c.args in
     let asked = c.answer-outcome in 
-    let told = c.outcome-1.given in
     let value = c.read-reading.result.catalogue in
     answer-small value (day_of a.year a.month a.day) a.mirror a.store.now a.request.now a.answer.now
-    c.answer-outcome.result told.0.0 c.answer-outcome.ensures.outcome told.1
+    c.answer-outcome.result c.in-Value.length c.answer-outcome.ensures.outcome c.in-Value.is
 
 pub returns-in-Value : goal.returns-in-Value
 returns-in-Value c =    let a = c.args in
@@ -32,7 +30,7 @@ returns-in-Value c =    let a = c.args in
     a.mirror a.store.now a.request.now a.answer.now
     c.in_default.is c.answer-outcome.result _ c.answer-outcome.ensures in
     record {
-      value = to_z-of_z (record { sfits = c.plus.type-inv }) ∙ c.plus.ensures ∙ ap signed (sym c.in-Value.is ∙ did.outcome);
+      value = to_z-of_z (record { sfits = c.plus.type_inv }) ∙ c.plus.ensures ∙ ap signed (sym c.in-Value.is ∙ did.outcome);
       answer_after = did.buffer;
     }
 
@@ -44,6 +42,6 @@ returns-in-Refused-outcome c =    let a = c.args in
     a.mirror a.store.now a.request.now a.answer.now
     c.in_default.is c.answer-outcome.result _ c.answer-outcome.ensures in
     record {
-      value = to_z-of_z (record { sfits = c.minus-in-Refused-outcome.type-inv }) ∙ c.minus-in-Refused-outcome.ensures ∙ ap signed (sym c.in-Refused-outcome.is ∙ did.outcome);
+      value = to_z-of_z (record { sfits = c.minus-in-Refused-outcome.type_inv }) ∙ c.minus-in-Refused-outcome.ensures ∙ ap signed (sym c.in-Refused-outcome.is ∙ did.outcome);
       answer_after = did.buffer;
     }

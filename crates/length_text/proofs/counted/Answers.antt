@@ -11,13 +11,6 @@ use Rattle.length_text.specs.LengthLines.{length_name, length_digits}
 use Rattle.length_text.proofs.Keeping.{taken-first, taken_more, taken-past, taken_refused, taken-all}
 use Rattle.length_text.proofs.counted.Goals as goal
 
--- the line that was taken apart
-line-is : (c : goal.In-Value-2)
-    → let a = c.args in
-    number_line length_digits length_name a.text.now c.loop-i.next
-    ≡ Value c.in-Value.value c.in-Value.end
-line-is c = sym c.number_line.ensures ∙ c.in-Value.is
-
 pub loop-i-init : goal.loop-i-init
 loop-i-init c = let a = c.args in (omega arith, taken-first a.count a.text.now a.at)
 
@@ -32,16 +25,24 @@ returns-in_default c =    let a = c.args in
     (sym c.number_line.ensures ∙ c.in_default.is))
 
 pub overflow_cast-places : goal.overflow_cast-places
-overflow_cast-places c =    let r = line_read length_digits length_name _ _ _ _ (line-is c.before.before) in
+overflow_cast-places c =    let line-is : let a = c.args in
+    number_line length_digits length_name a.text.now c.loop-i.next
+    ≡ Value c.in-Value.value c.in-Value.end =
+        sym c.number_line.ensures ∙ c.in-Value.is in
+    let r = line_read length_digits length_name _ _ _ _ (line-is) in
     omega (arith, r.below)
 
 pub loop-i-preserved : goal.loop-i-preserved
-loop-i-preserved c =    let a = c.args in
+loop-i-preserved c =    let line-is : let a = c.args in
+    number_line length_digits length_name a.text.now c.loop-i.next
+    ≡ Value c.in-Value.value c.in-Value.end =
+        sym c.number_line.ensures ∙ c.in-Value.is in
+    let a = c.args in
     let n = c.in-Value.value in
     let loop = c.loop-i in 
     let more =
     taken_more a.count a.text.now a.at c.loop-i.i c.loop-i.next c.loop-i.places c.loop-i.invariant.1 n c.in-Value.end
-    (omega arith) (line-is c.before.before) in
+    (omega arith) (line-is) in
     let places-are : c.if-i-lt32.places ≡ set c.loop-i.places c.loop-i.i n =
     ⊎_elim
     (λ came. came.1)

@@ -14,14 +14,6 @@ use Rattle.length_text.specs.LengthLines.{length_name, length_text}
 use Rattle.length_text.proofs.Texts.{length_more, numbers-front}
 use Rattle.length_text.proofs.lengths_length.Goals as goal
 
--- the line that was counted: its number has at most ten digits
-line-most : (c : goal.After-line_length-total)
-    → c.line_length-total.result ≤ 18
-line-most c =
-    let n = get_or c.args.l.places c.loop-i.i 0 in
-    let word : Fits w32 n = search rules in
-    omega (arith, c.line_length-total.ensures, number-text-most length_name 9 n (omega (arith, word)))
-
 pub loop-i-init : goal.loop-i-init
 unfolding length_text
 loop-i-init c = (omega arith, c.line_count-lines.ensures.upper_bound, refl, omega arith)
@@ -30,10 +22,18 @@ pub bounds-places-i : goal.bounds-places-i
 bounds-places-i c = omega arith
 
 pub overflow_add-total : goal.overflow_add-total
-overflow_add-total c = let most = line-most c in omega arith
+overflow_add-total c =    let line-most : c.line_length-total.result ≤ 18 =
+        let n = get_or c.args.l.places c.loop-i.i 0 in
+        let word : Fits w32 n = search rules in
+        omega (arith, c.line_length-total.ensures, number-text-most length_name 9 n (omega (arith, word))) in
+    let most = line-most in omega arith
 
 pub loop-i-preserved : goal.loop-i-preserved
-loop-i-preserved c =    let most = line-most c in
+loop-i-preserved c =    let line-most : c.line_length-total.result ≤ 18 =
+        let n = get_or c.args.l.places c.loop-i.i 0 in
+        let word : Fits w32 n = search rules in
+        omega (arith, c.line_length-total.ensures, number-text-most length_name 9 n (omega (arith, word))) in
+    let most = line-most in
     let l = c.args.l in
     let more = length_more l.places c.loop-i.i (omega (arith, places-long l _ c.well_formed.0)) in
     (omega arith, c.loop-i.invariant.1, omega (arith, more, c.line_length-total.ensures), omega arith)

@@ -11,8 +11,8 @@ use Rattle.length_text.proofs.line_count.Goals as goal
 pub returns-then-not-l : goal.returns-then-not-l
 unfolding numbers_of
 returns-then-not-l c = record {
-      value = rw (not-true c.args.l.given c.if-not-l.true) (refl, omega arith);
-      upper_bound = rw (not-true c.args.l.given c.if-not-l.true) (refl, omega arith);
+      value = rw (not-true c.args.l.given c.if-not-l.true) refl;
+      upper_bound = rw (not-true c.args.l.given c.if-not-l.true) omega arith;
     }
 
 pub returns-then-k-gt32 : goal.returns-then-k-gt32

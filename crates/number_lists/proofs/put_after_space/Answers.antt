@@ -10,7 +10,7 @@ use Rattle.number_lists.proofs.put_after_space.Goals as goal
 pub put_decimal-requires : goal.put_decimal-requires
 put_decimal-requires c =    let n = c.args.n in
     let s = byte-length n (omega arith) in
-    let k = c.put_bytes-digits.auto.0 in
+    let k = c.put_bytes-digits.auto.out in
     let e = c.put_bytes-digits.ensures.value in
     omega arith
 

@@ -40,7 +40,7 @@ loop-i-preserved c =    let at = c.loop-i in
     let done = after_spaces (take c.loop-i.i numbers) in
     let l = ap length more ∙ length-append done (after_space n) in
     let e = c.put_after_space-at.ensures.value in
-    let k = c.put_after_space-at.auto.0 in (
+    let k = c.put_after_space-at.auto.out in (
       omega arith,
       omega arith,
       omega arith,

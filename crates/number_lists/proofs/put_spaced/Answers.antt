@@ -34,7 +34,7 @@ pub put_after_spaces-requires : goal.put_after_spaces-requires
 put_after_spaces-requires c =    let a = c.args in
     let b = byte-length (get_or a.numbers.now 0 0) (omega (arith, c.shared_slice_known-2-1.given 0)) in
     let e = c.put_decimal-rest.ensures.value in
-    let k = c.put_decimal-rest.auto.0 in
+    let k = c.put_decimal-rest.auto.out in
     simp (length-take, length-drop) (omega arith)
 
 pub returns : goal.returns

@@ -20,28 +20,28 @@ use Rattle.number_lists.proofs.Scanning.{scanned-list}
 use Rattle.printing.proofs.put_checked.Goals as goal
 
 -- what is known of the key, and of the part of the blank places that is lent for it
-module _ (from : goal.Start) (zeros : List ℕ) (blank : zeros ≡ blank_places) where
+module _ (from : tie.Start) (zeros : List ℕ) (blank : zeros ≡ blank_places) where
   abbrev numbers : List ℕ
-  numbers = list_of (numbers_at c.args.text.now c.args.at)
+  numbers = list_of (numbers_at from.args.text.now from.args.at)
 
-  found : (length numbers ≡ c.args.count) × (all_below 256 numbers ≡ true)
-  found = scanned-list (numbers_at c.args.text.now c.args.at) c.args.count true c.requires.at_value
+  found : (length numbers ≡ from.args.count) × (all_below 256 numbers ≡ true)
+  found = scanned-list (numbers_at from.args.text.now from.args.at) from.args.count true from.pre.1.0
 
-  checked : Checked scheme_of c.args.c c.args.wanted c.args.count
-  checked = (check-passed scheme_of c.args.c c.args.wanted c.args.count true c.requires.true_value).0
+  checked : Checked scheme_of from.args.c from.args.wanted from.args.count
+  checked = (check-passed scheme_of from.args.c from.args.wanted from.args.count true from.pre.0).0
 
-  fits : c.args.count ≤ length zeros
+  fits : from.args.count ≤ length zeros
   fits =
       let due = checked.long in
-      let f = key_fits c.args.c checked.admitted in
+      let f = key_fits from.args.c checked.admitted in
       omega (arith, ap length blank ∙ places-many)
 
-  part_length : length (take c.args.count zeros) ≡ c.args.count
-  part_length = length-take-le c.args.count zeros fits
+  part_length : length (take from.args.count zeros) ≡ from.args.count
+  part_length = length-take-le from.args.count zeros fits
 
   -- the part that was lent, as it was left
-  part-is : (lent : List ℕ) → lent ≡ numbers → take c.args.count (lent ++ drop c.args.count zeros) ≡ numbers
-  part-is lent left = take_at lent (drop c.args.count zeros) c.args.count (ap length left ∙ found.0) ∙ left
+  part-is : (lent : List ℕ) → lent ≡ numbers → take from.args.count (lent ++ drop from.args.count zeros) ≡ numbers
+  part-is lent left = take_at lent (drop from.args.count zeros) from.args.count (ap length left ∙ found.0) ∙ left
 
 pub slice_bounds-places-end : goal.slice_bounds-places-end
 slice_bounds-places-end c = fits c.before.before.before c.zeros-places.result c.zeros-places.ensures

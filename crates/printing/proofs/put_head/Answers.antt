@@ -9,15 +9,15 @@ use Rattle.printing.proofs.put_head.Goals as goal
 
 pub put_decimal-name-requires : goal.put_decimal-name-requires
 put_decimal-name-requires c =    let s = length_most 1 c.args.server (omega arith) in
-    let k = c.put_bytes-number.auto.0 in
+    let k = c.put_bytes-number.auto.out in
     let e = c.put_bytes-number.ensures.value in
     omega arith
 
 pub put_bytes-requires : goal.put_bytes-requires
 put_bytes-requires c =    let s = length_most 1 c.args.server (omega arith) in
-    let k = c.put_bytes-number.auto.0 in
+    let k = c.put_bytes-number.auto.out in
     let e = c.put_bytes-number.ensures.value in
-    let l = c.put_decimal-name.auto.0 in
+    let l = c.put_decimal-name.auto.out in
     let f = c.put_decimal-name.ensures.value in
     omega arith
 

@@ -11,13 +11,6 @@ use Rattle.printing.proofs.Answers.{Checked, answer-bad-key, answer-queries}
 use Rattle.printing.proofs.Parts.{written_as}
 use Rattle.printing.proofs.put_keyed.Goals as goal
 
--- begin accepts a key whose entries are good
-accepted : (from : goal.Start) → (scheme_of c.args.c).key_good c.args.key.now ≡ true
-    → begin_verdict scheme_of c.args.c c.args.wanted c.args.key.now ≡ Accepted
-accepted from good =
-    begin-accepted scheme_of c.args.c c.args.wanted c.args.key.now
-    (record { admitted = c.requires.admitted.0; inside = c.requires.admitted.1; valid = record { long = c.requires.key_len.0; good = good } })
-
 pub returns-then-not-key_good : goal.returns-then-not-key_good
 returns-then-not-key_good c =    let a = c.args in
     let bad = sym c.key_good.ensures ∙ not-true _ c.if-not-key_good.true-raw in
@@ -26,14 +19,22 @@ returns-then-not-key_good c =    let a = c.args in
     written_as _ _ a.out.now _ _ (answer-bad-key scheme_of a.c a.wanted a.key.now checked bad) c.put_refusal.ensures
 
 pub put_queries-requires : goal.put_queries-requires
-put_queries-requires c =    let good = sym c.key_good.ensures ∙ not-false _ c.if-not-key_good.false-raw in
+put_queries-requires c =    let accepted : (scheme_of c.args.c).key_good c.args.key.now ≡ true
+    → begin_verdict scheme_of c.args.c c.args.wanted c.args.key.now ≡ Accepted =
+        λ good. begin-accepted scheme_of c.args.c c.args.wanted c.args.key.now
+        (record { admitted = c.requires.admitted.0; inside = c.requires.admitted.1; valid = record { long = c.requires.key_len.0; good = good } }) in
+    let good = sym c.key_good.ensures ∙ not-false _ c.if-not-key_good.false-raw in
     record {
-      key_value = accepted c.before.before.before.before.before good;
+      key_value = accepted good;
       size_value = c.requires.size_value;
     }
 
 pub returns : goal.returns
-returns c =    let a = c.args in
+returns c =    let accepted : (scheme_of c.args.c).key_good c.args.key.now ≡ true
+    → begin_verdict scheme_of c.args.c c.args.wanted c.args.key.now ≡ Accepted =
+        λ good. begin-accepted scheme_of c.args.c c.args.wanted c.args.key.now
+        (record { admitted = c.requires.admitted.0; inside = c.requires.admitted.1; valid = record { long = c.requires.key_len.0; good = good } }) in
+    let a = c.args in
     let good = sym c.key_good.ensures ∙ not-false _ c.if-not-key_good.false-raw in
-    let e = answer-queries scheme_of a.c a.wanted a.key.now (accepted c.before.before.before.before.before.before.before.before good) c.requires.key_len.1 in
+    let e = answer-queries scheme_of a.c a.wanted a.key.now (accepted good) c.requires.key_len.1 in
     written_as _ _ a.out.now _ _ e c.put_queries.ensures

@@ -14,16 +14,16 @@ pub put_spaced-end-requires : goal.put_spaced-end-requires
 put_spaced-end-requires c =    let s = length_most 1 c.args.server (omega arith) in
     let l = head-length c.args.server in
     let e = c.put_head-first.ensures.value in
-    let k = c.put_head-first.auto.0 in
+    let k = c.put_head-first.auto.out in
     omega arith
 
 pub put_bytes-requires : goal.put_bytes-requires
 put_bytes-requires c =    let s = length_most 1 c.args.server (omega arith) in
     let l = head-length c.args.server in
     let e = c.put_head-first.ensures.value in
-    let k = c.put_head-first.auto.0 in
+    let k = c.put_head-first.auto.out in
     let f = c.put_spaced-end.ensures.upper_bound in
-    let m = c.put_spaced-end.auto.0 in
+    let m = c.put_spaced-end.auto.out in
     omega arith
 
 pub returns : goal.returns

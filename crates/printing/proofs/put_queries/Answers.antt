@@ -76,7 +76,7 @@ loop-server-preserved c =    let a = c.args in
     let l = ap length more ∙ length-append (lines_to scheme_of ask c.loop-server.server) line in
     let e = c.put_query-at.ensures.value in
     let f = c.put_query-at.ensures.upper_bound in
-    let k = c.put_query-at.auto.0 in
+    let k = c.put_query-at.auto.out in
     let i = c.loop-server.invariant in
     let long = 19 + 4 * a.size in
     let next : (c.loop-server.server + 1) * long ≡ c.loop-server.server * long + long = rw (add-one) (suc-mul c.loop-server.server long) in

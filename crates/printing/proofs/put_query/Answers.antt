@@ -17,40 +17,40 @@ use Rattle.printing.proofs.Room.{places-many, query-fits}
 use Rattle.printing.proofs.put_query.Goals as goal
 
 -- what is known of the query, and of the part of the blank places that is lent for it
-module _ (from : goal.Start) (zeros : List ℕ) (blank : zeros ≡ blank_places) where
+module _ (from : tie.Start) (zeros : List ℕ) (blank : zeros ≡ blank_places) where
   abbrev query : List ℕ
-  query = (scheme_of c.args.c).query c.args.wanted c.args.server c.args.key.now
+  query = (scheme_of from.args.c).query from.args.wanted from.args.server from.args.key.now
 
-  begun : Begins scheme_of c.args.c c.args.wanted c.args.key.now
-  begun = begin-passed scheme_of c.args.c c.args.wanted c.args.key.now c.requires.key_value
+  begun : Begins scheme_of from.args.c from.args.wanted from.args.key.now
+  begun = begin-passed scheme_of from.args.c from.args.wanted from.args.key.now from.pre.0
 
-  fits : c.args.size ≤ length zeros
+  fits : from.args.size ≤ length zeros
   fits =
-      let f = query-fits c.args.c begun.admitted in
-      let due = c.requires.server_lt_servers.1 in
+      let f = query-fits from.args.c begun.admitted in
+      let due = from.pre.1.0.1 in
       omega (arith, ap length blank ∙ places-many)
 
-  part_length : length (take c.args.size zeros) ≡ c.args.size
-  part_length = length-take-le c.args.size zeros fits
+  part_length : length (take from.args.size zeros) ≡ from.args.size
+  part_length = length-take-le from.args.size zeros fits
 
-  query-length : length query ≡ c.args.size
+  query-length : length query ≡ from.args.size
   query-length =
-      (promises c.args.c begun.admitted).query-length
-      c.args.wanted c.args.server c.args.key.now begun.inside c.requires.server_lt_servers.0 begun.valid
-      ∙ sym c.requires.server_lt_servers.1
+      (promises from.args.c begun.admitted).query-length
+      from.args.wanted from.args.server from.args.key.now begun.inside from.pre.1.0.0 begun.valid
+      ∙ sym from.pre.1.0.1
 
   -- the part that was lent, as the code left it
-  module _ (lent : List ℕ) (left : lent ≡ put 0 query (take c.args.size zeros)) where
+  module _ (lent : List ℕ) (left : lent ≡ put 0 query (take from.args.size zeros)) where
     lent_is : lent ≡ query
-    lent_is = left ∙ put_whole query (take c.args.size zeros) (query-length ∙ sym part_length)
+    lent_is = left ∙ put_whole query (take from.args.size zeros) (query-length ∙ sym part_length)
 
-    lent_length : length lent ≡ c.args.size
+    lent_length : length lent ≡ from.args.size
     lent_length = ap length lent_is ∙ query-length
 
-    part-is : take c.args.size (lent ++ drop c.args.size zeros) ≡ query
-    part-is = take_at lent (drop c.args.size zeros) c.args.size lent_length ∙ lent_is
+    part-is : take from.args.size (lent ++ drop from.args.size zeros) ≡ query
+    part-is = take_at lent (drop from.args.size zeros) from.args.size lent_length ∙ lent_is
 
-    filled-length : length (take c.args.size (lent ++ drop c.args.size zeros)) ≡ c.args.size
+    filled-length : length (take from.args.size (lent ++ drop from.args.size zeros)) ≡ from.args.size
     filled-length = ap length part-is ∙ query-length
 
 pub slice_bounds-query-end : goal.slice_bounds-query-end

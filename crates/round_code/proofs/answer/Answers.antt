@@ -25,9 +25,6 @@ use Rattle.round_code.proofs.Fits.{fits-numbers, blocks-fit, rows-small}
 use Rattle.round_code.proofs.RowParts.{row-lent}
 use Rattle.round_code.proofs.answer.Goals as goal
 
-numbers : (c : goal.Start) → RoundNumbers c.args.n c.args.k
-numbers c = fits-numbers c.args.n c.args.k c.args.s c.requires.s_value
-
 -- as many symbols as a message has
 symbols-small : (N K i : ℕ) → RoundNumbers N K → i ≤ blocks N K → i * (N - 1) ≤ 64 * 15
 symbols-small N K i b h =
@@ -36,15 +33,15 @@ symbols-small N K i b h =
     mul-le-mul few short
 
 -- the row of a turn
-module _ (c : goal.In-loop-i) where
+module _ (c : tie.In-loop invariant-loop decreases-loop) where
   abbrev start : tie.Start invariant-loop decreases-loop
   start = c.before.before.before.before.before.before
 
   abbrev i : ℕ
-  i = c.loop-i.i
+  i = c.before.loop.i
 
   low : i < blocks start.args.n start.args.k
-  low = omega (arith, c.power-v.ensures)
+  low = omega (arith, c.before.before.power.ensures)
 
   digits-inside : (i * start.args.k + start.args.k ≤ length start.args.query.now) × (i * start.args.k ≤ 64 * 7)
   digits-inside =
@@ -54,33 +51,47 @@ module _ (c : goal.In-loop-i) where
       )
 
 pub overflow_sub-k : goal.overflow_sub-k
-overflow_sub-k c = omega (arith, (numbers c.before.before.before).messages-low)
+overflow_sub-k c =    let numbers : RoundNumbers c.args.n c.args.k =
+        fits-numbers c.args.n c.args.k c.args.s c.requires.s_value in
+    omega (arith, (numbers).messages-low)
 
 pub power-v-requires : goal.power-v-requires
-power-v-requires c = blocks-fit c.args.n c.args.k (numbers c.before.before.before)
+power-v-requires c =    let numbers : RoundNumbers c.args.n c.args.k =
+        fits-numbers c.args.n c.args.k c.args.s c.requires.s_value in
+    blocks-fit c.args.n c.args.k (numbers)
 
 pub overflow_sub-stride : goal.overflow_sub-stride
-overflow_sub-stride c = omega (arith, (numbers c.before.before.before.before).servers-low)
+overflow_sub-stride c =    let numbers : RoundNumbers c.args.n c.args.k =
+        fits-numbers c.args.n c.args.k c.args.s c.requires.s_value in
+    omega (arith, (numbers).servers-low)
 
 pub overflow_mul-stride : goal.overflow_mul-stride
-overflow_mul-stride c =    let all : c.power-v.result ≤ blocks c.args.n c.args.k = omega (arith, c.power-v.ensures) in
-    omega (arith, symbols-small c.args.n c.args.k c.power-v.result (numbers c.before.before.before.before) all)
+overflow_mul-stride c =    let numbers : RoundNumbers c.args.n c.args.k =
+        fits-numbers c.args.n c.args.k c.args.s c.requires.s_value in
+    let all : c.power-v.result ≤ blocks c.args.n c.args.k = omega (arith, c.power-v.ensures) in
+    omega (arith, symbols-small c.args.n c.args.k c.power-v.result (numbers) all)
 
 pub loop-i-init : goal.loop-i-init
 unfolding range flat_map
 loop-i-init c =    let a = c.args in (omega arith, sym (before-none a.k a.s a.query.now), refl, refl)
 
 pub overflow_sub-first : goal.overflow_sub-first
-overflow_sub-first c = omega (arith, (numbers (start c)).servers-low)
+overflow_sub-first c =    let numbers : RoundNumbers c.args.n c.args.k =
+        fits-numbers c.args.n c.args.k c.args.s c.requires.s_value in
+    omega (arith, (numbers (start c)).servers-low)
 
 pub overflow_mul-first : goal.overflow_mul-first
-overflow_mul-first c =    let a = (start c).args in omega (arith, symbols-small a.n a.k (i c) (numbers (start c)) (omega (arith, low c)))
+overflow_mul-first c =    let numbers : RoundNumbers c.args.n c.args.k =
+        fits-numbers c.args.n c.args.k c.args.s c.requires.s_value in
+    let a = (start c).args in omega (arith, symbols-small a.n a.k (i c) (numbers (start c)) (omega (arith, low c)))
 
 pub overflow_mul-from : goal.overflow_mul-from
 overflow_mul-from c = omega (arith, (digits-inside c).1)
 
 pub overflow_add-end : goal.overflow_add-end
-overflow_add-end c = omega (arith, (digits-inside c).1, (numbers (start c)).messages-high)
+overflow_add-end c =    let numbers : RoundNumbers c.args.n c.args.k =
+        fits-numbers c.args.n c.args.k c.args.s c.requires.s_value in
+    omega (arith, (digits-inside c).1, (numbers (start c)).messages-high)
 
 pub slice_bounds-answer_row-count : goal.slice_bounds-answer_row-count
 slice_bounds-answer_row-count c = omega arith

@@ -13,39 +13,45 @@ use Rattle.round_code.specs.Steps.{RoundNumbers}
 use Rattle.round_code.proofs.Fits.{fits-numbers, blocks-some, slot_small}
 use Rattle.round_code.proofs.expected_length.Goals as goal
 
-numbers : (c : goal.Start) → RoundNumbers c.args.n c.args.k
-numbers c = fits-numbers c.args.n c.args.k c.args.s c.requires.s_value
-
-all : (c : goal.Start) → Permutation (blocks c.args.n c.args.k) c.args.key.now
-all c = permutation-facts (blocks c.args.n c.args.k) c.args.key.now c.requires.key_value
-
-small : (c : goal.Start) (i : ℕ) → i ≤ length c.args.key.now → i * c.args.s ≤ 64 * 4096
+small : (c : tie.Start) (i : ℕ) → i ≤ length c.args.key.now → i * c.args.s ≤ 64 * 4096
 small c i h =
     let a = c.args in
-    slot_small a.n a.k (numbers c) a.s i (round-bounds a.n a.k a.s c.requires.s_value).symbol_high (omega (arith, (all c).long))
+    slot_small a.n a.k (numbers c) a.s i (round-bounds a.n a.k a.s c.requires.0).symbol_high (omega (arith, (all c).long))
 
 pub overflow_sub-result : goal.overflow_sub-result
-overflow_sub-result c =    omega (arith, (all c.before).long, blocks-some c.args.n c.args.k (numbers c.before))
+overflow_sub-result c =    let numbers : RoundNumbers c.args.n c.args.k =
+        fits-numbers c.args.n c.args.k c.args.s c.requires.s_value in
+    let all : Permutation (blocks c.args.n c.args.k) c.args.key.now =
+        permutation-facts (blocks c.args.n c.args.k) c.args.key.now c.requires.key_value in
+    omega (arith, (all).long, blocks-some c.args.n c.args.k (numbers))
 
 pub overflow_mul-result : goal.overflow_mul-result
 overflow_mul-result c =    record { fits = omega (arith, small c.before (length c.args.key.now - 1) (omega arith)) }
 
 pub returns-then-server-eq0 : goal.returns-then-server-eq0
-returns-then-server-eq0 c =    let a = c.args in
+returns-then-server-eq0 c =    let numbers : RoundNumbers c.args.n c.args.k =
+        fits-numbers c.args.n c.args.k c.args.s c.requires.s_value in
+    let all : Permutation (blocks c.args.n c.args.k) c.args.key.now =
+        permutation-facts (blocks c.args.n c.args.k) c.args.key.now c.requires.key_value in
+    let a = c.args in
     let key = a.key.now in
-    let some : 0 < a.n = omega (arith, (numbers c.before).servers-low) in
-    ap (λ (v : ℕ). (v - 1) * a.s) (all c.before).long
-    ∙ sym (first-sent a.n a.k a.s a.wanted some c.requires.wanted_lt_k.0 key (all c.before))
+    let some : 0 < a.n = omega (arith, (numbers).servers-low) in
+    ap (λ (v : ℕ). (v - 1) * a.s) (all).long
+    ∙ sym (first-sent a.n a.k a.s a.wanted some c.requires.wanted_lt_k.0 key (all))
     ∙ ap (λ (n : ℕ). length_before a.k a.s (round_query a.n a.k a.wanted n key) (blocks a.n a.k)) (sym c.if-server-eq0.true)
 
 pub overflow_mul-result-2 : goal.overflow_mul-result-2
 overflow_mul-result-2 c =    record { fits = omega (arith, small c.before (length c.args.key.now) (omega arith)) }
 
 pub returns : goal.returns
-returns c =    let a = c.args in
+returns c =    let numbers : RoundNumbers c.args.n c.args.k =
+        fits-numbers c.args.n c.args.k c.args.s c.requires.s_value in
+    let all : Permutation (blocks c.args.n c.args.k) c.args.key.now =
+        permutation-facts (blocks c.args.n c.args.k) c.args.key.now c.requires.key_value in
+    let a = c.args in
     let key = a.key.now in
-    let some : 0 < a.n = omega (arith, (numbers c.before).servers-low) in
+    let some : 0 < a.n = omega (arith, (numbers).servers-low) in
     let other : 0 < a.server = omega (arith, c.if-server-eq0.false) in
-    let admitted = query-admitted a.n a.k some key (all c.before) a.wanted a.server c.requires.wanted_lt_k.0 c.requires.wanted_lt_k.1 in
-    ap (λ (v : ℕ). v * a.s) (all c.before).long
+    let admitted = query-admitted a.n a.k some key (all) a.wanted a.server c.requires.wanted_lt_k.0 c.requires.wanted_lt_k.1 in
+    ap (λ (v : ℕ). v * a.s) (all).long
     ∙ sym (other_length a.n a.k a.s a.server (round_query a.n a.k a.wanted a.server key) admitted other)

@@ -28,24 +28,8 @@ record Where (n k message symbol : ℕ) : Type 0 where
   pub place : symbol / (n - 1) * k + message < blocks n k * k
   pub few : symbol / (n - 1) ≤ 64
 
-found : (c : goal.Start) → let a = c.args in Where a.n a.k a.message a.symbol
-found c =
-    let a = c.args in
-    let b = round-bounds a.n a.k a.s c.requires.s_value in
-    let some : 0 < a.n - 1 = omega (arith, b.servers-low) in
-    let whole : a.symbol / (a.n - 1) * (a.n - 1) + a.symbol % (a.n - 1) ≡ a.symbol = div-add-mod' a.symbol (a.n - 1) in
-    let block : a.symbol / (a.n - 1) < blocks a.n a.k = (div-lt_iff_lt-mul some).1 c.requires.message_lt_k.1 in
-    record {
-      divisor = some;
-      whole = whole;
-      digit = mod-lt a.symbol some;
-      block = block;
-      place = omega (arith, slot-end (a.symbol / (a.n - 1)) (blocks a.n a.k) a.k block, c.requires);
-      few = omega (arith, block, b.blocks-high);
-    }
-
 -- what the digit tells
-told : (c : goal.Start) (t : Bool) → let a = c.args in
+told : (c : tie.Start) (t : Bool) → let a = c.args in
     eqb (get_or a.query.now (a.symbol / (a.n - 1) * a.k + a.message) 0) (suc (a.symbol % (a.n - 1))) ≡ t
     → place_naming a.s a.message a.symbol (block_rows a.n a.k a.query.now)
     ≡ cond t (At (length_before a.k a.s a.query.now (a.symbol / (a.n - 1)))) Nowhere
@@ -58,37 +42,149 @@ told c t e =
     let d = a.symbol % (a.n - 1) in
     let at = At (length_before a.k a.s query b) in
     ap (λ (y : ℕ). place_naming a.s a.message y (block_rows a.n a.k query)) (sym f.whole)
-    ∙ round-located a.n a.k a.s query c.requires.digit_rows.rows (omega (arith, f.divisor)) a.message b d f.block f.digit
-    ∙ ap (λ (x : ℕ). cond (eqb x (suc d)) at Nowhere) (cut_at (b * a.k) a.k a.message query c.requires.message_lt_k.0)
+    ∙ round-located a.n a.k a.s query c.requires.1.0.rows (omega (arith, f.divisor)) a.message b d f.block f.digit
+    ∙ ap (λ (x : ℕ). cond (eqb x (suc d)) at Nowhere) (cut_at (b * a.k) a.k a.message query c.requires.1.1.0)
     ∙ ap (λ (u : Bool). cond u at Nowhere) e
 
 pub overflow_sub-block : goal.overflow_sub-block
-overflow_sub-block c = let f = found c.before in omega (arith, f.divisor)
+overflow_sub-block c =    let found : let a = c.args in Where a.n a.k a.message a.symbol =
+        let a = c.args in
+        let b = round-bounds a.n a.k a.s c.requires.s_value in
+        let some : 0 < a.n - 1 = omega (arith, b.servers-low) in
+        let whole : a.symbol / (a.n - 1) * (a.n - 1) + a.symbol % (a.n - 1) ≡ a.symbol = div-add-mod' a.symbol (a.n - 1) in
+        let block : a.symbol / (a.n - 1) < blocks a.n a.k = (div-lt_iff_lt-mul some).1 c.requires.message_lt_k.1 in
+        record {
+          divisor = some;
+          whole = whole;
+          digit = mod-lt a.symbol some;
+          block = block;
+          place = omega (arith, slot-end (a.symbol / (a.n - 1)) (blocks a.n a.k) a.k block, c.requires);
+          few = omega (arith, block, b.blocks-high);
+        } in
+    let f = found in omega (arith, f.divisor)
 
 pub nonzero_div-block : goal.nonzero_div-block
-nonzero_div-block c = let f = found c.before in omega (arith, f.divisor)
+nonzero_div-block c =    let found : let a = c.args in Where a.n a.k a.message a.symbol =
+        let a = c.args in
+        let b = round-bounds a.n a.k a.s c.requires.s_value in
+        let some : 0 < a.n - 1 = omega (arith, b.servers-low) in
+        let whole : a.symbol / (a.n - 1) * (a.n - 1) + a.symbol % (a.n - 1) ≡ a.symbol = div-add-mod' a.symbol (a.n - 1) in
+        let block : a.symbol / (a.n - 1) < blocks a.n a.k = (div-lt_iff_lt-mul some).1 c.requires.message_lt_k.1 in
+        record {
+          divisor = some;
+          whole = whole;
+          digit = mod-lt a.symbol some;
+          block = block;
+          place = omega (arith, slot-end (a.symbol / (a.n - 1)) (blocks a.n a.k) a.k block, c.requires);
+          few = omega (arith, block, b.blocks-high);
+        } in
+    let f = found in omega (arith, f.divisor)
 
 pub overflow_mul-digit : goal.overflow_mul-digit
-overflow_mul-digit c = let f = found c.before in omega (arith, f.place, c.requires.digit_rows.long)
+overflow_mul-digit c =    let found : let a = c.args in Where a.n a.k a.message a.symbol =
+        let a = c.args in
+        let b = round-bounds a.n a.k a.s c.requires.s_value in
+        let some : 0 < a.n - 1 = omega (arith, b.servers-low) in
+        let whole : a.symbol / (a.n - 1) * (a.n - 1) + a.symbol % (a.n - 1) ≡ a.symbol = div-add-mod' a.symbol (a.n - 1) in
+        let block : a.symbol / (a.n - 1) < blocks a.n a.k = (div-lt_iff_lt-mul some).1 c.requires.message_lt_k.1 in
+        record {
+          divisor = some;
+          whole = whole;
+          digit = mod-lt a.symbol some;
+          block = block;
+          place = omega (arith, slot-end (a.symbol / (a.n - 1)) (blocks a.n a.k) a.k block, c.requires);
+          few = omega (arith, block, b.blocks-high);
+        } in
+    let f = found in omega (arith, f.place, c.requires.digit_rows.long)
 
 pub overflow_add-digit : goal.overflow_add-digit
-overflow_add-digit c = let f = found c.before in omega (arith, f.place, c.requires.digit_rows.long)
+overflow_add-digit c =    let found : let a = c.args in Where a.n a.k a.message a.symbol =
+        let a = c.args in
+        let b = round-bounds a.n a.k a.s c.requires.s_value in
+        let some : 0 < a.n - 1 = omega (arith, b.servers-low) in
+        let whole : a.symbol / (a.n - 1) * (a.n - 1) + a.symbol % (a.n - 1) ≡ a.symbol = div-add-mod' a.symbol (a.n - 1) in
+        let block : a.symbol / (a.n - 1) < blocks a.n a.k = (div-lt_iff_lt-mul some).1 c.requires.message_lt_k.1 in
+        record {
+          divisor = some;
+          whole = whole;
+          digit = mod-lt a.symbol some;
+          block = block;
+          place = omega (arith, slot-end (a.symbol / (a.n - 1)) (blocks a.n a.k) a.k block, c.requires);
+          few = omega (arith, block, b.blocks-high);
+        } in
+    let f = found in omega (arith, f.place, c.requires.digit_rows.long)
 
 pub bounds-query-block : goal.bounds-query-block
-bounds-query-block c = let f = found c.before.before in omega (arith, f.place, c.requires.digit_rows.long)
+bounds-query-block c =    let found : let a = c.args in Where a.n a.k a.message a.symbol =
+        let a = c.args in
+        let b = round-bounds a.n a.k a.s c.requires.s_value in
+        let some : 0 < a.n - 1 = omega (arith, b.servers-low) in
+        let whole : a.symbol / (a.n - 1) * (a.n - 1) + a.symbol % (a.n - 1) ≡ a.symbol = div-add-mod' a.symbol (a.n - 1) in
+        let block : a.symbol / (a.n - 1) < blocks a.n a.k = (div-lt_iff_lt-mul some).1 c.requires.message_lt_k.1 in
+        record {
+          divisor = some;
+          whole = whole;
+          digit = mod-lt a.symbol some;
+          block = block;
+          place = omega (arith, slot-end (a.symbol / (a.n - 1)) (blocks a.n a.k) a.k block, c.requires);
+          few = omega (arith, block, b.blocks-high);
+        } in
+    let f = found in omega (arith, f.place, c.requires.digit_rows.long)
 
 pub overflow_cast-digit : goal.overflow_cast-digit
 overflow_cast-digit c =    let a = c.args in
     omega (arith, c.shared_slice_known-2-1.given (a.symbol / (a.n - 1) * a.k + a.message))
 
 pub overflow_sub-n : goal.overflow_sub-n
-overflow_sub-n c = let f = found c.before.before in omega (arith, f.divisor)
+overflow_sub-n c =    let found : let a = c.args in Where a.n a.k a.message a.symbol =
+        let a = c.args in
+        let b = round-bounds a.n a.k a.s c.requires.s_value in
+        let some : 0 < a.n - 1 = omega (arith, b.servers-low) in
+        let whole : a.symbol / (a.n - 1) * (a.n - 1) + a.symbol % (a.n - 1) ≡ a.symbol = div-add-mod' a.symbol (a.n - 1) in
+        let block : a.symbol / (a.n - 1) < blocks a.n a.k = (div-lt_iff_lt-mul some).1 c.requires.message_lt_k.1 in
+        record {
+          divisor = some;
+          whole = whole;
+          digit = mod-lt a.symbol some;
+          block = block;
+          place = omega (arith, slot-end (a.symbol / (a.n - 1)) (blocks a.n a.k) a.k block, c.requires);
+          few = omega (arith, block, b.blocks-high);
+        } in
+    let f = found in omega (arith, f.divisor)
 
 pub nonzero_rem-symbol : goal.nonzero_rem-symbol
-nonzero_rem-symbol c = let f = found c.before.before in omega (arith, f.divisor)
+nonzero_rem-symbol c =    let found : let a = c.args in Where a.n a.k a.message a.symbol =
+        let a = c.args in
+        let b = round-bounds a.n a.k a.s c.requires.s_value in
+        let some : 0 < a.n - 1 = omega (arith, b.servers-low) in
+        let whole : a.symbol / (a.n - 1) * (a.n - 1) + a.symbol % (a.n - 1) ≡ a.symbol = div-add-mod' a.symbol (a.n - 1) in
+        let block : a.symbol / (a.n - 1) < blocks a.n a.k = (div-lt_iff_lt-mul some).1 c.requires.message_lt_k.1 in
+        record {
+          divisor = some;
+          whole = whole;
+          digit = mod-lt a.symbol some;
+          block = block;
+          place = omega (arith, slot-end (a.symbol / (a.n - 1)) (blocks a.n a.k) a.k block, c.requires);
+          few = omega (arith, block, b.blocks-high);
+        } in
+    let f = found in omega (arith, f.divisor)
 
 pub overflow_add-symbol : goal.overflow_add-symbol
-overflow_add-symbol c =    let f = found c.before.before in
+overflow_add-symbol c =    let found : let a = c.args in Where a.n a.k a.message a.symbol =
+        let a = c.args in
+        let b = round-bounds a.n a.k a.s c.requires.s_value in
+        let some : 0 < a.n - 1 = omega (arith, b.servers-low) in
+        let whole : a.symbol / (a.n - 1) * (a.n - 1) + a.symbol % (a.n - 1) ≡ a.symbol = div-add-mod' a.symbol (a.n - 1) in
+        let block : a.symbol / (a.n - 1) < blocks a.n a.k = (div-lt_iff_lt-mul some).1 c.requires.message_lt_k.1 in
+        record {
+          divisor = some;
+          whole = whole;
+          digit = mod-lt a.symbol some;
+          block = block;
+          place = omega (arith, slot-end (a.symbol / (a.n - 1)) (blocks a.n a.k) a.k block, c.requires);
+          few = omega (arith, block, b.blocks-high);
+        } in
+    let f = found in
     let b = round-bounds c.args.n c.args.k c.args.s c.requires.s_value in
     omega (arith, f.digit, b.servers-high)
 
@@ -98,8 +194,22 @@ returns-then-digit-symbol c =    let a = c.args in
     sym (told c.before.before.before _ (ne_eqb (get_or a.query.now (a.symbol / (a.n - 1) * a.k + a.message) 0) (suc d) (λ e. c.if-digit-symbol.true (e ∙ sym (add-one d)))))
 
 pub length_before-requires : goal.length_before-requires
-length_before-requires c =    let a = c.args in
-    let f = found c.before.before.before in
+length_before-requires c =    let found : let a = c.args in Where a.n a.k a.message a.symbol =
+        let a = c.args in
+        let b = round-bounds a.n a.k a.s c.requires.s_value in
+        let some : 0 < a.n - 1 = omega (arith, b.servers-low) in
+        let whole : a.symbol / (a.n - 1) * (a.n - 1) + a.symbol % (a.n - 1) ≡ a.symbol = div-add-mod' a.symbol (a.n - 1) in
+        let block : a.symbol / (a.n - 1) < blocks a.n a.k = (div-lt_iff_lt-mul some).1 c.requires.message_lt_k.1 in
+        record {
+          divisor = some;
+          whole = whole;
+          digit = mod-lt a.symbol some;
+          block = block;
+          place = omega (arith, slot-end (a.symbol / (a.n - 1)) (blocks a.n a.k) a.k block, c.requires);
+          few = omega (arith, block, b.blocks-high);
+        } in
+    let a = c.args in
+    let f = found in
     let b = round-bounds a.n a.k a.s c.requires.s_value in
     ((fits-numbers a.n a.k a.s c.requires.s_value).messages-high, b.symbol_high, omega (arith, f.few))
 

@@ -19,28 +19,31 @@ use Rattle.round_code.proofs.Fits.{rows-small}
 use Rattle.round_code.proofs.query.Invariants.{asked}
 use Rattle.round_code.proofs.query.Goals as goal
 
-all : (c : goal.Start) → Permutation (blocks c.args.n c.args.k) c.args.key.now
-all c = permutation-facts (blocks c.args.n c.args.k) c.args.key.now c.requires.key_value
-
--- the row of a turn ends inside `out`, and what the numbers on the way are
-inside : (c : goal.In-loop-i)
-    → let a = c.args in
-    (c.loop-i.i * a.k + a.k ≤ length a.out.now) × (c.loop-i.i * a.k ≤ 64 * 7)
-inside c =
-    let a = c.args in
-    let i = c.loop-i.i in
-    let low : i < blocks a.n a.k = omega (arith, (all c.before.before.before.before).long) in
-    (omega (arith, slot-end i (blocks a.n a.k) a.k low, c.requires.k_in_bounds), rows-small a.n a.k c.requires.round_numbers i (omega arith))
-
 pub loop-i-init : goal.loop-i-init
 unfolding range flat_map
 loop-i-init c = (omega arith, refl, refl)
 
 pub overflow_mul-at : goal.overflow_mul-at
-overflow_mul-at c = omega (arith, (inside c).1)
+overflow_mul-at c =    let all : Permutation (blocks c.args.n c.args.k) c.args.key.now =
+        permutation-facts (blocks c.args.n c.args.k) c.args.key.now c.requires.key_value in
+    let inside : let a = c.args in
+    (c.loop-i.i * a.k + a.k ≤ length a.out.now) × (c.loop-i.i * a.k ≤ 64 * 7) =
+        let a = c.args in
+        let i = c.loop-i.i in
+        let low : i < blocks a.n a.k = omega (arith, (all).long) in
+        (omega (arith, slot-end i (blocks a.n a.k) a.k low, c.requires.k_in_bounds), rows-small a.n a.k c.requires.round_numbers i (omega arith)) in
+    omega (arith, (inside).1)
 
 pub overflow_add-end : goal.overflow_add-end
-overflow_add-end c = omega (arith, (inside c).1, c.requires.round_numbers.messages-high)
+overflow_add-end c =    let all : Permutation (blocks c.args.n c.args.k) c.args.key.now =
+        permutation-facts (blocks c.args.n c.args.k) c.args.key.now c.requires.key_value in
+    let inside : let a = c.args in
+    (c.loop-i.i * a.k + a.k ≤ length a.out.now) × (c.loop-i.i * a.k ≤ 64 * 7) =
+        let a = c.args in
+        let i = c.loop-i.i in
+        let low : i < blocks a.n a.k = omega (arith, (all).long) in
+        (omega (arith, slot-end i (blocks a.n a.k) a.k low, c.requires.k_in_bounds), rows-small a.n a.k c.requires.round_numbers i (omega arith)) in
+    omega (arith, (inside).1, c.requires.round_numbers.messages-high)
 
 pub bounds-key-i : goal.bounds-key-i
 bounds-key-i c = omega arith
@@ -55,17 +58,33 @@ pub slice_bounds-write_row-start : goal.slice_bounds-write_row-start
 slice_bounds-write_row-start c = omega arith
 
 pub slice_bounds-write_row-end : goal.slice_bounds-write_row-end
-slice_bounds-write_row-end c = omega (arith, (inside c.before).0, c.loop-i.invariant.1)
+slice_bounds-write_row-end c =    let all : Permutation (blocks c.args.n c.args.k) c.args.key.now =
+        permutation-facts (blocks c.args.n c.args.k) c.args.key.now c.requires.key_value in
+    let inside : let a = c.args in
+    (c.loop-i.i * a.k + a.k ≤ length a.out.now) × (c.loop-i.i * a.k ≤ 64 * 7) =
+        let a = c.args in
+        let i = c.loop-i.i in
+        let low : i < blocks a.n a.k = omega (arith, (all).long) in
+        (omega (arith, slot-end i (blocks a.n a.k) a.k low, c.requires.k_in_bounds), rows-small a.n a.k c.requires.round_numbers i (omega arith)) in
+    omega (arith, (inside).0, c.loop-i.invariant.1)
 
 pub write_row-requires : goal.write_row-requires
-write_row-requires c =    let a = c.args in
+write_row-requires c =    let all : Permutation (blocks c.args.n c.args.k) c.args.key.now =
+        permutation-facts (blocks c.args.n c.args.k) c.args.key.now c.requires.key_value in
+    let inside : let a = c.args in
+    (c.loop-i.i * a.k + a.k ≤ length a.out.now) × (c.loop-i.i * a.k ≤ 64 * 7) =
+        let a = c.args in
+        let i = c.loop-i.i in
+        let low : i < blocks a.n a.k = omega (arith, (all).long) in
+        (omega (arith, slot-end i (blocks a.n a.k) a.k low, c.requires.k_in_bounds), rows-small a.n a.k c.requires.round_numbers i (omega arith)) in
+    let a = c.args in
     let i = c.loop-i.i in
-    let long = (all c.before.before.before.before.before.before).long in record {
+    let long = (all).long in record {
       round_numbers = c.requires.round_numbers;
       wanted_lt_k = c.requires.wanted_lt_k;
-      bound = (all c.before.before.before.before.before.before).low i (omega arith);
+      bound = (all).low i (omega arith);
       out_len = ap (λ (n : ℕ). length (take n (drop (i * a.k) c.loop-i.out))) (add-sub_cancel_left (i * a.k) a.k)
-              ∙ cut-length (i * a.k) a.k c.loop-i.out (omega (arith, (inside c.before.before).0, c.loop-i.invariant.1));
+              ∙ cut-length (i * a.k) a.k c.loop-i.out (omega (arith, (inside).0, c.loop-i.invariant.1));
     }
 
 pub overflow_add-i : goal.overflow_add-i
@@ -76,21 +95,29 @@ loop-i-smaller c = omega arith
 
 pub loop-i-preserved : goal.loop-i-preserved
 unfolding short_key
-loop-i-preserved c =    let a = c.args in
+loop-i-preserved c =    let all : Permutation (blocks c.args.n c.args.k) c.args.key.now =
+        permutation-facts (blocks c.args.n c.args.k) c.args.key.now c.requires.key_value in
+    let inside : let a = c.args in
+    (c.loop-i.i * a.k + a.k ≤ length a.out.now) × (c.loop-i.i * a.k ≤ 64 * 7) =
+        let a = c.args in
+        let i = c.loop-i.i in
+        let low : i < blocks a.n a.k = omega (arith, (all).long) in
+        (omega (arith, slot-end i (blocks a.n a.k) a.k low, c.requires.k_in_bounds), rows-small a.n a.k c.requires.round_numbers i (omega arith)) in
+    let a = c.args in
     let i = c.loop-i.i in
     let out = c.loop-i.out in
     let f = asked a.n a.k a.wanted a.server a.key.now in
-    let low : i < blocks a.n a.k = omega (arith, (all c.before.before.before.before.before.before.before.before.before).long) in
+    let low : i < blocks a.n a.k = omega (arith, (all).long) in
     let some : 0 < a.n = omega (arith, c.requires.round_numbers.servers-low) in
     let known = c.requires.wanted_lt_k.0 in
     let there = c.requires.wanted_lt_k.1 in
-    let before = rows_long a.n a.k some a.key.now (all c.before.before.before.before.before.before.before.before.before) a.wanted a.server known there i (omega arith) in
-    let one = asked-long a.n a.k some a.key.now (all c.before.before.before.before.before.before.before.before.before) a.wanted a.server known there i low in
+    let before = rows_long a.n a.k some a.key.now (all) a.wanted a.server known there i (omega arith) in
+    let one = asked-long a.n a.k some a.key.now (all) a.wanted a.server known there i low in
     let written =
     ap (λ (l : List ℕ). take (i * a.k) out ++ (l ++ drop (i * a.k + a.k - i * a.k) (drop (i * a.k) out))) c.write_row.ensures
     ∙ put-part (i * a.k) a.k (f i) out one in (
       omega arith,
-      ap length written ∙ put-length (i * a.k) (f i) out (omega (arith, (inside c.before.before.before.before.before).0, c.loop-i.invariant.1)) ∙ c.loop-i.invariant.1,
+      ap length written ∙ put-length (i * a.k) (f i) out (omega (arith, (inside).0, c.loop-i.invariant.1)) ∙ c.loop-i.invariant.1,
       written
           ∙ put_next 0 (i * a.k) (flat_map f (range 0 i)) (f i) a.out.now out (omega arith) (omega (arith, before)) c.loop-i.invariant.2
           ∙ ap (λ (l : List ℕ). put 0 l a.out.now) (sym (flat_map-next f i) ∙ ap (λ (n : ℕ). flat_map f (range 0 n)) (sym (add-one i))),
@@ -101,7 +128,9 @@ shape_of-out c = c.loop-i.invariant.1
 
 pub returns : goal.returns
 unfolding round_query
-returns c =    let a = c.args in
-    let last : c.loop-i.i ≡ blocks a.n a.k = omega (arith, (all c.before.before.before.before).long) in
+returns c =    let all : Permutation (blocks c.args.n c.args.k) c.args.key.now =
+        permutation-facts (blocks c.args.n c.args.k) c.args.key.now c.requires.key_value in
+    let a = c.args in
+    let last : c.loop-i.i ≡ blocks a.n a.k = omega (arith, (all).long) in
     c.loop-i.invariant.2
     ∙ ap (λ (n : ℕ). put 0 (flat_map (asked a.n a.k a.wanted a.server a.key.now) (range 0 n)) a.out.now) last

@@ -25,12 +25,12 @@ use Rattle.round_code.proofs.RowParts.{row-lent, rest-lent}
 use Rattle.round_code.proofs.rows_fresh.Goals as goal
 
 -- the row of a turn
-module _ (c : goal.In-loop-i) where
+module _ (c : tie.In-loop invariant-loop decreases-loop) where
   abbrev start : tie.Start invariant-loop decreases-loop
   start = c.before.before.before
 
   abbrev i : ℕ
-  i = c.loop-i.i
+  i = c.before.loop.i
 
   low : i < blocks start.args.n start.args.k
   low = omega (arith, start.pre.1.0)
@@ -40,16 +40,8 @@ module _ (c : goal.In-loop-i) where
       let a = start.args in
       (omega (arith, slot-end i a.v a.k (omega arith), start.pre.1.1), rows-small a.n a.k start.pre.0 i (omega (arith, low)))
 
--- what the test of the row says
-tested : (c : goal.After-admits)
-    → let a = (start c.before.before).args in
-    c.admits.result ≡ short_admits a.n a.k a.server (row a.k a.query.now (i c.before.before))
-tested c =
-    let a = (start c.before.before).args in
-    c.admits.ensures ∙ ap (short_admits a.n a.k a.server) (row-lent a.k a.query.now (i c.before.before))
-
 -- the row is the server's, so its number without the first digit is below that of the blocks
-module _ (c : goal.Else-not-admits) where
+module _ (c : tie.Else1 invariant-loop decreases-loop) where
   abbrev turn : tie.In-loop invariant-loop decreases-loop
   turn = c.before.before.before
 
@@ -60,7 +52,7 @@ module _ (c : goal.Else-not-admits) where
   here = row begun.args.k begun.args.query.now (i turn)
 
   own : short_admits begun.args.n begun.args.k begun.args.server here ≡ true
-  own = sym (tested c.before) ∙ not-false c.admits.result c.if-not-admits.false-raw
+  own = sym (tested c.before) ∙ not-false c.before.admits.result c.if1.false
 
   known : 0 < begun.args.k
   known = omega (arith, begun.pre.0.messages-low)
@@ -79,27 +71,27 @@ module _ (c : goal.Else-not-admits) where
       (all_below-below a.n (remove_at 0 here) (key_below a.n a.k 0 a.server here known there own)))
 
 -- the number that is marked is the next of the key's
-module _ (c : goal.After-number_of-number) where
+module _ (c : tie.After-number-of invariant-loop decreases-loop) where
   abbrev at : tie.Else1 invariant-loop decreases-loop
   at = c.before.before
 
-  rest-number : c.number_of-number.result ≡ number (begun at).args.n (remove_at 0 (here at))
+  rest-number : c.number_of.result ≡ number (begun at).args.n (remove_at 0 (here at))
   rest-number =
       let a = (begun at).args in
-      c.number_of-number.ensures ∙ ap (number a.n) (rest-lent a.k a.query.now (i (turn at)) (known at) (inside (turn at)).0)
+      c.number_of.ensures ∙ ap (number a.n) (rest-lent a.k a.query.now (i (turn at)) (known at) (inside (turn at)).0)
 
-  marked : c.number_of-number.result ≡ get_or (round_key (begun at).args.n (begun at).args.k 0 (begun at).args.query.now) (i (turn at)) 0
+  marked : c.number_of.result ≡ get_or (round_key (begun at).args.n (begun at).args.k 0 (begun at).args.query.now) (i (turn at)) 0
   marked =
       let a = (begun at).args in rest-number ∙ sym (key-at a.n a.k 0 a.query.now (i (turn at)) (low (turn at)))
 
-  mark-low : c.number_of-number.result < (begun at).args.v
+  mark-low : c.number_of.result < (begun at).args.v
   mark-low = omega (arith, rest-number, rest-low at, (begun at).pre.1.0)
 
   numbers-left : i (turn at) < length (round_key (begun at).args.n (begun at).args.k 0 (begun at).args.query.now)
   numbers-left = let a = (begun at).args in omega (arith, key-length a.n a.k 0 a.query.now, low (turn at))
 
 -- the rows before the next one are the server's, too
-each : (c : goal.Else-not-admits) (j : ℕ) → j < i (turn c) + 1 → (t : Bool) → eqb j (i (turn c)) ≡ t
+each : (c : tie.Else1 invariant-loop decreases-loop) (j : ℕ) → j < i (turn c) + 1 → (t : Bool) → eqb j (i (turn c)) ≡ t
     → short_admits (begun c).args.n (begun c).args.k (begun c).args.server (row (begun c).args.k (begun c).args.query.now j) ≡ true
 each c j h true e =
     let a = (begun c).args in
@@ -130,9 +122,13 @@ pub slice_bounds-admits-end : goal.slice_bounds-admits-end
 slice_bounds-admits-end c = omega (arith, (inside c).0)
 
 pub returns-then-not-admits : goal.returns-then-not-admits
-returns-then-not-admits c =    let a = (start c.before.before.before).args in
+returns-then-not-admits c =    let tested : let a = (start c.before.before).args in
+    c.admits.result ≡ short_admits a.n a.k a.server (row a.k a.query.now (i c.before.before)) =
+        let a = (start c.before.before).args in
+        c.admits.ensures ∙ ap (short_admits a.n a.k a.server) (row-lent a.k a.query.now (i c.before.before)) in
+    let a = (start c.before.before.before).args in
     sym (row-refused a.n a.k a.server a.query.now (i c.before.before.before) (low c.before.before.before)
-    (sym (tested c.before) ∙ not-true c.admits.result c.if-not-admits.true-raw))
+    (sym (tested) ∙ not-true c.admits.result c.if-not-admits.true-raw))
 
 pub overflow_add-from : goal.overflow_add-from
 overflow_add-from c = omega (arith, (inside (turn c)).1)
@@ -147,17 +143,11 @@ pub slice_bounds-number_of-end : goal.slice_bounds-number_of-end
 slice_bounds-number_of-end c = omega (arith, (inside (turn c)).0)
 
 pub number_of-number-requires : goal.number_of-number-requires
-number_of-number-requires c = let a = (begun c.before).args in
+number_of-number-requires c =    let a = (begun c.before).args in
     let long = key-long a.n a.k 0 a.server (here c.before) (known c.before) (there c.before) (own c.before) in
     record {
-      n_nonzero = rw (rest-lent a.k a.query.now (i (turn c.before)) (known c.before) (inside (turn c.before)).0) (
-      (omega (arith, (begun c.before).requires.0.servers-low), key_below a.n a.k 0 a.server (here c.before) (known c.before) (there c.before) (own c.before)),
-      rw long (blocks-fit a.n a.k (begun c.before).requires.0),
-    );
-      row_bound = rw (rest-lent a.k a.query.now (i (turn c.before)) (known c.before) (inside (turn c.before)).0) (
-      (omega (arith, (begun c.before).requires.0.servers-low), key_below a.n a.k 0 a.server (here c.before) (known c.before) (there c.before) (own c.before)),
-      rw long (blocks-fit a.n a.k (begun c.before).requires.0),
-    );
+      n_nonzero = rw (rest-lent a.k a.query.now (i (turn c.before)) (known c.before) (inside (turn c.before)).0) (omega (arith, (begun c.before).requires.0.servers-low), key_below a.n a.k 0 a.server (here c.before) (known c.before) (there c.before) (own c.before));
+      row_bound = rw (rest-lent a.k a.query.now (i (turn c.before)) (known c.before) (inside (turn c.before)).0) rw long (blocks-fit a.n a.k (begun c.before).requires.0);
     }
 
 pub bounds-seen-number : goal.bounds-seen-number

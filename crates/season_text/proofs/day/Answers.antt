@@ -10,35 +10,37 @@ use Rattle.season_text.proofs.DayTexts.{text-length}
 use Rattle.season_text.proofs.DayLines.{day-short}
 use Rattle.season_text.proofs.day.Goals as goal
 
--- what the tests say
-real-there : (c : goal.After-starts-same)
-    → c.is_real-real.result ≡ real_day (day_in c.args.text.now)
-real-there c = c.is_real-real.ensures ∙ ap real_day c.day_in-d.ensures
-
-same-there : (c : goal.After-starts-same)
-    → let text = c.args.text.now in c.starts-same.result ≡ begins (day_text (day_in text)) text
-same-there c =
-    let text = c.args.text.now in
-    c.starts-same.ensures
-    ∙ ap (λ (l : List ℕ). begins l text) (c.day_text.ensures ∙ ap day_text c.day_in-d.ensures)
-
 pub returns-then-text-lt11 : goal.returns-then-text-lt11
 returns-then-text-lt11 c = let a = c.args in sym (day-short a.at a.text.now c.if-text-lt11.true)
 
 pub returns-then-not-real : goal.returns-then-not-real
 unfolding day_at
-returns-then-not-real c = simp (sym (real-there c.before) ∙ not-true _ c.if-not-real.true-raw)
+returns-then-not-real c =    let real-there : c.is_real-real.result ≡ real_day (day_in c.args.text.now) =
+        c.is_real-real.ensures ∙ ap real_day c.day_in-d.ensures in
+    simp (sym (real-there) ∙ not-true _ c.if-not-real.true-raw)
 
 pub returns-then-not-same : goal.returns-then-not-same
 unfolding day_at
-returns-then-not-same c =    simp (sym (real-there c.before.before) ∙ not-false _ c.if-not-real.false-raw, sym (same-there c.before.before) ∙ not-true _ c.if-not-same.true-raw)
+returns-then-not-same c =    let real-there : c.is_real-real.result ≡ real_day (day_in c.args.text.now) =
+        c.is_real-real.ensures ∙ ap real_day c.day_in-d.ensures in
+    let same-there : let text = c.args.text.now in c.starts-same.result ≡ begins (day_text (day_in text)) text =
+        let text = c.args.text.now in
+        c.starts-same.ensures
+        ∙ ap (λ (l : List ℕ). begins l text) (c.day_text.ensures ∙ ap day_text c.day_in-d.ensures) in
+    simp (sym (real-there) ∙ not-false _ c.if-not-real.false-raw, sym (same-there) ∙ not-true _ c.if-not-same.true-raw)
 
 pub returns : goal.returns
 unfolding day_at
-returns c =    let d = c.day_in-d in 
+returns c =    let real-there : c.is_real-real.result ≡ real_day (day_in c.args.text.now) =
+        c.is_real-real.ensures ∙ ap real_day c.day_in-d.ensures in
+    let same-there : let text = c.args.text.now in c.starts-same.result ≡ begins (day_text (day_in text)) text =
+        let text = c.args.text.now in
+        c.starts-same.ensures
+        ∙ ap (λ (l : List ℕ). begins l text) (c.day_text.ensures ∙ ap day_text c.day_in-d.ensures) in
+    let d = c.day_in-d in 
     simp (
-      sym (real-there c.before.before) ∙ not-false _ c.if-not-real.false-raw,
-      sym (same-there c.before.before) ∙ not-false _ c.if-not-same.false-raw,
+      sym (real-there) ∙ not-false _ c.if-not-real.false-raw,
+      sym (same-there) ∙ not-false _ c.if-not-same.false-raw,
       text-length,
       c.day_in-d.ensures,
     )

@@ -21,7 +21,7 @@ put_bytes-requires c =    let name = c.put_bytes-start in
     let d = ap length c.day_text-text.ensures in
     let p = c.requires in
     let e = c.put_bytes-start.ensures.value in
-    let k = c.put_bytes-start.auto.0 in
+    let k = c.put_bytes-start.auto.out in
     omega arith
 
 pub returns : goal.returns

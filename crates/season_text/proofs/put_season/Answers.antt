@@ -12,11 +12,11 @@ use Rattle.season_text.proofs.SeasonLines.{text-none, text-lines, parts-length}
 use Rattle.season_text.proofs.put_season.Goals as goal
 
 pub returns-then-are_none : goal.returns-then-are_none
-returns-then-are_none c = let a = c.args in
+returns-then-are_none c =    let a = c.args in
     let none = text-none a.opening a.closing (sym c.are_none.ensures ∙ c.if-are_none.true) in
     record {
-      value = rw none (omega arith, sym (put-nil a.at a.out.now));
-      out_after = rw none (omega arith, sym (put-nil a.at a.out.now));
+      value = rw none omega arith;
+      out_after = rw none sym (put-nil a.at a.out.now);
     }
 
 pub put_day_line-next-requires : goal.put_day_line-next-requires
@@ -31,7 +31,7 @@ put_day_line-requires c =    let first = c.put_day_line-next in
     let l = parts-length a.opening a.closing (sym c.are_none.ensures ∙ c.if-are_none.false) in
     let p = c.requires in
     let e = c.put_day_line-next.ensures.value in
-    let k = c.put_day_line-next.auto.0 in
+    let k = c.put_day_line-next.auto.out in
     omega arith
 
 pub returns : goal.returns

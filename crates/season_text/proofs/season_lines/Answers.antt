@@ -8,13 +8,6 @@ use Rattle.season_text.specs.SeasonLines.{date_begins, season_lines}
 use Rattle.season_text.proofs.SeasonLines.{nothing-begins}
 use Rattle.season_text.proofs.season_lines.Goals as goal
 
--- what the test of the names says
-begun : (c : goal.After-date_begins)
-    → let a = c.args in c.date_begins.result ≡ date_begins (drop a.at a.text.now)
-begun c =
-    let a = c.args in
-    c.date_begins.ensures ∙ ap date_begins (to_end a.text.now a.at)
-
 pub returns-then-text-at : goal.returns-then-text-at
 unfolding season_lines
 returns-then-text-at c =    let a = c.args in
@@ -22,27 +15,39 @@ returns-then-text-at c =    let a = c.args in
 
 pub returns-then-not-date_begins : goal.returns-then-not-date_begins
 unfolding season_lines
-returns-then-not-date_begins c = simp (c.none-none.ensures, sym (begun c.before) ∙ not-true _ c.if-not-date_begins.true-raw)
+returns-then-not-date_begins c =    let begun : let a = c.args in c.date_begins.result ≡ date_begins (drop a.at a.text.now) =
+        let a = c.args in
+        c.date_begins.ensures ∙ ap date_begins (to_end a.text.now a.at) in
+    simp (c.none-none.ensures, sym (begun) ∙ not-true _ c.if-not-date_begins.true-raw)
 
 pub returns-in_default : goal.returns-in_default
 unfolding season_lines
-returns-in_default c =    simp (
-      sym (begun c.before.before.before.before.before.before) ∙ not-false _ c.if-not-date_begins.false-raw,
+returns-in_default c =    let begun : let a = c.args in c.date_begins.result ≡ date_begins (drop a.at a.text.now) =
+        let a = c.args in
+        c.date_begins.ensures ∙ ap date_begins (to_end a.text.now a.at) in
+    simp (
+      sym (begun) ∙ not-false _ c.if-not-date_begins.false-raw,
       sym c.day_line.ensures ∙ c.in_default.is,
     )
 
 pub returns-in_default-day_line : goal.returns-in_default-day_line
 unfolding season_lines
-returns-in_default-day_line c =    simp (
-      sym (begun c.before.before.before.before.before.before.before.before.before.before.before.before) ∙ not-false _ c.if-not-date_begins.false-raw,
+returns-in_default-day_line c =    let begun : let a = c.args in c.date_begins.result ≡ date_begins (drop a.at a.text.now) =
+        let a = c.args in
+        c.date_begins.ensures ∙ ap date_begins (to_end a.text.now a.at) in
+    simp (
+      sym (begun) ∙ not-false _ c.if-not-date_begins.false-raw,
       sym c.day_line.ensures ∙ c.in-Value.is,
       sym c.day_line-2.ensures ∙ c.in_default-day_line.is,
     )
 
 pub returns : goal.returns
 unfolding season_lines
-returns c =    simp (
-      sym (begun c.before.before.before.before.before.before.before.before.before.before.before.before.before) ∙ not-false _ c.if-not-date_begins.false-raw,
+returns c =    let begun : let a = c.args in c.date_begins.result ≡ date_begins (drop a.at a.text.now) =
+        let a = c.args in
+        c.date_begins.ensures ∙ ap date_begins (to_end a.text.now a.at) in
+    simp (
+      sym (begun) ∙ not-false _ c.if-not-date_begins.false-raw,
       sym c.day_line.ensures ∙ c.in-Value.is,
       sym c.day_line-2.ensures ∙ c.in-Value-day_line.is,
     )

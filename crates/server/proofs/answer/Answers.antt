@@ -5,23 +5,18 @@ use Rattle.codes.specs.Codes.{scheme_of}
 use Rattle.server.proofs.Laws.{Answers, answer-passed, answer-refused, answer-done}
 use Rattle.server.proofs.answer.Goals as goal
 
--- once the verdict is accepted
-passed : (c : goal.In_default) →
-    let a = c.args in
-    Answers scheme_of a.c a.today a.server (length a.store.now) a.query.now (length a.out.now)
-passed c =
-    let a = c.args in
-    answer-passed scheme_of a.c a.today a.server (length a.store.now) a.query.now (length a.out.now)
-    (sym c.verdict.ensures ∙ c.in_default.is)
-
 pub returns-in-Refused : goal.returns-in-Refused
 returns-in-Refused c =    let a = c.args in
     let asked = c.verdict in 
-    let told = c.refusal-1.given in
-    answer-refused scheme_of a.c a.today a.server a.store.now a.query.now a.out.now c.verdict.result told.0.0 c.verdict.ensures told.1
+    answer-refused scheme_of a.c a.today a.server a.store.now a.query.now a.out.now c.verdict.result c.in-Refused.refusal c.verdict.ensures c.in-Refused.is
 
 pub answer-requires : goal.answer-requires
-answer-requires c =    let p = passed c.before in record {
+answer-requires c =    let passed : let a = c.args in
+    Answers scheme_of a.c a.today a.server (length a.store.now) a.query.now (length a.out.now) =
+        let a = c.args in
+        answer-passed scheme_of a.c a.today a.server (length a.store.now) a.query.now (length a.out.now)
+        (sym c.verdict.ensures ∙ c.in_default.is) in
+    let p = passed in record {
       admitted = p.admitted;
       query_value = p.admits;
       store_len = p.store_long;
@@ -29,7 +24,12 @@ answer-requires c =    let p = passed c.before in record {
     }
 
 pub answer_length-requires : goal.answer_length-requires
-answer_length-requires c = (passed c.before.before.before.before).admitted
+answer_length-requires c =    let passed : let a = c.args in
+    Answers scheme_of a.c a.today a.server (length a.store.now) a.query.now (length a.out.now) =
+        let a = c.args in
+        answer-passed scheme_of a.c a.today a.server (length a.store.now) a.query.now (length a.out.now)
+        (sym c.verdict.ensures ∙ c.in_default.is) in
+    (passed).admitted
 
 pub returns : goal.returns
 returns c =    let a = c.args in

@@ -5,18 +5,18 @@ use Rattle.catalogue.specs.Catalogue.{Admitted}
 use Rattle.catalogue.proofs.Faults.{after-catalogue}
 use Rattle.session_checks.proofs.session_verdict.Goals as goal
 
--- once the catalogue is accepted
-admitted : (c : goal.In_default) → Admitted c.args.c
-admitted c = sym c.verdict.ensures ∙ c.in_default.is
-
 pub returns-in-Refused : goal.returns-in-Refused
 returns-in-Refused c =    after-catalogue c.args.c _ refl _ _ c.verdict.ensures (rw c.in-Refused.is)
 
 pub fields_verdict-requires : goal.fields_verdict-requires
-fields_verdict-requires c = record {
-      admitted = admitted c;
+fields_verdict-requires c =    let admitted : Admitted c.args.c =
+        sym c.verdict.ensures ∙ c.in_default.is in
+    record {
+      admitted = admitted;
       places_len = c.requires;
     }
 
 pub returns : goal.returns
-returns c = after-catalogue _ _ refl Accepted _ (sym (admitted c.before)) c.fields_verdict.ensures
+returns c =    let admitted : Admitted c.args.c =
+        sym c.verdict.ensures ∙ c.in_default.is in
+    after-catalogue _ _ refl Accepted _ (sym (admitted)) c.fields_verdict.ensures

@@ -17,33 +17,35 @@ use Rattle.short_rows.specs.Steps.{Slotted, slot_starts, from_places}
 use Rattle.short_code.proofs.Slots.{fits-slotted, recover-slots}
 use Rattle.short_code.proofs.recover.Goals as goal
 
-bounds : (c : goal.Start) → ShortBounds c.args.n c.args.k c.args.s
-bounds c = short-bounds c.args.n c.args.k c.args.s c.requires.s_value
-
-slotted : (c : goal.Start) → Slotted c.args.n c.args.s c.args.answers.now
-unfolding short_sizes
-slotted c = fits-slotted c.args.n c.args.k c.args.s c.args.answers.now c.requires.s_value c.requires.s_in_bounds
-
-bytes : (c : goal.After-shared_slice_known-2-1) → Below 256 c.args.answers.now
-bytes c i h = omega (arith, c.shared_slice_known-2-1.given i)
-
 pub digit_sum-t-requires : goal.digit_sum-t-requires
 digit_sum-t-requires c = c.requires.valid.good
 
 pub recover_slots-requires : goal.recover_slots-requires
-recover_slots-requires c =    let a = c.args in
-    let b = bounds c.before.before.before.before.before in
+unfolding short_sizes
+recover_slots-requires c =    let bounds : ShortBounds c.args.n c.args.k c.args.s =
+        short-bounds c.args.n c.args.k c.args.s c.requires.s_value in
+    let slotted : Slotted c.args.n c.args.s c.args.answers.now =
+        fits-slotted c.args.n c.args.k c.args.s c.args.answers.now c.requires.s_value c.requires.s_in_bounds in
+    let a = c.args in
+    let b = bounds in
     let m : digit_sum a.key.now % a.n < a.n = mod-lt (digit_sum a.key.now) (omega arith) in
     record {
       t_lt_n = omega (arith, c.digit_sum-t.ensures.value);
-      slotted = slotted c.before.before.before.before.before;
+      slotted = slotted;
     }
 
 pub returns : goal.returns
-returns c =    let a = c.args in
+unfolding short_sizes
+returns c =    let bounds : ShortBounds c.args.n c.args.k c.args.s =
+        short-bounds c.args.n c.args.k c.args.s c.requires.s_value in
+    let slotted : Slotted c.args.n c.args.s c.args.answers.now =
+        fits-slotted c.args.n c.args.k c.args.s c.args.answers.now c.requires.s_value c.requires.s_in_bounds in
+    let bytes : Below 256 c.args.answers.now =
+        λ i h. omega (arith, c.shared_slice_known-2-1.given i) in
+    let a = c.args in
     let f : ℕ → ℕ → List ℕ = λ t. from_places (sum_of a.op) a.n a.s t (all_zero a.key.now) (slot_starts a.s) a.answers.now in
     c.recover_slots.ensures
     ∙ ap (λ (t : ℕ). lay 0 (flat_map (f t) (range 1 (a.n - 1))) a.message.now) c.digit_sum-t.ensures.value
     ∙ ap (λ (l : List ℕ). lay 0 l a.message.now)
     (sym (recover-slots (sum_of a.op) a.n a.k a.s a.wanted (group_of a.op a.s) a.key.now a.answers.now
-    (omega (arith, (bounds c.before.before.before.before.before.before.before.before).servers-low)) (slotted c.before.before.before.before.before.before.before.before) (bytes c.before.before.before.before.before.before)))
+    (omega (arith, (bounds).servers-low)) (slotted) (bytes)))

@@ -15,27 +15,25 @@ use Rattle.symbol.proofs.Operations.{group_of, prefixes-of}
 use Rattle.symbol.proofs.Less.{less-length, less-take}
 use Rattle.symbol.proofs.write_difference.Goals as goal
 
--- no more bytes are written than a symbol has
-inside : (c : goal.After-smaller-size) → let a = c.args in c.smaller-size.result ≤ length a.first.now
-inside c = omega (arith, c.smaller-size.ensures)
-
--- nor more than there is room for
-roomy : (c : goal.After-smaller-size) → let a = c.args in a.at + c.smaller-size.result ≤ length a.message.now
-roomy c = omega (arith, c.smaller-size.ensures, c.if-message-at.false)
-
 pub returns-then-message-at : goal.returns-then-message-at
 returns-then-message-at c =    let a = c.args in
     sym (lay-past a.at (less (sum_of a.op) a.alone a.first.now a.other.now) a.message.now c.if-message-at.true)
 
 pub overflow_add-end : goal.overflow_add-end
-overflow_add-end c = omega (arith, roomy c)
+overflow_add-end c =    let roomy : let a = c.args in a.at + c.smaller-size.result ≤ length a.message.now =
+        omega (arith, c.smaller-size.ensures, c.if-message-at.false) in
+    omega (arith, roomy)
 
 pub slice_bounds-difference-end : goal.slice_bounds-difference-end
-slice_bounds-difference-end c =    let a = c.args in
-    sym (length-take-le c.smaller-size.result a.first.now (inside c))
+slice_bounds-difference-end c =    let inside : let a = c.args in c.smaller-size.result ≤ length a.first.now =
+        omega (arith, c.smaller-size.ensures) in
+    let a = c.args in
+    sym (length-take-le c.smaller-size.result a.first.now (inside))
 
 pub slice_bounds-difference-end-2 : goal.slice_bounds-difference-end-2
-slice_bounds-difference-end-2 c =    sym (length-take-le c.smaller-size.result c.args.other.now (omega (arith, inside c, c.requires)))
+slice_bounds-difference-end-2 c =    let inside : let a = c.args in c.smaller-size.result ≤ length a.first.now =
+        omega (arith, c.smaller-size.ensures) in
+    sym (length-take-le c.smaller-size.result c.args.other.now (omega (arith, inside, c.requires)))
 
 pub slice_bounds-difference-count : goal.slice_bounds-difference-count
 slice_bounds-difference-count c = omega arith
@@ -44,16 +42,22 @@ pub slice_bounds-difference-start : goal.slice_bounds-difference-start
 slice_bounds-difference-start c = omega arith
 
 pub slice_bounds-difference-end-3 : goal.slice_bounds-difference-end-3
-slice_bounds-difference-end-3 c = omega (arith, roomy c)
+slice_bounds-difference-end-3 c =    let roomy : let a = c.args in a.at + c.smaller-size.result ≤ length a.message.now =
+        omega (arith, c.smaller-size.ensures, c.if-message-at.false) in
+    omega (arith, roomy)
 
 pub difference-requires : goal.difference-requires
-difference-requires c =    let size = c.smaller-size.result in
+difference-requires c =    let inside : let a = c.args in c.smaller-size.result ≤ length a.first.now =
+        omega (arith, c.smaller-size.ensures) in
+    let roomy : let a = c.args in a.at + c.smaller-size.result ≤ length a.message.now =
+        omega (arith, c.smaller-size.ensures, c.if-message-at.false) in
+    let size = c.smaller-size.result in
     let a = c.args in
     let part : length (take (a.at + size - a.at) (drop a.at a.message.now)) ≡ size =
     ap (λ (n : ℕ). length (take n (drop a.at a.message.now))) (add-sub_cancel_left a.at size)
-    ∙ cut-length a.at size a.message.now (roomy c.before) in record {
-      first_len = length-take-le size a.first.now (inside c.before) ∙ sym part;
-      other_len = length-take-le size a.other.now (omega (arith, inside c.before, c.requires)) ∙ sym part;
+    ∙ cut-length a.at size a.message.now (roomy) in record {
+      first_len = length-take-le size a.first.now (inside) ∙ sym part;
+      other_len = length-take-le size a.other.now (omega (arith, inside, c.requires)) ∙ sym part;
     }
 
 pub returns : goal.returns

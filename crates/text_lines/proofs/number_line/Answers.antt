@@ -10,38 +10,48 @@ use Rattle.text_lines.specs.Lines.{begins, number_at, number_line}
 use Rattle.text_lines.proofs.NumberLines.{past_end, name-within}
 use Rattle.text_lines.proofs.number_line.Goals as goal
 
--- what the test of the name says
-tested : (c : goal.After-starts)
-    → let a = c.args in c.starts.result ≡ begins a.name.now (drop a.at a.text.now)
-tested c =
-    let a = c.args in
-    c.starts.ensures ∙ ap (begins a.name.now) (to_end a.text.now a.at)
-
-found : (c : goal.Else-not-starts)
-    → let a = c.args in begins a.name.now (drop a.at a.text.now) ≡ true
-found c = sym (tested c.before) ∙ not-false _ c.if-not-starts.false-raw
-
-within : (c : goal.Else-not-starts)
-    → let a = c.args in a.at + length a.name.now ≤ length a.text.now
-within c =
-    let a = c.args in
-    name-within a.name.now a.text.now a.at c.if-text-at.false (found c)
-
 pub returns-then-text-at : goal.returns-then-text-at
 returns-then-text-at c = let a = c.args in sym (past_end a.most a.name.now a.text.now a.at c.if-text-at.true)
 
 pub returns-then-not-starts : goal.returns-then-not-starts
 unfolding number_line
-returns-then-not-starts c = simp (sym (tested c.before) ∙ not-true _ c.if-not-starts.true-raw)
+returns-then-not-starts c =    let tested : let a = c.args in c.starts.result ≡ begins a.name.now (drop a.at a.text.now) =
+        let a = c.args in
+        c.starts.ensures ∙ ap (begins a.name.now) (to_end a.text.now a.at) in
+    simp (sym (tested) ∙ not-true _ c.if-not-starts.true-raw)
 
 pub slice_bounds-number-count : goal.slice_bounds-number-count
-slice_bounds-number-count c = within c
+slice_bounds-number-count c =    let tested : let a = c.args in c.starts.result ≡ begins a.name.now (drop a.at a.text.now) =
+        let a = c.args in
+        c.starts.ensures ∙ ap (begins a.name.now) (to_end a.text.now a.at) in
+    let found : let a = c.args in begins a.name.now (drop a.at a.text.now) ≡ true =
+        sym (tested) ∙ not-false _ c.if-not-starts.false-raw in
+    let within : let a = c.args in a.at + length a.name.now ≤ length a.text.now =
+        let a = c.args in
+        name-within a.name.now a.text.now a.at c.if-text-at.false (found) in
+    within
 
 pub slice_bounds-number-start : goal.slice_bounds-number-start
-slice_bounds-number-start c = within c
+slice_bounds-number-start c =    let tested : let a = c.args in c.starts.result ≡ begins a.name.now (drop a.at a.text.now) =
+        let a = c.args in
+        c.starts.ensures ∙ ap (begins a.name.now) (to_end a.text.now a.at) in
+    let found : let a = c.args in begins a.name.now (drop a.at a.text.now) ≡ true =
+        sym (tested) ∙ not-false _ c.if-not-starts.false-raw in
+    let within : let a = c.args in a.at + length a.name.now ≤ length a.text.now =
+        let a = c.args in
+        name-within a.name.now a.text.now a.at c.if-text-at.false (found) in
+    within
 
 pub number-requires : goal.number-requires
-number-requires c = let w = within c.before in
+number-requires c = let tested : let a = c.args in c.starts.result ≡ begins a.name.now (drop a.at a.text.now) =
+        let a = c.args in
+        c.starts.ensures ∙ ap (begins a.name.now) (to_end a.text.now a.at) in
+    let found : let a = c.args in begins a.name.now (drop a.at a.text.now) ≡ true =
+        sym (tested) ∙ not-false _ c.if-not-starts.false-raw in
+    let within : let a = c.args in a.at + length a.name.now ≤ length a.text.now =
+        let a = c.args in
+        name-within a.name.now a.text.now a.at c.if-text-at.false (found) in
+    let w = within in
     record {
       most_bound = simp (length-take, length-drop) (omega (arith, c.well_formed));
       text_bound = simp (length-take, length-drop) (omega (arith, c.well_formed));
@@ -49,6 +59,11 @@ number-requires c = let w = within c.before in
 
 pub returns : goal.returns
 unfolding number_line
-returns c =    let a = c.args in
+returns c =    let tested : let a = c.args in c.starts.result ≡ begins a.name.now (drop a.at a.text.now) =
+        let a = c.args in
+        c.starts.ensures ∙ ap (begins a.name.now) (to_end a.text.now a.at) in
+    let found : let a = c.args in begins a.name.now (drop a.at a.text.now) ≡ true =
+        sym (tested) ∙ not-false _ c.if-not-starts.false-raw in
+    let a = c.args in
     let start = a.at + length a.name.now in
-    c.number.ensures ∙ ap (number_at a.most start) (to_end a.text.now start) ∙ simp (found c.before.before)
+    c.number.ensures ∙ ap (number_at a.most start) (to_end a.text.now start) ∙ simp (found)

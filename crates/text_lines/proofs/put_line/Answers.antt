@@ -20,7 +20,7 @@ put_decimal-end-requires c =    let name = c.put_bytes-digits in
     let l = number-text-length c.args.name.now c.args.n in
     let p = c.requires in
     let e = c.put_bytes-digits.ensures.value in
-    let k = c.put_bytes-digits.auto.0 in
+    let k = c.put_bytes-digits.auto.out in
     omega arith
 
 pub put_bytes-requires : goal.put_bytes-requires
@@ -29,9 +29,9 @@ put_bytes-requires c =    let digits = c.put_decimal-end in
     let l = number-text-length c.args.name.now c.args.n in
     let p = c.requires in
     let e = c.put_bytes-digits.ensures.value in
-    let k = c.put_bytes-digits.auto.0 in
+    let k = c.put_bytes-digits.auto.out in
     let f = c.put_decimal-end.ensures.value in
-    let m = c.put_decimal-end.auto.0 in
+    let m = c.put_decimal-end.auto.out in
     omega arith
 
 pub returns : goal.returns

@@ -6,10 +6,10 @@ use Rattle.trial_runs.proofs.run.Goals as goal
 pub loop-at-preserved : goal.loop-at-preserved
 loop-at-preserved c =    let inv = c.loop-at.invariant in
     let kept = c.on_line-s.auto in (
-      kept.1.1.1.0 ∙ inv.0,
-      kept.1.1.1.1.0 ∙ inv.1,
-      kept.1.1.1.1.1.0 ∙ inv.2,
-      kept.1.1.1.1.1.1.0 ∙ inv.3,
-      kept.1.1.1.1.1.1.1.0 ∙ inv.4,
-      kept.1.1.1.1.1.1.1.1.0 ∙ inv.5,
+      c.on_line-s.auto.answer ∙ inv.0,
+      c.on_line-s.auto.answers ∙ inv.1,
+      c.on_line-s.auto.message ∙ inv.2,
+      c.on_line-s.auto.1.1.1.1.1.1.0 ∙ inv.3,
+      c.on_line-s.auto.1.1.1.1.1.1.1.0 ∙ inv.4,
+      c.on_line-s.auto.1.1.1.1.1.1.1.1.0 ∙ inv.5,
     )

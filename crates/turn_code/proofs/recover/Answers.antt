@@ -21,28 +21,21 @@ use Rattle.turn_code.proofs.Keys.{others-length, others-good, turn_below}
 use Rattle.turn_code.proofs.Slots.{recover-turned}
 use Rattle.turn_code.proofs.recover.Goals as goal
 
-bounds : (c : goal.Start) → ShortBounds c.args.n c.args.k c.args.s
-bounds c = short-bounds c.args.n c.args.k c.args.s c.requires.s_value
-
-some : (c : goal.Start) → 0 < length c.args.key.now
-unfolding turn_sizes
-some c = omega (arith, c.requires.valid.long, (bounds c).messages-low)
-
-low : (c : goal.Start) → turn_of c.args.key.now < c.args.n
-low c = turn_below c.args.n c.args.key.now c.requires.valid.good (some c)
-
-slotted : (c : goal.Start) → Slotted c.args.n c.args.s c.args.answers.now
-unfolding turn_sizes short_sizes
-slotted c = fits-slotted c.args.n c.args.k c.args.s c.args.answers.now c.requires.s_value c.requires.s_in_bounds
-
-bytes : (c : goal.After-shared_slice_known-2-1) → Below 256 c.args.answers.now
-bytes c i h = omega (arith, c.shared_slice_known-2-1.given i)
-
 pub overflow_sub-last : goal.overflow_sub-last
-overflow_sub-last c = some c.before.before.before
+unfolding turn_sizes
+overflow_sub-last c =    let bounds : ShortBounds c.args.n c.args.k c.args.s =
+        short-bounds c.args.n c.args.k c.args.s c.requires.s_value in
+    let some : 0 < length c.args.key.now =
+        omega (arith, c.requires.valid.long, (bounds).messages-low) in
+    some
 
 pub bounds-key-last : goal.bounds-key-last
-bounds-key-last c = let h = some c.before.before.before.before in omega arith
+unfolding turn_sizes
+bounds-key-last c =    let bounds : ShortBounds c.args.n c.args.k c.args.s =
+        short-bounds c.args.n c.args.k c.args.s c.requires.s_value in
+    let some : 0 < length c.args.key.now =
+        omega (arith, c.requires.valid.long, (bounds).messages-low) in
+    let h = some in omega arith
 
 pub overflow_cast-turn : goal.overflow_cast-turn
 overflow_cast-turn c = omega (arith, c.shared_slice_known-3-1.given (length c.args.key.now - 1))
@@ -54,28 +47,51 @@ pub digit_sum-t-requires : goal.digit_sum-t-requires
 digit_sum-t-requires c =    others-good c.args.n c.args.key.now c.requires.valid.good
 
 pub subtract_modulo-player-requires : goal.subtract_modulo-player-requires
-subtract_modulo-player-requires c =    let a = c.args in
-    let m : digit_sum (other_digits a.key.now) % a.n < a.n = mod-lt (digit_sum (other_digits a.key.now)) (omega (arith, (bounds c.before.before.before.before.before).servers-low)) in
-    (omega (arith, c.digit_sum-t.ensures.value), low c.before.before.before.before.before)
+unfolding turn_sizes
+subtract_modulo-player-requires c =    let bounds : ShortBounds c.args.n c.args.k c.args.s =
+        short-bounds c.args.n c.args.k c.args.s c.requires.s_value in
+    let some : 0 < length c.args.key.now =
+        omega (arith, c.requires.valid.long, (bounds).messages-low) in
+    let low : turn_of c.args.key.now < c.args.n =
+        turn_below c.args.n c.args.key.now c.requires.valid.good (some) in
+    let a = c.args in
+    let m : digit_sum (other_digits a.key.now) % a.n < a.n = mod-lt (digit_sum (other_digits a.key.now)) (omega (arith, (bounds).servers-low)) in
+    (omega (arith, c.digit_sum-t.ensures.value), low)
 
 pub slice_bounds-recover_slots-end : goal.slice_bounds-recover_slots-end
 slice_bounds-recover_slots-end c = sym (others-length c.args.key.now)
 
 pub recover_slots-requires : goal.recover_slots-requires
-recover_slots-requires c =    let a = c.args in
-    let m = mod-lt (c.digit_sum-t.result + (a.n - turn_of a.key.now)) {m = a.n} (omega (arith, (bounds c.before.before.before.before.before.before.before).servers-low)) in
+unfolding short_sizes turn_sizes
+recover_slots-requires c =    let bounds : ShortBounds c.args.n c.args.k c.args.s =
+        short-bounds c.args.n c.args.k c.args.s c.requires.s_value in
+    let slotted : Slotted c.args.n c.args.s c.args.answers.now =
+        fits-slotted c.args.n c.args.k c.args.s c.args.answers.now c.requires.s_value c.requires.s_in_bounds in
+    let a = c.args in
+    let m = mod-lt (c.digit_sum-t.result + (a.n - turn_of a.key.now)) {m = a.n} (omega (arith, (bounds).servers-low)) in
     record {
       t_lt_n = omega (arith, c.subtract_modulo-player.ensures);
-      slotted = slotted c.before.before.before.before.before.before.before;
+      slotted = slotted;
     }
 
 pub returns : goal.returns
-returns c =    let a = c.args in
+unfolding short_sizes turn_sizes
+returns c =    let bounds : ShortBounds c.args.n c.args.k c.args.s =
+        short-bounds c.args.n c.args.k c.args.s c.requires.s_value in
+    let some : 0 < length c.args.key.now =
+        omega (arith, c.requires.valid.long, (bounds).messages-low) in
+    let low : turn_of c.args.key.now < c.args.n =
+        turn_below c.args.n c.args.key.now c.requires.valid.good (some) in
+    let slotted : Slotted c.args.n c.args.s c.args.answers.now =
+        fits-slotted c.args.n c.args.k c.args.s c.args.answers.now c.requires.s_value c.requires.s_in_bounds in
+    let bytes : Below 256 c.args.answers.now =
+        λ i h. omega (arith, c.shared_slice_known-2-1.given i) in
+    let a = c.args in
     let key = a.key.now in
     let f : ℕ → ℕ → List ℕ = λ t. from_places (sum_of a.op) a.n a.s t (all_zero (other_digits key)) (slot_starts a.s) a.answers.now in
     let whole : ℕ → List ℕ = λ t. lay 0 (flat_map (f t) (range 1 (a.n - 1))) a.message.now in
     c.recover_slots.ensures
     ∙ ap whole (c.subtract_modulo-player.ensures ∙ ap (λ (T : ℕ). (T + (a.n - turn_of key)) % a.n) c.digit_sum-t.ensures.value)
     ∙ ap (λ (l : List ℕ). lay 0 l a.message.now)
-    (sym (recover-turned (sum_of a.op) a.n a.s key (omega (arith, (bounds c.before.before.before.before.before.before.before.before.before.before).servers-low)) a.k a.wanted (group_of a.op a.s)
-    (low c.before.before.before.before.before.before.before.before.before.before) a.answers.now (slotted c.before.before.before.before.before.before.before.before.before.before) (bytes c.before.before.before.before.before.before.before.before)))
+    (sym (recover-turned (sum_of a.op) a.n a.s key (omega (arith, (bounds).servers-low)) a.k a.wanted (group_of a.op a.s)
+    (low) a.answers.now (slotted) (bytes)))

@@ -13,55 +13,55 @@ pub put_line-b-requires : goal.put_line-b-requires
 put_line-b-requires c =    let t = head-length c.args.c in
     let p = c.requires in
     let i = c.put_code-a.ensures.value in
-    let a = c.put_code-a.auto.0 in
+    let a = c.put_code-a.auto.out in
     omega arith
 
 pub put_line-d-requires : goal.put_line-d-requires
 put_line-d-requires c =    let t = head-length c.args.c in
     let p = c.requires in
     let i = c.put_code-a.ensures.value in
-    let a = c.put_code-a.auto.0 in
+    let a = c.put_code-a.auto.out in
     let j = c.put_line-b.ensures.value in
-    let b = c.put_line-b.auto.0 in
+    let b = c.put_line-b.auto.out in
     omega arith
 
 pub put_line-e-requires : goal.put_line-e-requires
 put_line-e-requires c =    let t = head-length c.args.c in
     let p = c.requires in
     let i = c.put_code-a.ensures.value in
-    let a = c.put_code-a.auto.0 in
+    let a = c.put_code-a.auto.out in
     let j = c.put_line-b.ensures.value in
-    let b = c.put_line-b.auto.0 in
+    let b = c.put_line-b.auto.out in
     let k = c.put_line-d.ensures.value in
-    let d = c.put_line-d.auto.0 in
+    let d = c.put_line-d.auto.out in
     omega arith
 
 pub put_season-f-requires : goal.put_season-f-requires
 put_season-f-requires c =    let t = head-length c.args.c in
     let p = c.requires in
     let i = c.put_code-a.ensures.value in
-    let a = c.put_code-a.auto.0 in
+    let a = c.put_code-a.auto.out in
     let j = c.put_line-b.ensures.value in
-    let b = c.put_line-b.auto.0 in
+    let b = c.put_line-b.auto.out in
     let k = c.put_line-d.ensures.value in
-    let d = c.put_line-d.auto.0 in
+    let d = c.put_line-d.auto.out in
     let l = c.put_line-e.ensures.value in
-    let e = c.put_line-e.auto.0 in
+    let e = c.put_line-e.auto.out in
     omega arith
 
 pub put_sum-requires : goal.put_sum-requires
 put_sum-requires c =    let t = head-length c.args.c in
     let p = c.requires in
     let i = c.put_code-a.ensures.value in
-    let a = c.put_code-a.auto.0 in
+    let a = c.put_code-a.auto.out in
     let j = c.put_line-b.ensures.value in
-    let b = c.put_line-b.auto.0 in
+    let b = c.put_line-b.auto.out in
     let k = c.put_line-d.ensures.value in
-    let d = c.put_line-d.auto.0 in
+    let d = c.put_line-d.auto.out in
     let l = c.put_line-e.ensures.value in
-    let e = c.put_line-e.auto.0 in
+    let e = c.put_line-e.auto.out in
     let m = c.put_season-f.ensures.value in
-    let f = c.put_season-f.auto.0 in
+    let f = c.put_season-f.auto.out in
     omega arith
 
 pub returns : goal.returns

@@ -16,7 +16,7 @@ pub put_lengths-requires : goal.put_lengths-requires
 unfolding text_of
 put_lengths-requires c =    let value = c.args.c in
     let head = c.put_head-g in 
-    omega (arith, c.requires, length-append (head_text value) (length_text (own_numbers value)), c.put_head-g.ensures.value, c.put_head-g.auto.0)
+    omega (arith, c.requires, length-append (head_text value) (length_text (own_numbers value)), c.put_head-g.ensures.value, c.put_head-g.auto.out)
 
 pub returns : goal.returns
 unfolding text_of

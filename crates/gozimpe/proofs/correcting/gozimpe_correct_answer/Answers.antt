@@ -8,11 +8,10 @@ use Rattle.gozimpe.proofs.correcting.gozimpe_correct_answer.Goals as goal
 pub returns-in-Refused : goal.returns-in-Refused
 returns-in-Refused c =    let a = c.args in
     let from = c.read-reading in 
-    let told = c.verdict-1.given in
     let did = answer-text-refused a.mirror a.store.now a.request.now (edit_of a.pack a.piece a.byte a.value) a.answer.now
-    a.catalogue.now c.read-reading.result c.read-reading.ensures told.0.0 told.1 in
+    a.catalogue.now c.read-reading.result c.read-reading.ensures c.in-Refused.fault c.in-Refused.is in
     record {
-      value = to_z-of_z (record { sfits = c.minus.type-inv }) ∙ c.minus.ensures ∙ ap signed_verdict did.verdict;
+      value = to_z-of_z (record { sfits = c.minus.type_inv }) ∙ c.minus.ensures ∙ ap signed_verdict did.verdict;
       answer_after = did.answer;
     }
 
@@ -24,6 +23,6 @@ returns c =    let a = c.args in
     a.catalogue.now c.read-reading.result c.read-reading.ensures c.in_default.is
     c.correct_answer.result a.store.now _ c.correct_answer.ensures in
     record {
-      value = to_z-of_z (record { sfits = c.told.type-inv }) ∙ c.told.ensures ∙ ap signed_verdict did.verdict;
+      value = to_z-of_z (record { sfits = c.told.type_inv }) ∙ c.told.ensures ∙ ap signed_verdict did.verdict;
       answer_after = did.answer;
     }

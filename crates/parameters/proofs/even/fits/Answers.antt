@@ -10,13 +10,6 @@ use Rattle.parameters.proofs.Common.{common-fails, common-holds, common-servers}
 use Rattle.parameters.proofs.Table.{even-decides}
 use Rattle.parameters.proofs.even.fits.Goals as goal
 
--- N is 2 to 16, as the shared bounds hold
-servers : (c : goal.Else-k-lt1) → (2 ≤ c.args.n) × (c.args.n ≤ 16)
-servers c =
-    let f = c.common_fits in 
-    let a = c.args in
-    common-servers a.n a.s c.common_fits.result c.common_fits.ensures (not-false c.common_fits.result c.if-not-common_fits.false-raw)
-
 pub returns-then-not-common_fits : goal.returns-then-not-common_fits
 unfolding even_fits
 returns-then-not-common_fits c =    let f = c.common_fits in 
@@ -31,13 +24,21 @@ returns-then-k-lt1 c =    let f = c.common_fits in
     few ∙ common-holds a.n a.s c.common_fits.result c.common_fits.ensures (even_messages_fit a.n a.k) (not-false c.common_fits.result c.if-not-common_fits.false-raw)
 
 pub most_messages-requires : goal.most_messages-requires
-most_messages-requires c = servers c
+most_messages-requires c =    let servers : (2 ≤ c.args.n) × (c.args.n ≤ 16) =
+        let f = c.common_fits in 
+        let a = c.args in
+        common-servers a.n a.s c.common_fits.result c.common_fits.ensures (not-false c.common_fits.result c.if-not-common_fits.false-raw) in
+    servers
 
 pub returns : goal.returns
 unfolding even_fits
-returns c =    let f = c.common_fits in 
+returns c =    let servers : (2 ≤ c.args.n) × (c.args.n ≤ 16) =
+        let f = c.common_fits in 
+        let a = c.args in
+        common-servers a.n a.s c.common_fits.result c.common_fits.ensures (not-false c.common_fits.result c.if-not-common_fits.false-raw) in
+    let f = c.common_fits in 
     let a = c.args in
-    let within = servers c.before in
+    let within = servers in
     let entry : leb a.k c.most_messages.result ≡ leb a.k (most_messages even_table a.n) =
     ap (λ (most : ℕ). leb a.k most) c.most_messages.ensures
     in

@@ -8,21 +8,20 @@ use Rattle.text_lines.specs.Lines.{begins}
 use Rattle.printing.specs.Input.{key_name, key_line}
 use Rattle.printing.proofs.checks.scan_key.Goals as goal
 
--- what the test of the name says
-tested : (c : goal.After-starts)
-    → let a = c.args in c.starts.result ≡ begins key_name (drop a.at a.text.now)
-tested c =
-    let a = c.args in
-    c.starts.ensures ∙ ap (begins key_name) (to_end a.text.now a.at)
-
 pub returns-then-text-at : goal.returns-then-text-at
 unfolding key_line begins
 returns-then-text-at c = simp (drop_of_length-le c.args.text.now {i = c.args.at} (omega arith))
 
 pub returns-then-not-starts : goal.returns-then-not-starts
 unfolding key_line
-returns-then-not-starts c = simp (sym (tested c.before) ∙ not-true _ c.if-not-starts.true-raw)
+returns-then-not-starts c =    let tested : let a = c.args in c.starts.result ≡ begins key_name (drop a.at a.text.now) =
+        let a = c.args in
+        c.starts.ensures ∙ ap (begins key_name) (to_end a.text.now a.at) in
+    simp (sym (tested) ∙ not-true _ c.if-not-starts.true-raw)
 
 pub returns : goal.returns
 unfolding key_line
-returns c = c.scan.ensures ∙ simp (sym (tested c.before.before) ∙ not-false _ c.if-not-starts.false-raw)
+returns c =    let tested : let a = c.args in c.starts.result ≡ begins key_name (drop a.at a.text.now) =
+        let a = c.args in
+        c.starts.ensures ∙ ap (begins key_name) (to_end a.text.now a.at) in
+    c.scan.ensures ∙ simp (sym (tested) ∙ not-false _ c.if-not-starts.false-raw)

@@ -11,23 +11,23 @@ use Rattle.round_code.proofs.LastDigits.{digit-read, read_low}
 use Rattle.round_code.proofs.base.number_of.Goals as goal
 
 -- the sum that a turn makes, and that it is small
-module _ (c : goal.In-loop-i) where
+module _ (c : tie.In-loop invariant-loop decreases-loop) where
   abbrev n : ℕ
-  n = c.args.n
+  n = c.before.before.args.n
 
   abbrev row : List ℕ
-  row = c.args.row.now
+  row = c.before.before.args.row.now
 
   abbrev i : ℕ
-  i = c.loop-i.i
+  i = c.before.loop.i
 
-  next : c.loop-i.result * n + get_or row i 0 ≡ number n (take (i + 1) row)
-  next = ap (λ (r : ℕ). r * n + get_or row i 0) c.loop-i.invariant.1 ∙ sym (digit-read n row i (omega arith))
+  next : c.before.loop.result * n + get_or row i 0 ≡ number n (take (i + 1) row)
+  next = ap (λ (r : ℕ). r * n + get_or row i 0) c.before.loop.invariant.1 ∙ sym (digit-read n row i (omega arith))
 
-  small : c.loop-i.result * n + get_or row i 0 < 2 ^ 64
+  small : c.before.loop.result * n + get_or row i 0 < 2 ^ 64
   small =
-      let pre = c.requires in
-      let low = read_low n c.requires.n_nonzero.0 row (all_below-below n row c.requires.n_nonzero.1) c.requires.row_bound (i + 1) (omega arith) in
+      let pre = c.before.before.requires in
+      let low = read_low n pre.0.0 row (all_below-below n row pre.0.1) pre.1 (i + 1) (omega arith) in
       omega (arith, next)
 
 pub loop-i-init : goal.loop-i-init

@@ -20,13 +20,6 @@ use Rattle.round_code.proofs.ShortKeys.{entry-zeros}
 use Rattle.round_code.proofs.Starts.{starts-placed}
 use Rattle.round_code.proofs.rows.recover_block.Goals as goal
 
-placed : (c : goal.Start) → Placed c.args.n c.args.s (row_starts c.args.slot c.args.before c.args.behind) c.args.answers.now
-placed c =
-    let a = c.args in
-    let pre = c.requires in
-    starts-placed a.n a.s a.slot a.before a.behind a.answers.now c.requires.round_numbers.servers-high c.requires.s_nonzero.0 c.requires.s_nonzero.2
-    c.requires.s_bound.0 c.requires.s_bound.1 c.requires.s_bound.2
-
 pub returns-then-message-at : goal.returns-then-message-at
 returns-then-message-at c =    let a = c.args in
     sym (lay-past a.at (block_from (sum_of a.op) a.n a.k a.s a.entry (row_starts a.slot a.before a.behind) a.answers.now)
@@ -36,12 +29,17 @@ pub row_starts-starts-requires : goal.row_starts-starts-requires
 row_starts-starts-requires c = let pre = c.requires in (c.requires.s_nonzero.2, omega (arith, c.requires.s_nonzero.2, c.requires.s_bound.1))
 
 pub recover_row-requires : goal.recover_row-requires
-recover_row-requires c =    let a = c.args in
+recover_row-requires c =    let placed : Placed c.args.n c.args.s (row_starts c.args.slot c.args.before c.args.behind) c.args.answers.now =
+        let a = c.args in
+        let pre = c.requires in
+        starts-placed a.n a.s a.slot a.before a.behind a.answers.now c.requires.round_numbers.servers-high c.requires.s_nonzero.0 c.requires.s_nonzero.2
+        c.requires.s_bound.0 c.requires.s_bound.1 c.requires.s_bound.2 in
+    let a = c.args in
     let ds = digits a.n (a.k - 1) a.entry in
     let m : digit_sum ds % a.n < a.n = mod-lt (digit_sum ds) (omega (arith, c.requires.round_numbers.servers-low)) in
     record {
       t_lt_n = omega (arith, c.asked_none-t.ensures);
-      placed = rw c.row_starts-starts.ensures (placed c.before.before.before.before.before.before.before);
+      placed = rw c.row_starts-starts.ensures (placed);
     }
 
 pub returns : goal.returns

@@ -13,20 +13,20 @@ first-start : (slot before behind j : ℕ) → j < 1 → get_or (replicate 16 be
 first-start slot before behind zero h = refl
 first-start slot before behind (suc j) h = absurd (not-suc-le-zero (le_of_suc-le-suc h))
 
--- the start that a turn writes is small
-few : (c : goal.In-loop-m) → c.loop-m.m * c.args.slot ≤ 16 * 1048576
-few c =
-    let h : c.loop-m.m ≤ 16 = omega arith in
-    mul-le-mul h c.requires.0
-
 pub loop-m-init : goal.loop-m-init
 loop-m-init c = (omega arith, omega arith, refl, record { holds = first-start c.args.slot c.args.before c.args.behind })
 
 pub overflow_mul-starts : goal.overflow_mul-starts
-overflow_mul-starts c = omega (arith, few c)
+overflow_mul-starts c =    let few : c.loop-m.m * c.args.slot ≤ 16 * 1048576 =
+        let h : c.loop-m.m ≤ 16 = omega arith in
+        mul-le-mul h c.requires.0 in
+    omega (arith, few)
 
 pub overflow_add-starts : goal.overflow_add-starts
-overflow_add-starts c = omega (arith, few c, c.requires.1)
+overflow_add-starts c =    let few : c.loop-m.m * c.args.slot ≤ 16 * 1048576 =
+        let h : c.loop-m.m ≤ 16 = omega arith in
+        mul-le-mul h c.requires.0 in
+    omega (arith, few, c.requires.1)
 
 pub offset_bounds-starts-m : goal.offset_bounds-starts-m
 offset_bounds-starts-m c = omega arith

@@ -13,18 +13,6 @@ use Rattle.session_checks.proofs.Keys.{sizes-small, key_fits, key-count, key-val
 use Rattle.session.proofs.Places.{key-places}
 use Rattle.session.proofs.verdicts.issue_verdict.Goals as goal
 
--- once the first links are passed
-accepted : (c : goal.In_default)
-    → let args = c.args in foremost (ask_faults_on scheme_of args.t1 args.today args.server) ≡ Accepted
-accepted c = sym c.served_verdict.ensures ∙ c.in_default.is
-
-asks : (c : goal.In_default) → let args = c.args in
-    let s = args.t1 in Asks scheme_of s.catalogue s.wanted s.key args.server
-asks c =
-    let args = c.args in
-    let s = args.t1 in
-    (served-passed scheme_of s.catalogue s.wanted s.key args.today args.server (accepted c)).0
-
 pub served_verdict-requires : goal.served_verdict-requires
 served_verdict-requires c = key-places c.args.s _ c.well_formed.0
 
@@ -35,25 +23,55 @@ returns-in-Refused c =    let args = c.args in
     (rw c.in-Refused.is)
 
 pub sizes_of-sizes-requires : goal.sizes_of-sizes-requires
-sizes_of-sizes-requires c = (asks c.before).holds.admitted
+sizes_of-sizes-requires c =    let accepted : let args = c.args in foremost (ask_faults_on scheme_of args.t1 args.today args.server) ≡ Accepted =
+        sym c.served_verdict.ensures ∙ c.in_default.is in
+    let asks : let args = c.args in
+    let s = args.t1 in Asks scheme_of s.catalogue s.wanted s.key args.server =
+        let args = c.args in
+        let s = args.t1 in
+        (served-passed scheme_of s.catalogue s.wanted s.key args.today args.server (accepted)).0 in
+    (asks).holds.admitted
 
 pub returns-then-room-sizes : goal.returns-then-room-sizes
 unfolding issue_verdict
-returns-then-room-sizes c =    after_first_lem _ _ refl refl Accepted _ (sym (accepted c.before.before.before.before)) (rw (← c.sizes_of-sizes.ensures, lt-ltb _ _ c.if-room-sizes.true))
+returns-then-room-sizes c =    let accepted : let args = c.args in foremost (ask_faults_on scheme_of args.t1 args.today args.server) ≡ Accepted =
+        sym c.served_verdict.ensures ∙ c.in_default.is in
+    after_first_lem _ _ refl refl Accepted _ (sym (accepted)) (rw (← c.sizes_of-sizes.ensures, lt-ltb _ _ c.if-room-sizes.true))
 
 pub slice_bounds-key-end : goal.slice_bounds-key-end
-slice_bounds-key-end c =    let s = c.args.s in
-    key_fits s.catalogue s.key (key-places s _ c.well_formed.0) c.sizes_of-sizes.result (asks c.before.before.before.before.before).holds.admitted c.sizes_of-sizes.ensures
+slice_bounds-key-end c =    let accepted : let args = c.args in foremost (ask_faults_on scheme_of args.t1 args.today args.server) ≡ Accepted =
+        sym c.served_verdict.ensures ∙ c.in_default.is in
+    let asks : let args = c.args in
+    let s = args.t1 in Asks scheme_of s.catalogue s.wanted s.key args.server =
+        let args = c.args in
+        let s = args.t1 in
+        (served-passed scheme_of s.catalogue s.wanted s.key args.today args.server (accepted)).0 in
+    let s = c.args.s in
+    key_fits s.catalogue s.key (key-places s _ c.well_formed.0) c.sizes_of-sizes.result (asks).holds.admitted c.sizes_of-sizes.ensures
 
 pub slice_bounds-sent_verdict-end : goal.slice_bounds-sent_verdict-end
-slice_bounds-sent_verdict-end c =    let s = c.args.s in
-    sym (key-count s.catalogue s.key (key-places s _ c.well_formed.0) c.sizes_of-sizes.result (asks c.before.before.before.before.before.before).holds.admitted c.sizes_of-sizes.ensures)
+slice_bounds-sent_verdict-end c =    let accepted : let args = c.args in foremost (ask_faults_on scheme_of args.t1 args.today args.server) ≡ Accepted =
+        sym c.served_verdict.ensures ∙ c.in_default.is in
+    let asks : let args = c.args in
+    let s = args.t1 in Asks scheme_of s.catalogue s.wanted s.key args.server =
+        let args = c.args in
+        let s = args.t1 in
+        (served-passed scheme_of s.catalogue s.wanted s.key args.today args.server (accepted)).0 in
+    let s = c.args.s in
+    sym (key-count s.catalogue s.key (key-places s _ c.well_formed.0) c.sizes_of-sizes.result (asks).holds.admitted c.sizes_of-sizes.ensures)
 
 pub sent_verdict-requires : goal.sent_verdict-requires
-sent_verdict-requires c =    let s = c.args.s in
+sent_verdict-requires c =    let accepted : let args = c.args in foremost (ask_faults_on scheme_of args.t1 args.today args.server) ≡ Accepted =
+        sym c.served_verdict.ensures ∙ c.in_default.is in
+    let asks : let args = c.args in
+    let s = args.t1 in Asks scheme_of s.catalogue s.wanted s.key args.server =
+        let args = c.args in
+        let s = args.t1 in
+        (served-passed scheme_of s.catalogue s.wanted s.key args.today args.server (accepted)).0 in
+    let s = c.args.s in
     let long = key-places s _ c.well_formed.0 in
     let sizes = c.sizes_of-sizes in 
-    let passed = asks c.before.before.before.before.before.before.before.before.before in
+    let passed = asks in
     let holds = passed.holds in
     let valid = key-valid s.catalogue s.key long c.sizes_of-sizes.result holds.admitted c.sizes_of-sizes.ensures holds.good in
     let few = (sizes-small s.catalogue c.sizes_of-sizes.result holds.admitted c.sizes_of-sizes.ensures).servers in
@@ -67,6 +85,8 @@ sent_verdict-requires c =    let s = c.args.s in
 
 pub returns : goal.returns
 unfolding issue_verdict
-returns c =    let roomy = rw c.sizes_of-sizes.ensures at c.if-room-sizes.false in
-    after_first_lem _ _ refl refl Accepted _ (sym (accepted c.before.before.before.before.before.before.before.before.before.before))
+returns c =    let accepted : let args = c.args in foremost (ask_faults_on scheme_of args.t1 args.today args.server) ≡ Accepted =
+        sym c.served_verdict.ensures ∙ c.in_default.is in
+    let roomy = rw c.sizes_of-sizes.ensures at c.if-room-sizes.false in
+    after_first_lem _ _ refl refl Accepted _ (sym (accepted))
     (rw (le-ltb _ _ roomy) (rw c.sizes_of-sizes.ensures at c.sent_verdict.ensures))

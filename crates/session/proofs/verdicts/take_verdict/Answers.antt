@@ -13,18 +13,6 @@ use Rattle.session_checks.proofs.Keys.{sizes-small, key_fits, key-count, key-val
 use Rattle.session.proofs.Places.{key-places}
 use Rattle.session.proofs.verdicts.take_verdict.Goals as goal
 
--- once the first links are passed
-accepted : (c : goal.In_default)
-    → let args = c.args in foremost (ask_faults scheme_of args.t1 args.server) ≡ Accepted
-accepted c = sym c.server_verdict.ensures ∙ c.in_default.is
-
-asks : (c : goal.In_default) → let args = c.args in
-    let s = args.t1 in Asks scheme_of s.catalogue s.wanted s.key args.server
-asks c =
-    let args = c.args in
-    let s = args.t1 in
-    server-passed scheme_of s.catalogue s.wanted s.key args.server (accepted c)
-
 pub server_verdict-requires : goal.server_verdict-requires
 server_verdict-requires c = key-places c.args.s _ c.well_formed.0
 
@@ -34,19 +22,42 @@ returns-in-Refused c =    let args = c.args in
     after_first_lem (ask_faults scheme_of args.t1 args.server) _ refl refl _ _ c.server_verdict.ensures (rw c.in-Refused.is)
 
 pub sizes_of-sizes-requires : goal.sizes_of-sizes-requires
-sizes_of-sizes-requires c = (asks c.before).holds.admitted
+sizes_of-sizes-requires c =    let accepted : let args = c.args in foremost (ask_faults scheme_of args.t1 args.server) ≡ Accepted =
+        sym c.server_verdict.ensures ∙ c.in_default.is in
+    let asks : let args = c.args in
+    let s = args.t1 in Asks scheme_of s.catalogue s.wanted s.key args.server =
+        let args = c.args in
+        let s = args.t1 in
+        server-passed scheme_of s.catalogue s.wanted s.key args.server (accepted) in
+    (asks).holds.admitted
 
 pub overflow_mul-s : goal.overflow_mul-s
-overflow_mul-s c =    let passed = asks c.before.before.before in
+overflow_mul-s c =    let accepted : let args = c.args in foremost (ask_faults scheme_of args.t1 args.server) ≡ Accepted =
+        sym c.server_verdict.ensures ∙ c.in_default.is in
+    let asks : let args = c.args in
+    let s = args.t1 in Asks scheme_of s.catalogue s.wanted s.key args.server =
+        let args = c.args in
+        let s = args.t1 in
+        server-passed scheme_of s.catalogue s.wanted s.key args.server (accepted) in
+    let passed = asks in
     let s = c.args.s in
     omega (arith, (sizes-small s.catalogue c.sizes_of-sizes.result passed.holds.admitted c.sizes_of-sizes.ensures).slots)
 
 pub returns-then-room-s : goal.returns-then-room-s
 unfolding take_verdict
-returns-then-room-s c =    after_first_lem _ _ refl refl Accepted _ (sym (accepted c.before.before.before.before)) (rw (← c.sizes_of-sizes.ensures, lt-ltb _ _ c.if-room-s.true))
+returns-then-room-s c =    let accepted : let args = c.args in foremost (ask_faults scheme_of args.t1 args.server) ≡ Accepted =
+        sym c.server_verdict.ensures ∙ c.in_default.is in
+    after_first_lem _ _ refl refl Accepted _ (sym (accepted)) (rw (← c.sizes_of-sizes.ensures, lt-ltb _ _ c.if-room-s.true))
 
 pub answer_length-requires : goal.answer_length-requires
-answer_length-requires c =    let passed = asks c.before.before.before.before.before.before in
+answer_length-requires c =    let accepted : let args = c.args in foremost (ask_faults scheme_of args.t1 args.server) ≡ Accepted =
+        sym c.server_verdict.ensures ∙ c.in_default.is in
+    let asks : let args = c.args in
+    let s = args.t1 in Asks scheme_of s.catalogue s.wanted s.key args.server =
+        let args = c.args in
+        let s = args.t1 in
+        server-passed scheme_of s.catalogue s.wanted s.key args.server (accepted) in
+    let passed = asks in
     record {
       admitted = passed.holds.admitted;
       places_len = key-places c.args.s _ c.well_formed.0;
@@ -56,22 +67,45 @@ answer_length-requires c =    let passed = asks c.before.before.before.before.be
 
 pub returns-then-size-answer_length : goal.returns-then-size-answer_length
 unfolding take_verdict
-returns-then-size-answer_length c =    after_first_lem _ _ refl refl Accepted _ (sym (accepted c.before.before.before.before.before.before.before.before))
+returns-then-size-answer_length c =    let accepted : let args = c.args in foremost (ask_faults scheme_of args.t1 args.server) ≡ Accepted =
+        sym c.server_verdict.ensures ∙ c.in_default.is in
+    after_first_lem _ _ refl refl Accepted _ (sym (accepted))
     (rw (← c.answer_length.ensures, ne_eqb _ _ c.if-size-answer_length.true, ← c.sizes_of-sizes.ensures, le-ltb _ _ c.if-room-s.false))
 
 pub slice_bounds-key-end : goal.slice_bounds-key-end
-slice_bounds-key-end c =    let s = c.args.s in
-    key_fits s.catalogue s.key (key-places s _ c.well_formed.0) c.sizes_of-sizes.result (asks c.before.before.before.before.before.before.before.before.before).holds.admitted c.sizes_of-sizes.ensures
+slice_bounds-key-end c =    let accepted : let args = c.args in foremost (ask_faults scheme_of args.t1 args.server) ≡ Accepted =
+        sym c.server_verdict.ensures ∙ c.in_default.is in
+    let asks : let args = c.args in
+    let s = args.t1 in Asks scheme_of s.catalogue s.wanted s.key args.server =
+        let args = c.args in
+        let s = args.t1 in
+        server-passed scheme_of s.catalogue s.wanted s.key args.server (accepted) in
+    let s = c.args.s in
+    key_fits s.catalogue s.key (key-places s _ c.well_formed.0) c.sizes_of-sizes.result (asks).holds.admitted c.sizes_of-sizes.ensures
 
 pub slice_bounds-due_verdict-end : goal.slice_bounds-due_verdict-end
-slice_bounds-due_verdict-end c =    let s = c.args.s in
-    sym (key-count s.catalogue s.key (key-places s _ c.well_formed.0) c.sizes_of-sizes.result (asks c.before.before.before.before.before.before.before.before.before.before).holds.admitted c.sizes_of-sizes.ensures)
+slice_bounds-due_verdict-end c =    let accepted : let args = c.args in foremost (ask_faults scheme_of args.t1 args.server) ≡ Accepted =
+        sym c.server_verdict.ensures ∙ c.in_default.is in
+    let asks : let args = c.args in
+    let s = args.t1 in Asks scheme_of s.catalogue s.wanted s.key args.server =
+        let args = c.args in
+        let s = args.t1 in
+        server-passed scheme_of s.catalogue s.wanted s.key args.server (accepted) in
+    let s = c.args.s in
+    sym (key-count s.catalogue s.key (key-places s _ c.well_formed.0) c.sizes_of-sizes.result (asks).holds.admitted c.sizes_of-sizes.ensures)
 
 pub due_verdict-requires : goal.due_verdict-requires
-due_verdict-requires c =    let s = c.args.s in
+due_verdict-requires c =    let accepted : let args = c.args in foremost (ask_faults scheme_of args.t1 args.server) ≡ Accepted =
+        sym c.server_verdict.ensures ∙ c.in_default.is in
+    let asks : let args = c.args in
+    let s = args.t1 in Asks scheme_of s.catalogue s.wanted s.key args.server =
+        let args = c.args in
+        let s = args.t1 in
+        server-passed scheme_of s.catalogue s.wanted s.key args.server (accepted) in
+    let s = c.args.s in
     let long = key-places s _ c.well_formed.0 in
     let sizes = c.sizes_of-sizes in 
-    let passed = asks c.before.before.before.before.before.before.before.before.before.before.before.before.before in
+    let passed = asks in
     let holds = passed.holds in
     let valid = key-valid s.catalogue s.key long c.sizes_of-sizes.result holds.admitted c.sizes_of-sizes.ensures holds.good in
     let few = (sizes-small s.catalogue c.sizes_of-sizes.result holds.admitted c.sizes_of-sizes.ensures).servers in
@@ -85,6 +119,8 @@ due_verdict-requires c =    let s = c.args.s in
 
 pub returns : goal.returns
 unfolding take_verdict
-returns c =    let roomy = rw c.sizes_of-sizes.ensures at c.if-room-s.false in
-    after_first_lem _ _ refl refl Accepted _ (sym (accepted c.before.before.before.before.before.before.before.before.before.before.before.before.before.before))
+returns c =    let accepted : let args = c.args in foremost (ask_faults scheme_of args.t1 args.server) ≡ Accepted =
+        sym c.server_verdict.ensures ∙ c.in_default.is in
+    let roomy = rw c.sizes_of-sizes.ensures at c.if-room-s.false in
+    after_first_lem _ _ refl refl Accepted _ (sym (accepted))
     (rw (eq-eqb _ _ (c.if-size-answer_length.false ∙ c.answer_length.ensures), le-ltb _ _ roomy) (rw c.sizes_of-sizes.ensures at c.due_verdict.ensures))

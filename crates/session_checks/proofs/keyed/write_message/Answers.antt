@@ -13,19 +13,19 @@ use Rattle.codes.specs.Codes.{scheme_of}
 use Rattle.session_checks.proofs.Keys.{key-count, key-valid}
 use Rattle.session_checks.proofs.keyed.write_message.Goals as goal
 
--- the buffer has room for the message
-fits : (c : goal.After-message_length-length) → c.message_length-length.result ≤ length c.args.message.now
-fits c = omega (arith, c.message_length-length.ensures, c.requires.wanted_in_bounds)
-
 pub slice_bounds-recover-end : goal.slice_bounds-recover-end
 slice_bounds-recover-end c =    let args = c.args in
     sym (key-count args.c args.places.now c.requires.places_len c.sizes_of-sizes.result c.requires.admitted c.sizes_of-sizes.ensures)
 
 pub slice_bounds-recover-end-2 : goal.slice_bounds-recover-end-2
-slice_bounds-recover-end-2 c = fits c
+slice_bounds-recover-end-2 c =    let fits : c.message_length-length.result ≤ length c.args.message.now =
+        omega (arith, c.message_length-length.ensures, c.requires.wanted_in_bounds) in
+    fits
 
 pub slice_bounds-recover-end-3 : goal.slice_bounds-recover-end-3
-slice_bounds-recover-end-3 c =    sym (length-take-le c.message_length-length.result c.args.message.now (fits c.before))
+slice_bounds-recover-end-3 c =    let fits : c.message_length-length.result ≤ length c.args.message.now =
+        omega (arith, c.message_length-length.ensures, c.requires.wanted_in_bounds) in
+    sym (length-take-le c.message_length-length.result c.args.message.now (fits))
 
 pub recover-requires : goal.recover-requires
 recover-requires c =    let args = c.args in
@@ -40,12 +40,14 @@ recover-requires c =    let args = c.args in
     }
 
 pub returns : goal.returns
-returns c =    let args = c.args in
+returns c =    let fits : c.message_length-length.result ≤ length c.args.message.now =
+        omega (arith, c.message_length-length.ensures, c.requires.wanted_in_bounds) in
+    let args = c.args in
     let size = c.message_length-length.result in
     let message = args.message.now in
     ap (λ (l : List ℕ). l ++ drop size message) c.recover.ensures
     ∙ lay-front size (recover_in (scheme_of args.c) args.c.servers args.wanted (take c.sizes_of-sizes.result.key args.places.now)
-    args.answers.now) message (fits c.before.before.before.before)
+    args.answers.now) message (fits)
     ∙ ap₂ (λ (n : ℕ) (sizes : Sizes). put 0
     (take n (recover_in (scheme_of args.c) args.c.servers args.wanted (take sizes.key args.places.now) args.answers.now)) message)
     c.message_length-length.ensures c.sizes_of-sizes.ensures

@@ -15,15 +15,6 @@ use Rattle.short_scheme.proofs.ZeroRow.{length_none, length_some, room-some, ans
 use Rattle.short_rows.proofs.Gathering.{gathered-answer}
 use Rattle.short_rows.proofs.answering.answer.Goals as goal
 
-bytes : (c : goal.After-shared_slice_known-1) → Below 256 c.args.store.now
-bytes c i h = omega (arith, c.shared_slice_known-1.given i)
-
--- a row that is not all zeros has room for a symbol
-roomy : (c : goal.Else-empty) → c.args.s ≤ length c.args.out.now
-roomy c =
-    let a = c.args in
-    room-some a.s a.row.now (length a.out.now) (sym c.all_below-empty.ensures ∙ c.if-empty.false) c.requires.row_in_bounds
-
 pub returns-then-empty : goal.returns-then-empty
 returns-then-empty c =    let a = c.args in
     let none : all_zero a.row.now ≡ true = sym c.all_below-empty.ensures ∙ c.if-empty.true in record {
@@ -32,25 +23,39 @@ returns-then-empty c =    let a = c.args in
     }
 
 pub slice_bounds-gather-end : goal.slice_bounds-gather-end
-slice_bounds-gather-end c = roomy c
+slice_bounds-gather-end c =    let roomy : c.args.s ≤ length c.args.out.now =
+        let a = c.args in
+        room-some a.s a.row.now (length a.out.now) (sym c.all_below-empty.ensures ∙ c.if-empty.false) c.requires.row_in_bounds in
+    roomy
 
 pub slice_bounds-gather-end-2 : goal.slice_bounds-gather-end-2
-slice_bounds-gather-end-2 c =    let a = c.args in
-    sym (length-take-le a.s a.out.now (roomy c.before))
+slice_bounds-gather-end-2 c =    let roomy : c.args.s ≤ length c.args.out.now =
+        let a = c.args in
+        room-some a.s a.row.now (length a.out.now) (sym c.all_below-empty.ensures ∙ c.if-empty.false) c.requires.row_in_bounds in
+    let a = c.args in
+    sym (length-take-le a.s a.out.now (roomy))
 
 pub gather-requires : goal.gather-requires
-gather-requires c =    let a = c.args in
+gather-requires c =    let roomy : c.args.s ≤ length c.args.out.now =
+        let a = c.args in
+        room-some a.s a.row.now (length a.out.now) (sym c.all_below-empty.ensures ∙ c.if-empty.false) c.requires.row_in_bounds in
+    let a = c.args in
     record {
       s_nonzero = c.requires.s_nonzero;
       row_stored = c.requires.row_stored;
-      out_len = length-take-le a.s a.out.now (roomy c.before);
+      out_len = length-take-le a.s a.out.now (roomy);
     }
 
 pub returns : goal.returns
-returns c =    let a = c.args in
+returns c =    let bytes : Below 256 c.args.store.now =
+        λ i h. omega (arith, c.shared_slice_known-1.given i) in
+    let roomy : c.args.s ≤ length c.args.out.now =
+        let a = c.args in
+        room-some a.s a.row.now (length a.out.now) (sym c.all_below-empty.ensures ∙ c.if-empty.false) c.requires.row_in_bounds in
+    let a = c.args in
     let some : all_zero a.row.now ≡ false = sym c.all_below-empty.ensures ∙ c.if-empty.false in record {
       value = sym (length_some a.s a.row.now some);
-      out_after = gathered-answer (sum_of a.op) a.stride a.s a.store.now (group_of a.op a.s) (bytes c.before.before.before.before.before.before.before.before)
+      out_after = gathered-answer (sum_of a.op) a.stride a.s a.store.now (group_of a.op a.s) (bytes)
           a.first a.row.now (take a.s a.out.now) a.out.now c.requires.row_stored some c.gather.ensures
-          (c.gather.auto.1.1.1.1.1.1.0 ∙ length-take-le a.s a.out.now (roomy c.before.before.before.before));
+          (c.gather.auto.1.1.1.1.1.1.0 ∙ length-take-le a.s a.out.now (roomy));
     }

@@ -12,24 +12,26 @@ use Rattle.short_rows.specs.Steps.{gathered}
 use Rattle.short_rows.proofs.Gathering.{gather-more}
 use Rattle.short_rows.proofs.answering.gather.Goals as goal
 
--- the symbol of the digit ends inside the store, so its number is small
-small : (c : goal.In-loop-p) → let a = c.args in
-    a.first + c.loop-p.p * a.stride + get_or a.row.now c.loop-p.p 0 ≤ length a.store.now
-small c =
-    let a = c.args in
-    let n = a.first + c.loop-p.p * a.stride + get_or a.row.now c.loop-p.p 0 in
-    omega (arith, c.requires.row_stored.stored c.loop-p.p (omega arith), le-mul_of_pos_right n c.requires.s_nonzero)
-
 pub loop-p-init : goal.loop-p-init
 loop-p-init c =    let a = c.args in
     let none : a.first + 0 * a.stride ≡ a.first = omega arith in
     (omega arith, refl, ap (λ (n : ℕ). gathered (sum_of a.op) false a.out.now (named n a.stride a.s a.store.now a.row.now)) none)
 
 pub overflow_mul-at : goal.overflow_mul-at
-overflow_mul-at c = omega (arith, small c)
+overflow_mul-at c =    let small : let a = c.args in
+    a.first + c.loop-p.p * a.stride + get_or a.row.now c.loop-p.p 0 ≤ length a.store.now =
+        let a = c.args in
+        let n = a.first + c.loop-p.p * a.stride + get_or a.row.now c.loop-p.p 0 in
+        omega (arith, c.requires.row_stored.stored c.loop-p.p (omega arith), le-mul_of_pos_right n c.requires.s_nonzero) in
+    omega (arith, small)
 
 pub overflow_add-at : goal.overflow_add-at
-overflow_add-at c = omega (arith, small c)
+overflow_add-at c =    let small : let a = c.args in
+    a.first + c.loop-p.p * a.stride + get_or a.row.now c.loop-p.p 0 ≤ length a.store.now =
+        let a = c.args in
+        let n = a.first + c.loop-p.p * a.stride + get_or a.row.now c.loop-p.p 0 in
+        omega (arith, c.requires.row_stored.stored c.loop-p.p (omega arith), le-mul_of_pos_right n c.requires.s_nonzero) in
+    omega (arith, small)
 
 pub bounds-row-p : goal.bounds-row-p
 bounds-row-p c = omega arith

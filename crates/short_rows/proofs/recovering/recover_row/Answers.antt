@@ -15,13 +15,6 @@ use Rattle.short_rows.specs.Steps.{from_places}
 use Rattle.short_rows.proofs.Places.{from-length, write_done, write-more}
 use Rattle.short_rows.proofs.recovering.recover_row.Goals as goal
 
--- the number that is added up is a server's
-server : (c : goal.After-add_modulo-server) → c.add_modulo-server.result < c.args.n
-server c =
-    let a = c.args in
-    let m : (c.loop-d.d + a.t) % a.n < a.n = mod-lt (c.loop-d.d + a.t) (omega arith) in
-    omega (arith, c.add_modulo-server.ensures)
-
 pub offset_bounds-starts-t : goal.offset_bounds-starts-t
 offset_bounds-starts-t c = omega (arith, c.requires.placed.few)
 
@@ -37,10 +30,18 @@ pub add_modulo-server-requires : goal.add_modulo-server-requires
 add_modulo-server-requires c = (omega arith, omega arith)
 
 pub offset_bounds-starts-server : goal.offset_bounds-starts-server
-offset_bounds-starts-server c = omega (arith, server c, c.requires.placed.few)
+offset_bounds-starts-server c =    let server : c.add_modulo-server.result < c.args.n =
+        let a = c.args in
+        let m : (c.loop-d.d + a.t) % a.n < a.n = mod-lt (c.loop-d.d + a.t) (omega arith) in
+        omega (arith, c.add_modulo-server.ensures) in
+    omega (arith, server, c.requires.placed.few)
 
 pub bounds-starts-server : goal.bounds-starts-server
-bounds-starts-server c =    omega (arith, server c.before, c.requires.placed.known)
+bounds-starts-server c =    let server : c.add_modulo-server.result < c.args.n =
+        let a = c.args in
+        let m : (c.loop-d.d + a.t) % a.n < a.n = mod-lt (c.loop-d.d + a.t) (omega arith) in
+        omega (arith, c.add_modulo-server.ensures) in
+    omega (arith, server, c.requires.placed.known)
 
 pub overflow_sub-at : goal.overflow_sub-at
 overflow_sub-at c = omega arith
@@ -53,9 +54,13 @@ overflow_mul-at c =    let d = c.loop-d.d in
     omega arith
 
 pub recover_symbol-requires : goal.recover_symbol-requires
-recover_symbol-requires c =    let placed = c.requires.placed in
+recover_symbol-requires c =    let server : c.add_modulo-server.result < c.args.n =
+        let a = c.args in
+        let m : (c.loop-d.d + a.t) % a.n < a.n = mod-lt (c.loop-d.d + a.t) (omega arith) in
+        omega (arith, c.add_modulo-server.ensures) in
+    let placed = c.requires.placed in
     record {
-      s_in_bounds = placed.inside c.add_modulo-server.result (server c.before.before);
+      s_in_bounds = placed.inside c.add_modulo-server.result (server);
       s_in_bounds_2 = placed.inside c.args.t c.requires.t_lt_n;
     }
 
