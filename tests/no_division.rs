@@ -5,7 +5,7 @@
 //!
 //!     rustc --edition 2021 -O tests/no_division.rs -o no_division
 //!     ./no_division crates          reads the sources; then plants divisions, calls and gaps in what it has read, each of which it must find
-//!     ./no_division crates MIR      holds what it reads against the compiler's account of it (a file of what `rt mir session` prints)
+//!     ./no_division crates MIR      holds what it reads against the compiler's account of it (a file with the `mir.json` of each crate's library)
 mod sources;
 
 use sources::{Calls, Read, Sources};
@@ -118,10 +118,13 @@ fn plants(sources: &Sources, read: &Read, found: &[String]) -> usize {
 fn compiled(mir: &str) -> (Calls, BTreeSet<String>) {
     let (mut calls, mut dividing) = (Calls::new(), BTreeSet::new());
     let name = |text: &str| text.split('"').next().unwrap().to_string();
-    for function in mir.split("(fn-def \"").skip(1) {
-        calls.insert(name(function), function.split("(fnRef \"").skip(1).map(name).collect());
-        if function.contains("(div ") || function.contains("(rem ") {
-            dividing.insert(name(function));
+    // an entry is ["NAME",{"lifetimes":..}]: what stands between two marks is a body, and then the next entry's name
+    let parts: Vec<&str> = mir.split("\",{\"lifetimes\":").collect();
+    for (before, body) in parts.iter().zip(&parts[1..]) {
+        let own = before.rsplit('"').next().unwrap().to_string();
+        calls.insert(own.clone(), body.split("{\"Fn\":[\"").skip(1).map(name).collect());
+        if body.contains("{\"Div\":") || body.contains("{\"Rem\":") {
+            dividing.insert(own);
         }
     }
     (calls, dividing)

@@ -18,8 +18,7 @@ fn told(verdict: Verdict) -> i64
 
 // Sets byte `byte` of piece `piece` of pack `pack` in the store, and no other, to `value`, and brings the saved answer up to date. Where several answers are
 // saved, all but one are corrected by `gozimpe_correct_answer` first.
-#[unsafe(no_mangle)]
-pub extern "C" fn gozimpe_correct(
+pub fn gozimpe_correct(
     catalogue: &[u8],
     mirror: u64,
     store: &mut [u8],
@@ -57,8 +56,7 @@ pub extern "C" fn gozimpe_correct(
 
 // Brings a saved answer up to date with an edit from the store as it was before the edit, which stays. Any number of saved answers are corrected in this way,
 // in any order, before `gozimpe_correct` sets the store.
-#[unsafe(no_mangle)]
-pub extern "C" fn gozimpe_correct_answer(
+pub fn gozimpe_correct_answer(
     catalogue: &[u8],
     mirror: u64,
     store: &[u8],

@@ -30,8 +30,7 @@ fn minus(refusal: Refusal) -> i64
 }
 
 // Answers one request today, which is year, month and day: the answer's length, or minus the refusal's number.
-#[unsafe(no_mangle)]
-pub extern "C" fn gozimpe_answer(
+pub fn gozimpe_answer(
     catalogue: &[u8],
     year: u32,
     month: u32,
@@ -67,8 +66,7 @@ pub extern "C" fn gozimpe_answer(
 }
 
 // The length of the longest answer under a catalogue, or minus the refusal's number.
-#[unsafe(no_mangle)]
-pub extern "C" fn gozimpe_longest_answer(catalogue: &[u8]) -> i64
+pub fn gozimpe_longest_answer(catalogue: &[u8]) -> i64
     ensures { result ≡ signed (longest_answer catalogue.now) }
 {
     let reading = catalogue_text::read(catalogue);
