@@ -109,7 +109,9 @@ returns-then-digit-symbol c =
     let a = c.args in
     let d = a.symbol % (a.n - 1) in
     let f = found a.n a.k a.s a.message a.symbol c.requires.s_value c.requires.message_lt_k in
-    sym (told a.n a.k a.s a.query.now a.message a.symbol c.requires.digit_rows c.requires.message_lt_k.0 f _ (ne_eqb (get_or a.query.now (a.symbol / (a.n - 1) * a.k + a.message) 0) (suc d) (λ e. c.if-digit-symbol.true (e ∙ sym (add-one d)))))
+    let digit = get_or a.query.now (a.symbol / (a.n - 1) * a.k + a.message) 0 in
+    sym (told a.n a.k a.s a.query.now a.message a.symbol c.requires.digit_rows c.requires.message_lt_k.0 f _
+    (ne_eqb digit (suc d) (λ e. c.if-digit-symbol.true (e ∙ sym (add-one d)))))
 
 pub length_before-requires : goal.length_before-requires
 length_before-requires c =
@@ -123,5 +125,7 @@ returns c =
     let a = c.args in
     let d = a.symbol % (a.n - 1) in
     let f = found a.n a.k a.s a.message a.symbol c.requires.s_value c.requires.message_lt_k in
+    let digit = get_or a.query.now (a.symbol / (a.n - 1) * a.k + a.message) 0 in
     ap At c.length_before.ensures
-    ∙ sym (told a.n a.k a.s a.query.now a.message a.symbol c.requires.digit_rows c.requires.message_lt_k.0 f _ (eq-eqb (get_or a.query.now (a.symbol / (a.n - 1) * a.k + a.message) 0) (suc d) (c.if-digit-symbol.false ∙ add-one d)))
+    ∙ sym (told a.n a.k a.s a.query.now a.message a.symbol c.requires.digit_rows c.requires.message_lt_k.0 f _
+    (eq-eqb digit (suc d) (c.if-digit-symbol.false ∙ add-one d)))

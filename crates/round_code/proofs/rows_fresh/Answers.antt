@@ -172,7 +172,8 @@ bounds-seen-number c =
         c.admits.ensures ∙ ap (short_admits a.n a.k a.server) (row-lent a.k a.query.now c.loop-i.i) in
     let own : short_admits a.n a.k a.server (row a.k a.query.now c.loop-i.i) ≡ true =
         sym tested ∙ not-false c.admits.result c.if-not-admits.false-raw in
-    let t = turn a.n a.k a.server a.v a.query.now c.loop-i.i c.number_of-number.result r.round_numbers r.v_value r.query_len (omega arith) own c.number_of-number.ensures in
+    let made = c.number_of-number in
+    let t = turn a.n a.k a.server a.v a.query.now c.loop-i.i made.result r.round_numbers r.v_value r.query_len (omega arith) own made.ensures in
     omega (arith, t.mark-low, r.v_value, r.round_numbers.blocks-high)
 
 pub returns-then-seen-number : goal.returns-then-seen-number
@@ -183,7 +184,8 @@ returns-then-seen-number c =
         c.admits.ensures ∙ ap (short_admits a.n a.k a.server) (row-lent a.k a.query.now c.loop-i.i) in
     let own : short_admits a.n a.k a.server (row a.k a.query.now c.loop-i.i) ≡ true =
         sym tested ∙ not-false c.admits.result c.if-not-admits.false-raw in
-    let t = turn a.n a.k a.server a.v a.query.now c.loop-i.i c.number_of-number.result r.round_numbers r.v_value r.query_len (omega arith) own c.number_of-number.ensures in
+    let made = c.number_of-number in
+    let t = turn a.n a.k a.server a.v a.query.now c.loop-i.i made.result r.round_numbers r.v_value r.query_len (omega arith) own made.ensures in
     let here = row a.k a.query.now c.loop-i.i in
     let keys = round_key a.n a.k 0 a.query.now in
     let again : is_permutation a.v keys ≡ false =
@@ -201,7 +203,8 @@ bounds-seen-number-in-loop-i c =
         c.admits.ensures ∙ ap (short_admits a.n a.k a.server) (row-lent a.k a.query.now c.loop-i.i) in
     let own : short_admits a.n a.k a.server (row a.k a.query.now c.loop-i.i) ≡ true =
         sym tested ∙ not-false c.admits.result c.if-not-admits.false-raw in
-    let t = turn a.n a.k a.server a.v a.query.now c.loop-i.i c.number_of-number.result r.round_numbers r.v_value r.query_len (omega arith) own c.number_of-number.ensures in
+    let made = c.number_of-number in
+    let t = turn a.n a.k a.server a.v a.query.now c.loop-i.i made.result r.round_numbers r.v_value r.query_len (omega arith) own made.ensures in
     omega (arith, t.mark-low, r.v_value, r.round_numbers.blocks-high)
 
 pub overflow_add-i : goal.overflow_add-i
@@ -218,7 +221,8 @@ loop-i-preserved c =
         c.admits.ensures ∙ ap (short_admits a.n a.k a.server) (row-lent a.k a.query.now c.loop-i.i) in
     let own : short_admits a.n a.k a.server (row a.k a.query.now c.loop-i.i) ≡ true =
         sym tested ∙ not-false c.admits.result c.if-not-admits.false-raw in
-    let t = turn a.n a.k a.server a.v a.query.now c.loop-i.i c.number_of-number.result r.round_numbers r.v_value r.query_len (omega arith) own c.number_of-number.ensures in
+    let made = c.number_of-number in
+    let t = turn a.n a.k a.server a.v a.query.now c.loop-i.i made.result r.round_numbers r.v_value r.query_len (omega arith) own made.ensures in
     let keys = round_key a.n a.k 0 a.query.now in
     let seen = c.loop-i.seen in
     let i = c.loop-i.i in (

@@ -29,7 +29,10 @@ loop-i-init c = (omega arith, refl)
 
 pub overflow_mul-result : goal.overflow_mul-result
 overflow_mul-result c =
-    record { fits = omega (arith, small c.args.n c.args.row.now c.loop-i.i c.loop-i.result (omega arith) c.loop-i.invariant.1 c.requires.n_nonzero.0 c.requires.n_nonzero.1 c.requires.row_bound) }
+    let a = c.args in
+    let r = c.requires in
+    let fits = small a.n a.row.now c.loop-i.i c.loop-i.result (omega arith) c.loop-i.invariant.1 r.n_nonzero.0 r.n_nonzero.1 r.row_bound in
+    record { fits = omega (arith, fits) }
 
 pub bounds-row-i : goal.bounds-row-i
 bounds-row-i c = omega arith
@@ -39,7 +42,10 @@ overflow_cast-result c = omega (arith, c.shared_slice_known-1.given c.loop-i.i)
 
 pub overflow_add-result : goal.overflow_add-result
 overflow_add-result c =
-    record { fits = small c.args.n c.args.row.now c.loop-i.i c.loop-i.result (omega arith) c.loop-i.invariant.1 c.requires.n_nonzero.0 c.requires.n_nonzero.1 c.requires.row_bound }
+    let a = c.args in
+    let r = c.requires in
+    let fits = small a.n a.row.now c.loop-i.i c.loop-i.result (omega arith) c.loop-i.invariant.1 r.n_nonzero.0 r.n_nonzero.1 r.row_bound in
+    record { fits = fits }
 
 pub overflow_add-i : goal.overflow_add-i
 overflow_add-i c = omega arith
