@@ -38,63 +38,79 @@ rows-round c query e = rw e
 
 pub locate-requires : goal.locate-requires
 unfolding short_sizes
-locate-requires c =    let a = c.args in
-    let p = rw (scheme-short a.c c.in-Short.is) at c.requires in
-    let row = admits-row a.c.servers a.c.messages a.server a.query.now p.1.0 in
+locate-requires c =
+    let a = c.args in
+    let s = scheme-short a.c c.in-Short.is in
+    let admits = rw s at c.requires.query_value in
+    let known = rw s at c.requires.message_lt_messages in
+    let row = admits-row a.c.servers a.c.messages a.server a.query.now admits in
     let numbers = admitted-numbers a.c c.requires.admitted in
     record {
-      message_in_bounds = omega (arith, row.long, p.1.1);
-      symbol_bound = omega (arith, p.1.1, numbers.servers-high);
+      message_in_bounds = omega (arith, row.long, known);
+      symbol_bound = omega (arith, known, numbers.servers-high);
     }
 
 pub locate-requires-in-Even : goal.locate-requires-in-Even
 unfolding even_sizes
-locate-requires-in-Even c =    let a = c.args in
+locate-requires-in-Even c =
+    let a = c.args in
     let e = c.in-Even.is in
-    let p = rw (scheme-even a.c e) at c.requires in
+    let s = scheme-even a.c e in
+    let admits = rw s at c.requires.query_value in
+    let known = rw s at c.requires.message_lt_messages in
     record {
       s_value = admitted-even a.c c.requires.admitted e;
-      query_len = (admitted a.c.servers a.c.messages a.server a.query.now p.1.0).long;
+      query_len = (admitted a.c.servers a.c.messages a.server a.query.now admits).long;
     }
 
 pub locate-requires-in-Turn : goal.locate-requires-in-Turn
 unfolding turn_sizes short_sizes
-locate-requires-in-Turn c =    let a = c.args in
-    let p = rw (scheme-turn a.c c.in-Turn.is) at c.requires in
-    let row = admitted-row a.c.servers a.c.messages a.query.now p.1.0 in
+locate-requires-in-Turn c =
+    let a = c.args in
+    let s = scheme-turn a.c c.in-Turn.is in
+    let admits = rw s at c.requires.query_value in
+    let known = rw s at c.requires.message_lt_messages in
+    let row = admitted-row a.c.servers a.c.messages a.query.now admits in
     let numbers = admitted-numbers a.c c.requires.admitted in
     record {
-      message_in_bounds = omega (arith, row.long, p.1.1);
-      symbol_bound = omega (arith, p.1.1, numbers.servers-high);
+      message_in_bounds = omega (arith, row.long, known);
+      symbol_bound = omega (arith, known, numbers.servers-high);
     }
 
 pub locate-requires-in-Round : goal.locate-requires-in-Round
 unfolding round_sizes
-locate-requires-in-Round c =    let a = c.args in
+locate-requires-in-Round c =
+    let a = c.args in
     let e = c.in-Round.is in
-    let p = rw (scheme-round a.c e) at c.requires in
+    let s = scheme-round a.c e in
+    let admits = rw s at c.requires.query_value in
+    let known = rw s at c.requires.message_lt_messages in
     record {
       s_value = admitted-round a.c c.requires.admitted e;
-      digit_rows = admitted-digits a.c.servers a.c.messages a.server a.query.now p.1.0;
-      message_lt_k = p.1.1;
+      digit_rows = admitted-digits a.c.servers a.c.messages a.server a.query.now admits;
+      message_lt_k = known;
     }
 
 pub returns-in-Short : goal.returns-in-Short
-returns-in-Short c =    let a = c.args in
+returns-in-Short c =
+    let a = c.args in
     c.locate.ensures
     ∙ ap (place_naming a.c.symbol a.message a.symbol) (sym (rows_short a.c a.query.now c.in-Short.is))
 
 pub returns-in-Even : goal.returns-in-Even
-returns-in-Even c =    let a = c.args in
+returns-in-Even c =
+    let a = c.args in
     c.locate-in-Even.ensures
     ∙ ap (place_naming a.c.symbol a.message a.symbol) (sym (rows-even a.c a.query.now c.in-Even.is))
 
 pub returns-in-Turn : goal.returns-in-Turn
-returns-in-Turn c =    let a = c.args in
+returns-in-Turn c =
+    let a = c.args in
     c.locate-in-Turn.ensures
     ∙ ap (place_naming a.c.symbol a.message a.symbol) (sym (rows-turn a.c a.query.now c.in-Turn.is))
 
 pub returns-in-Round : goal.returns-in-Round
-returns-in-Round c =    let a = c.args in
+returns-in-Round c =
+    let a = c.args in
     c.locate-in-Round.ensures
     ∙ ap (place_naming a.c.symbol a.message a.symbol) (sym (rows-round a.c a.query.now c.in-Round.is))

@@ -32,66 +32,69 @@ symbols-small N K i b h =
     let short : N - 1 ≤ 15 = omega (arith, b.servers-high) in
     mul-le-mul few short
 
--- the row of a turn
-module _ (c : tie.In-loop invariant-loop decreases-loop) where
-  abbrev start : tie.Start invariant-loop decreases-loop
-  start = c.before.before.before.before.before.before
-
-  abbrev i : ℕ
-  i = c.before.loop.i
-
-  low : i < blocks start.args.n start.args.k
-  low = omega (arith, c.before.before.power.ensures)
-
-  digits-inside : (i * start.args.k + start.args.k ≤ length start.args.query.now) × (i * start.args.k ≤ 64 * 7)
-  digits-inside =
-      let a = start.args in (
-        omega (arith, slot-end i (blocks a.n a.k) a.k low, start.pre.1.1.0.long),
-        rows-small a.n a.k (numbers start) i (omega (arith, low)),
-      )
+-- the digits of a turn's row are in the query
+digits-inside : (N K i : ℕ) (query : List ℕ) → RoundNumbers N K → length query ≡ blocks N K * K → i < blocks N K
+    → (i * K + K ≤ length query) × (i * K ≤ 64 * 7)
+digits-inside N K i query b long low = (omega (arith, slot-end i (blocks N K) K low, long), rows-small N K b i (omega (arith, low)))
 
 pub overflow_sub-k : goal.overflow_sub-k
-overflow_sub-k c =    let numbers : RoundNumbers c.args.n c.args.k =
+overflow_sub-k c =
+    let numbers : RoundNumbers c.args.n c.args.k =
         fits-numbers c.args.n c.args.k c.args.s c.requires.s_value in
-    omega (arith, (numbers).messages-low)
+    omega (arith, numbers.messages-low)
 
 pub power-v-requires : goal.power-v-requires
-power-v-requires c =    let numbers : RoundNumbers c.args.n c.args.k =
+power-v-requires c =
+    let numbers : RoundNumbers c.args.n c.args.k =
         fits-numbers c.args.n c.args.k c.args.s c.requires.s_value in
-    blocks-fit c.args.n c.args.k (numbers)
+    blocks-fit c.args.n c.args.k numbers
 
 pub overflow_sub-stride : goal.overflow_sub-stride
-overflow_sub-stride c =    let numbers : RoundNumbers c.args.n c.args.k =
+overflow_sub-stride c =
+    let numbers : RoundNumbers c.args.n c.args.k =
         fits-numbers c.args.n c.args.k c.args.s c.requires.s_value in
-    omega (arith, (numbers).servers-low)
+    omega (arith, numbers.servers-low)
 
 pub overflow_mul-stride : goal.overflow_mul-stride
-overflow_mul-stride c =    let numbers : RoundNumbers c.args.n c.args.k =
+overflow_mul-stride c =
+    let numbers : RoundNumbers c.args.n c.args.k =
         fits-numbers c.args.n c.args.k c.args.s c.requires.s_value in
     let all : c.power-v.result ≤ blocks c.args.n c.args.k = omega (arith, c.power-v.ensures) in
-    omega (arith, symbols-small c.args.n c.args.k c.power-v.result (numbers) all)
+    omega (arith, symbols-small c.args.n c.args.k c.power-v.result numbers all)
 
 pub loop-i-init : goal.loop-i-init
 unfolding range flat_map
-loop-i-init c =    let a = c.args in (omega arith, sym (before-none a.k a.s a.query.now), refl, refl)
+loop-i-init c =
+    let a = c.args in (omega arith, sym (before-none a.k a.s a.query.now), refl, refl)
 
 pub overflow_sub-first : goal.overflow_sub-first
-overflow_sub-first c =    let numbers : RoundNumbers c.args.n c.args.k =
+overflow_sub-first c =
+    let numbers : RoundNumbers c.args.n c.args.k =
         fits-numbers c.args.n c.args.k c.args.s c.requires.s_value in
-    omega (arith, (numbers (start c)).servers-low)
+    omega (arith, numbers.servers-low)
 
 pub overflow_mul-first : goal.overflow_mul-first
-overflow_mul-first c =    let numbers : RoundNumbers c.args.n c.args.k =
+overflow_mul-first c =
+    let numbers : RoundNumbers c.args.n c.args.k =
         fits-numbers c.args.n c.args.k c.args.s c.requires.s_value in
-    let a = (start c).args in omega (arith, symbols-small a.n a.k (i c) (numbers (start c)) (omega (arith, low c)))
+    let low : c.loop-i.i < blocks c.args.n c.args.k = omega (arith, c.power-v.ensures) in
+    omega (arith, symbols-small c.args.n c.args.k c.loop-i.i numbers (omega (arith, low)))
 
 pub overflow_mul-from : goal.overflow_mul-from
-overflow_mul-from c = omega (arith, (digits-inside c).1)
+overflow_mul-from c =
+    let numbers : RoundNumbers c.args.n c.args.k =
+        fits-numbers c.args.n c.args.k c.args.s c.requires.s_value in
+    let low : c.loop-i.i < blocks c.args.n c.args.k = omega (arith, c.power-v.ensures) in
+    let inside = digits-inside c.args.n c.args.k c.loop-i.i c.args.query.now numbers c.requires.digit_rows.long low in
+    omega (arith, inside.1)
 
 pub overflow_add-end : goal.overflow_add-end
-overflow_add-end c =    let numbers : RoundNumbers c.args.n c.args.k =
+overflow_add-end c =
+    let numbers : RoundNumbers c.args.n c.args.k =
         fits-numbers c.args.n c.args.k c.args.s c.requires.s_value in
-    omega (arith, (digits-inside c).1, (numbers (start c)).messages-high)
+    let low : c.loop-i.i < blocks c.args.n c.args.k = omega (arith, c.power-v.ensures) in
+    let inside = digits-inside c.args.n c.args.k c.loop-i.i c.args.query.now numbers c.requires.digit_rows.long low in
+    omega (arith, inside.1, numbers.messages-high)
 
 pub slice_bounds-answer_row-count : goal.slice_bounds-answer_row-count
 slice_bounds-answer_row-count c = omega arith
@@ -100,21 +103,27 @@ pub slice_bounds-answer_row-start : goal.slice_bounds-answer_row-start
 slice_bounds-answer_row-start c = omega arith
 
 pub slice_bounds-answer_row-end : goal.slice_bounds-answer_row-end
-slice_bounds-answer_row-end c = omega (arith, (digits-inside c).0)
+slice_bounds-answer_row-end c =
+    let numbers : RoundNumbers c.args.n c.args.k =
+        fits-numbers c.args.n c.args.k c.args.s c.requires.s_value in
+    let low : c.loop-i.i < blocks c.args.n c.args.k = omega (arith, c.power-v.ensures) in
+    let inside = digits-inside c.args.n c.args.k c.loop-i.i c.args.query.now numbers c.requires.digit_rows.long low in
+    omega (arith, inside.0)
 
 pub answer_row-at-requires : goal.answer_row-at-requires
 unfolding round_sizes row_length
-answer_row-at-requires c =    let begun = start c.before.before in
-    let a = begun.args in
+answer_row-at-requires c =
+    let low : c.loop-i.i < blocks c.args.n c.args.k = omega (arith, c.power-v.ensures) in
+    let a = c.args in
     let query = a.query.now in
-    let room = before-grows a.k a.s query (i c.before.before) (blocks a.n a.k) (low c.before.before) in (
-      (round-bounds a.n a.k a.s begun.pre.0).symbol_low,
-      rw (c.power-v.ensures, row-lent a.k query (i c.before.before)) (
-        row-stored a.n a.k a.s a.store.now begun.pre.1.0 (i c.before.before) (low c.before.before) (row a.k query (i c.before.before))
-            (begun.pre.1.1.0.rows (i c.before.before) (low c.before.before)),
-        omega (arith, room, c.loop-i.invariant.1, c.loop-i.invariant.2, begun.pre.1.1.1),
-      ),
-    )
+    let i = c.loop-i.i in
+    let room = before-grows a.k a.s query i (blocks a.n a.k) low in
+    record {
+      s_nonzero = (round-bounds a.n a.k a.s c.requires.s_value).symbol_low;
+      row_stored = rw (c.power-v.ensures, row-lent a.k query i)
+          (row-stored a.n a.k a.s a.store.now c.requires.store_len i low (row a.k query i) (c.requires.digit_rows.rows i low));
+      row_in_bounds = rw (row-lent a.k query i) (omega (arith, room, c.loop-i.invariant.1, c.loop-i.invariant.2, c.requires.k_in_bounds));
+    }
 
 pub overflow_add-i : goal.overflow_add-i
 overflow_add-i c = omega arith
@@ -124,18 +133,19 @@ loop-i-smaller c = omega arith
 
 pub loop-i-preserved : goal.loop-i-preserved
 unfolding round_sizes row_length row_answer
-loop-i-preserved c =    let begun = start c.before.before.before.before.before in
-    let a = begun.args in
+loop-i-preserved c =
+    let low : c.loop-i.i < blocks c.args.n c.args.k = omega (arith, c.power-v.ensures) in
+    let a = c.args in
     let query = a.query.now in
     let out = c.loop-i.out in
-    let j = i c.before.before.before.before.before in
+    let j = c.loop-i.i in
     let f = row_answer (sum_of a.op) a.n a.k a.s a.store.now query in
     let keeps = (group_of a.op a.s).plus-length in
     let lent = row-lent a.k query j in
-    let rows = begun.pre.1.1.0.rows in
-    let long = before-long (sum_of a.op) a.n a.k a.s keeps a.store.now begun.pre.1.0 query rows j (omega (arith, low c.before.before.before.before.before)) in
-    let one = row-long (sum_of a.op) a.n a.k a.s keeps a.store.now begun.pre.1.0 query rows j (low c.before.before.before.before.before) in
-    let room = before-grows a.k a.s query j (blocks a.n a.k) (low c.before.before.before.before.before) in
+    let rows = c.requires.digit_rows.rows in
+    let long = before-long (sum_of a.op) a.n a.k a.s keeps a.store.now c.requires.store_len query rows j (omega (arith, low)) in
+    let one = row-long (sum_of a.op) a.n a.k a.s keeps a.store.now c.requires.store_len query rows j low in
+    let room = before-grows a.k a.s query j (blocks a.n a.k) low in
     let written =
     c.answer_row-at.ensures.out_after
     ∙ ap₂ (λ (v : ℕ) (l : List ℕ). put c.loop-i.at (strided_answer (sum_of a.op) (j * (a.n - 1)) (v * (a.n - 1)) a.s a.store.now l) out)
@@ -145,7 +155,7 @@ loop-i-preserved c =    let begun = start c.before.before.before.before.before i
           ∙ ap₂ (λ (n : ℕ) (l : List ℕ). n + short_answer_length a.s l) c.loop-i.invariant.1 lent
           ∙ sym (before-next a.k a.s query j),
       ap length written
-          ∙ put-length c.loop-i.at (f j) out (omega (arith, one, room, c.loop-i.invariant.1, c.loop-i.invariant.2, begun.pre.1.1.1))
+          ∙ put-length c.loop-i.at (f j) out (omega (arith, one, room, c.loop-i.invariant.1, c.loop-i.invariant.2, c.requires.k_in_bounds))
           ∙ c.loop-i.invariant.2,
       written
           ∙ put_next 0 c.loop-i.at (flat_map f (range 0 j)) (f j) a.out.now out (omega arith) (omega (arith, long, c.loop-i.invariant.1)) c.loop-i.invariant.3
@@ -157,7 +167,8 @@ shape_of-out c = c.loop-i.invariant.2
 
 pub returns : goal.returns
 unfolding round_answer
-returns c =    let a = c.args in
+returns c =
+    let a = c.args in
     let last : c.loop-i.i ≡ blocks a.n a.k = omega (arith, c.power-v.ensures) in
     c.loop-i.invariant.3
     ∙ ap (λ (n : ℕ). put 0 (flat_map (row_answer (sum_of a.op) a.n a.k a.s a.store.now a.query.now) (range 0 n)) a.out.now) last

@@ -1,6 +1,7 @@
 -- `round_code::locate` meets its contract: only the row of the symbol's block can name it, by the message's digit.
 use mathlib.Core.Path.{◌≡◌, sym, ap, ◌∙◌}
-use mathlib.Core.Bool.{Bool, cond}
+use mathlib.Core.Bool.{Bool, true, cond}
+use mathlib.Core.List.{List}
 use Prim.Native.Nat.{ℕ, suc, ◌+◌, ◌-◌, ◌*◌, ◌/◌, ◌%◌, ◌≤◌, ◌<◌}
 use native.Mathlib.Nat.{mod-lt, div-add-mod', div-lt_iff_lt-mul}
 use native.Mathlib.Numerals.{add-one}
@@ -9,13 +10,14 @@ use borrow.Author.Tests.{eq-eqb, ne_eqb}
 use lib.Dec.{eqb}
 use lib.ListN.{get_or}
 use Rattle.lists.proofs.Cuts.{cut_at, slot-end}
-use Rattle.parameters.specs.Bounds.{blocks}
+use Rattle.parameters.specs.Bounds.{blocks, round_fits}
 use Rattle.parameters.proofs.Bounds.{round-bounds}
 use Rattle.round_scheme.specs.Round.{row, length_before}
 use Rattle.scheme.specs.declared.Place.TheVariants.{At, Nowhere}
 use Rattle.scheme.specs.Asked.{place_naming}
 use Rattle.round_scheme.specs.Asked.{block_rows}
 use Rattle.round_scheme.proofs.Located.{round-located}
+use Rattle.round_code.specs.Steps.{DigitRows}
 use Rattle.round_code.proofs.Fits.{fits-numbers}
 use Rattle.round_code.proofs.locate.Goals as goal
 
@@ -28,193 +30,102 @@ record Where (n k message symbol : ℕ) : Type 0 where
   pub place : symbol / (n - 1) * k + message < blocks n k * k
   pub few : symbol / (n - 1) ≤ 64
 
+found : (N K S message symbol : ℕ) → round_fits N K S ≡ true → (message < K) × (symbol < blocks N K * (N - 1)) → Where N K message symbol
+found N K S message symbol fits asked =
+    let b = round-bounds N K S fits in
+    let some : 0 < N - 1 = omega (arith, b.servers-low) in
+    let block : symbol / (N - 1) < blocks N K = (div-lt_iff_lt-mul some).1 asked.1 in
+    record {
+      divisor = some;
+      whole = div-add-mod' symbol (N - 1);
+      digit = mod-lt symbol some;
+      block = block;
+      place = omega (arith, slot-end (symbol / (N - 1)) (blocks N K) K block, asked);
+      few = omega (arith, block, b.blocks-high);
+    }
+
 -- what the digit tells
-told : (c : tie.Start) (t : Bool) → let a = c.args in
-    eqb (get_or a.query.now (a.symbol / (a.n - 1) * a.k + a.message) 0) (suc (a.symbol % (a.n - 1))) ≡ t
-    → place_naming a.s a.message a.symbol (block_rows a.n a.k a.query.now)
-    ≡ cond t (At (length_before a.k a.s a.query.now (a.symbol / (a.n - 1)))) Nowhere
+told : (N K S : ℕ) (query : List ℕ) (message symbol : ℕ) → DigitRows N K query → message < K → Where N K message symbol → (t : Bool)
+    → eqb (get_or query (symbol / (N - 1) * K + message) 0) (suc (symbol % (N - 1))) ≡ t
+    → place_naming S message symbol (block_rows N K query) ≡ cond t (At (length_before K S query (symbol / (N - 1)))) Nowhere
 unfolding row
-told c t e =
-    let a = c.args in
-    let f = found c in
-    let query = a.query.now in
-    let b = a.symbol / (a.n - 1) in
-    let d = a.symbol % (a.n - 1) in
-    let at = At (length_before a.k a.s query b) in
-    ap (λ (y : ℕ). place_naming a.s a.message y (block_rows a.n a.k query)) (sym f.whole)
-    ∙ round-located a.n a.k a.s query c.requires.1.0.rows (omega (arith, f.divisor)) a.message b d f.block f.digit
-    ∙ ap (λ (x : ℕ). cond (eqb x (suc d)) at Nowhere) (cut_at (b * a.k) a.k a.message query c.requires.1.1.0)
+told N K S query message symbol rows known f t e =
+    let b = symbol / (N - 1) in
+    let d = symbol % (N - 1) in
+    let at = At (length_before K S query b) in
+    ap (λ (y : ℕ). place_naming S message y (block_rows N K query)) (sym f.whole)
+    ∙ round-located N K S query rows.rows (omega (arith, f.divisor)) message b d f.block f.digit
+    ∙ ap (λ (x : ℕ). cond (eqb x (suc d)) at Nowhere) (cut_at (b * K) K message query known)
     ∙ ap (λ (u : Bool). cond u at Nowhere) e
 
 pub overflow_sub-block : goal.overflow_sub-block
-overflow_sub-block c =    let found : let a = c.args in Where a.n a.k a.message a.symbol =
-        let a = c.args in
-        let b = round-bounds a.n a.k a.s c.requires.s_value in
-        let some : 0 < a.n - 1 = omega (arith, b.servers-low) in
-        let whole : a.symbol / (a.n - 1) * (a.n - 1) + a.symbol % (a.n - 1) ≡ a.symbol = div-add-mod' a.symbol (a.n - 1) in
-        let block : a.symbol / (a.n - 1) < blocks a.n a.k = (div-lt_iff_lt-mul some).1 c.requires.message_lt_k.1 in
-        record {
-          divisor = some;
-          whole = whole;
-          digit = mod-lt a.symbol some;
-          block = block;
-          place = omega (arith, slot-end (a.symbol / (a.n - 1)) (blocks a.n a.k) a.k block, c.requires);
-          few = omega (arith, block, b.blocks-high);
-        } in
-    let f = found in omega (arith, f.divisor)
+overflow_sub-block c =
+    let f = found c.args.n c.args.k c.args.s c.args.message c.args.symbol c.requires.s_value c.requires.message_lt_k in
+    omega (arith, f.divisor)
 
 pub nonzero_div-block : goal.nonzero_div-block
-nonzero_div-block c =    let found : let a = c.args in Where a.n a.k a.message a.symbol =
-        let a = c.args in
-        let b = round-bounds a.n a.k a.s c.requires.s_value in
-        let some : 0 < a.n - 1 = omega (arith, b.servers-low) in
-        let whole : a.symbol / (a.n - 1) * (a.n - 1) + a.symbol % (a.n - 1) ≡ a.symbol = div-add-mod' a.symbol (a.n - 1) in
-        let block : a.symbol / (a.n - 1) < blocks a.n a.k = (div-lt_iff_lt-mul some).1 c.requires.message_lt_k.1 in
-        record {
-          divisor = some;
-          whole = whole;
-          digit = mod-lt a.symbol some;
-          block = block;
-          place = omega (arith, slot-end (a.symbol / (a.n - 1)) (blocks a.n a.k) a.k block, c.requires);
-          few = omega (arith, block, b.blocks-high);
-        } in
-    let f = found in omega (arith, f.divisor)
+nonzero_div-block c =
+    let f = found c.args.n c.args.k c.args.s c.args.message c.args.symbol c.requires.s_value c.requires.message_lt_k in
+    omega (arith, f.divisor)
 
 pub overflow_mul-digit : goal.overflow_mul-digit
-overflow_mul-digit c =    let found : let a = c.args in Where a.n a.k a.message a.symbol =
-        let a = c.args in
-        let b = round-bounds a.n a.k a.s c.requires.s_value in
-        let some : 0 < a.n - 1 = omega (arith, b.servers-low) in
-        let whole : a.symbol / (a.n - 1) * (a.n - 1) + a.symbol % (a.n - 1) ≡ a.symbol = div-add-mod' a.symbol (a.n - 1) in
-        let block : a.symbol / (a.n - 1) < blocks a.n a.k = (div-lt_iff_lt-mul some).1 c.requires.message_lt_k.1 in
-        record {
-          divisor = some;
-          whole = whole;
-          digit = mod-lt a.symbol some;
-          block = block;
-          place = omega (arith, slot-end (a.symbol / (a.n - 1)) (blocks a.n a.k) a.k block, c.requires);
-          few = omega (arith, block, b.blocks-high);
-        } in
-    let f = found in omega (arith, f.place, c.requires.digit_rows.long)
+overflow_mul-digit c =
+    let f = found c.args.n c.args.k c.args.s c.args.message c.args.symbol c.requires.s_value c.requires.message_lt_k in
+    omega (arith, f.place, c.requires.digit_rows.long)
 
 pub overflow_add-digit : goal.overflow_add-digit
-overflow_add-digit c =    let found : let a = c.args in Where a.n a.k a.message a.symbol =
-        let a = c.args in
-        let b = round-bounds a.n a.k a.s c.requires.s_value in
-        let some : 0 < a.n - 1 = omega (arith, b.servers-low) in
-        let whole : a.symbol / (a.n - 1) * (a.n - 1) + a.symbol % (a.n - 1) ≡ a.symbol = div-add-mod' a.symbol (a.n - 1) in
-        let block : a.symbol / (a.n - 1) < blocks a.n a.k = (div-lt_iff_lt-mul some).1 c.requires.message_lt_k.1 in
-        record {
-          divisor = some;
-          whole = whole;
-          digit = mod-lt a.symbol some;
-          block = block;
-          place = omega (arith, slot-end (a.symbol / (a.n - 1)) (blocks a.n a.k) a.k block, c.requires);
-          few = omega (arith, block, b.blocks-high);
-        } in
-    let f = found in omega (arith, f.place, c.requires.digit_rows.long)
+overflow_add-digit c =
+    let f = found c.args.n c.args.k c.args.s c.args.message c.args.symbol c.requires.s_value c.requires.message_lt_k in
+    omega (arith, f.place, c.requires.digit_rows.long)
 
 pub bounds-query-block : goal.bounds-query-block
-bounds-query-block c =    let found : let a = c.args in Where a.n a.k a.message a.symbol =
-        let a = c.args in
-        let b = round-bounds a.n a.k a.s c.requires.s_value in
-        let some : 0 < a.n - 1 = omega (arith, b.servers-low) in
-        let whole : a.symbol / (a.n - 1) * (a.n - 1) + a.symbol % (a.n - 1) ≡ a.symbol = div-add-mod' a.symbol (a.n - 1) in
-        let block : a.symbol / (a.n - 1) < blocks a.n a.k = (div-lt_iff_lt-mul some).1 c.requires.message_lt_k.1 in
-        record {
-          divisor = some;
-          whole = whole;
-          digit = mod-lt a.symbol some;
-          block = block;
-          place = omega (arith, slot-end (a.symbol / (a.n - 1)) (blocks a.n a.k) a.k block, c.requires);
-          few = omega (arith, block, b.blocks-high);
-        } in
-    let f = found in omega (arith, f.place, c.requires.digit_rows.long)
+bounds-query-block c =
+    let f = found c.args.n c.args.k c.args.s c.args.message c.args.symbol c.requires.s_value c.requires.message_lt_k in
+    omega (arith, f.place, c.requires.digit_rows.long)
 
 pub overflow_cast-digit : goal.overflow_cast-digit
-overflow_cast-digit c =    let a = c.args in
+overflow_cast-digit c =
+    let a = c.args in
     omega (arith, c.shared_slice_known-2-1.given (a.symbol / (a.n - 1) * a.k + a.message))
 
 pub overflow_sub-n : goal.overflow_sub-n
-overflow_sub-n c =    let found : let a = c.args in Where a.n a.k a.message a.symbol =
-        let a = c.args in
-        let b = round-bounds a.n a.k a.s c.requires.s_value in
-        let some : 0 < a.n - 1 = omega (arith, b.servers-low) in
-        let whole : a.symbol / (a.n - 1) * (a.n - 1) + a.symbol % (a.n - 1) ≡ a.symbol = div-add-mod' a.symbol (a.n - 1) in
-        let block : a.symbol / (a.n - 1) < blocks a.n a.k = (div-lt_iff_lt-mul some).1 c.requires.message_lt_k.1 in
-        record {
-          divisor = some;
-          whole = whole;
-          digit = mod-lt a.symbol some;
-          block = block;
-          place = omega (arith, slot-end (a.symbol / (a.n - 1)) (blocks a.n a.k) a.k block, c.requires);
-          few = omega (arith, block, b.blocks-high);
-        } in
-    let f = found in omega (arith, f.divisor)
+overflow_sub-n c =
+    let f = found c.args.n c.args.k c.args.s c.args.message c.args.symbol c.requires.s_value c.requires.message_lt_k in
+    omega (arith, f.divisor)
 
 pub nonzero_rem-symbol : goal.nonzero_rem-symbol
-nonzero_rem-symbol c =    let found : let a = c.args in Where a.n a.k a.message a.symbol =
-        let a = c.args in
-        let b = round-bounds a.n a.k a.s c.requires.s_value in
-        let some : 0 < a.n - 1 = omega (arith, b.servers-low) in
-        let whole : a.symbol / (a.n - 1) * (a.n - 1) + a.symbol % (a.n - 1) ≡ a.symbol = div-add-mod' a.symbol (a.n - 1) in
-        let block : a.symbol / (a.n - 1) < blocks a.n a.k = (div-lt_iff_lt-mul some).1 c.requires.message_lt_k.1 in
-        record {
-          divisor = some;
-          whole = whole;
-          digit = mod-lt a.symbol some;
-          block = block;
-          place = omega (arith, slot-end (a.symbol / (a.n - 1)) (blocks a.n a.k) a.k block, c.requires);
-          few = omega (arith, block, b.blocks-high);
-        } in
-    let f = found in omega (arith, f.divisor)
+nonzero_rem-symbol c =
+    let f = found c.args.n c.args.k c.args.s c.args.message c.args.symbol c.requires.s_value c.requires.message_lt_k in
+    omega (arith, f.divisor)
 
 pub overflow_add-symbol : goal.overflow_add-symbol
-overflow_add-symbol c =    let found : let a = c.args in Where a.n a.k a.message a.symbol =
-        let a = c.args in
-        let b = round-bounds a.n a.k a.s c.requires.s_value in
-        let some : 0 < a.n - 1 = omega (arith, b.servers-low) in
-        let whole : a.symbol / (a.n - 1) * (a.n - 1) + a.symbol % (a.n - 1) ≡ a.symbol = div-add-mod' a.symbol (a.n - 1) in
-        let block : a.symbol / (a.n - 1) < blocks a.n a.k = (div-lt_iff_lt-mul some).1 c.requires.message_lt_k.1 in
-        record {
-          divisor = some;
-          whole = whole;
-          digit = mod-lt a.symbol some;
-          block = block;
-          place = omega (arith, slot-end (a.symbol / (a.n - 1)) (blocks a.n a.k) a.k block, c.requires);
-          few = omega (arith, block, b.blocks-high);
-        } in
-    let f = found in
+overflow_add-symbol c =
+    let f = found c.args.n c.args.k c.args.s c.args.message c.args.symbol c.requires.s_value c.requires.message_lt_k in
     let b = round-bounds c.args.n c.args.k c.args.s c.requires.s_value in
     omega (arith, f.digit, b.servers-high)
 
 pub returns-then-digit-symbol : goal.returns-then-digit-symbol
-returns-then-digit-symbol c =    let a = c.args in
+returns-then-digit-symbol c =
+    let a = c.args in
     let d = a.symbol % (a.n - 1) in
-    sym (told c.before.before.before _ (ne_eqb (get_or a.query.now (a.symbol / (a.n - 1) * a.k + a.message) 0) (suc d) (λ e. c.if-digit-symbol.true (e ∙ sym (add-one d)))))
+    let f = found a.n a.k a.s a.message a.symbol c.requires.s_value c.requires.message_lt_k in
+    let digit = get_or a.query.now (a.symbol / (a.n - 1) * a.k + a.message) 0 in
+    sym (told a.n a.k a.s a.query.now a.message a.symbol c.requires.digit_rows c.requires.message_lt_k.0 f _
+    (ne_eqb digit (suc d) (λ e. c.if-digit-symbol.true (e ∙ sym (add-one d)))))
 
 pub length_before-requires : goal.length_before-requires
-length_before-requires c =    let found : let a = c.args in Where a.n a.k a.message a.symbol =
-        let a = c.args in
-        let b = round-bounds a.n a.k a.s c.requires.s_value in
-        let some : 0 < a.n - 1 = omega (arith, b.servers-low) in
-        let whole : a.symbol / (a.n - 1) * (a.n - 1) + a.symbol % (a.n - 1) ≡ a.symbol = div-add-mod' a.symbol (a.n - 1) in
-        let block : a.symbol / (a.n - 1) < blocks a.n a.k = (div-lt_iff_lt-mul some).1 c.requires.message_lt_k.1 in
-        record {
-          divisor = some;
-          whole = whole;
-          digit = mod-lt a.symbol some;
-          block = block;
-          place = omega (arith, slot-end (a.symbol / (a.n - 1)) (blocks a.n a.k) a.k block, c.requires);
-          few = omega (arith, block, b.blocks-high);
-        } in
+length_before-requires c =
+    let f = found c.args.n c.args.k c.args.s c.args.message c.args.symbol c.requires.s_value c.requires.message_lt_k in
     let a = c.args in
-    let f = found in
     let b = round-bounds a.n a.k a.s c.requires.s_value in
     ((fits-numbers a.n a.k a.s c.requires.s_value).messages-high, b.symbol_high, omega (arith, f.few))
 
 pub returns : goal.returns
-returns c =    let a = c.args in
+returns c =
+    let a = c.args in
     let d = a.symbol % (a.n - 1) in
+    let f = found a.n a.k a.s a.message a.symbol c.requires.s_value c.requires.message_lt_k in
+    let digit = get_or a.query.now (a.symbol / (a.n - 1) * a.k + a.message) 0 in
     ap At c.length_before.ensures
-    ∙ sym (told c.before.before.before.before _ (eq-eqb (get_or a.query.now (a.symbol / (a.n - 1) * a.k + a.message) 0) (suc d) (c.if-digit-symbol.false ∙ add-one d)))
+    ∙ sym (told a.n a.k a.s a.query.now a.message a.symbol c.requires.digit_rows c.requires.message_lt_k.0 f _
+    (eq-eqb digit (suc d) (c.if-digit-symbol.false ∙ add-one d)))

@@ -1,6 +1,7 @@
 -- `answer_unit::writing::after_write` meets its contract: register by register.
+use mathlib.Core.Path.{◌≡◌}
+use native.Mathlib.Omega.{arith}
 use Rattle.answer_unit.specs.Registers.{after_write}
-use Rattle.answer_unit.proofs.Steps.{the-fifth}
 use Rattle.answer_unit.proofs.writing.after_write.Goals as goal
 
 pub control-requires : goal.control-requires
@@ -28,6 +29,6 @@ returns-in-4 c = rw c.in-4.is
 
 pub returns-in_default : goal.returns-in_default
 unfolding after_write
-returns-in_default c =    let m = c.in_default.rest in
-    let fifth = the-fifth c.args.register c.requires.register_bound m.0.0.0.0.1 m.0.0.0.1 m.0.0.1 m.0.1 m.1 in
+returns-in_default c =
+    let fifth : c.args.register ≡ 5 = omega (arith, c.requires.register_bound) in
     rw (c.acknowledge.ensures, fifth)
