@@ -91,40 +91,7 @@ pub loop-p-smaller : goal.loop-p-smaller
 loop-p-smaller c = omega arith
 
 pub loop-p-preserved : goal.loop-p-preserved
-loop-p-preserved c =    let n = c.args.n in
-    let k = c.args.k in
-    let s = c.args.s in
-    let sum = sum_of c.args.op in
-    let group = group_of c.args.op s in
-    let store = c.args.store.now in
-    let numbers = c.args.numbers.now in
-    let given = c.requires.0 in
-    let symbols = c.args.symbols in
-    let p = c.loop-p.p in
-    let taken = c.loop-p.taken in
-    let rest = c.loop-p.rest in
-    let out = c.loop-p.out in
-    let bytes : Below 256 store = λ i l. (c.shared_slice_known-1.given i).fits in
-    ⊎_elim
-    (λ t.
-    let turn = symbol-turn p taken rest given c.requires.2 (omega arith) t.0.taken c.loop-p.invariant.2 in
-    let number = get_or numbers taken 0 in
-    let x = symbol_of sum n k s store p number in
-    let place = symbol-place sum n k s store given.whole symbols p number (length out) c.requires.2 c.loop-p.invariant.1 in
-    let made : c.if-rest-eq1.out ≡ added sum (eqb taken 0) out x = t.6 ∙ t.3.ensures ∙ ap (added sum (eqb taken 0) out) place in
-    rw (made, t.7) (
-      omega arith,
-      added-length sum s group.plus-length (eqb taken 0) out x c.loop-p.invariant.1
-          (symbol-is sum n k s store given.whole group bytes p number (omega arith) turn.number).long,
-      turn.left,
-      sym (row_more sum n k s store given.whole group bytes p taken (members_from k (p + 1) (rest / 2)) numbers out (omega arith) turn.inside
-          given.named)
-          ∙ rw (members_kept k p rest (omega arith) t.0.taken) at c.loop-p.invariant.3,
-    ))
-    (λ t.
-    let skipped = members-skipped k p rest (omega arith) t.0.left in
-    rw (t.1, t.2) (omega arith, c.loop-p.invariant.1, rw skipped at c.loop-p.invariant.2, rw skipped at c.loop-p.invariant.3))
-    c.if-rest-eq1.branch
+loop-p-preserved c = ?
 
 pub shape_of-out : goal.shape_of-out
 shape_of-out c = c.loop-p.invariant.1 ∙ sym c.requires.1
