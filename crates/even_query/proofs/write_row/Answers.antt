@@ -43,7 +43,7 @@ overflow_add-end c =    let a = c.args in
     let kept = members_kept a.k c.loop-p.p c.loop-p.rest (omega arith) c.if-rest-eq1.true in
     let small = rw kept at c.loop-p.invariant.1 in
     let left = rw kept at c.loop-p.invariant.2 in
-    omega (arith, left.room, left.long, c.well_formed.1.1.1.1.1.1.1.1.0.0)
+    omega (arith, left.room, left.long)
 
 pub overflow_add-p : goal.overflow_add-p
 overflow_add-p c = omega arith

@@ -25,7 +25,7 @@ pub bounds-query-cell : goal.bounds-query-cell
 bounds-query-cell c =    rw c.loop-i.invariant.2 (c.requires.named.cells c.loop-i.i (omega arith))
 
 pub overflow_cast-number : goal.overflow_cast-number
-overflow_cast-number c = omega (arith, c.shared_slice_known-in-loop-i-1.given c.loop-i.cell)
+overflow_cast-number c = omega (arith, c.type_inv.query c.loop-i.cell)
 
 pub from_row-requires : goal.from_row-requires
 from_row-requires c =    let pre = c.requires in
@@ -33,7 +33,7 @@ from_row-requires c =    let pre = c.requires in
       held = c.requires.held;
       grouped = c.requires.grouped;
       i_lt_count = omega arith;
-      number_bound = omega (arith, c.shared_slice_known-in-loop-i-1.given c.loop-i.cell);
+      number_bound = omega (arith, c.type_inv.query c.loop-i.cell);
     }
 
 pub overflow_add-cell : goal.overflow_add-cell
