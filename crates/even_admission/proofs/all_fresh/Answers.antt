@@ -16,7 +16,7 @@ pub bounds-numbers-i : goal.bounds-numbers-i
 bounds-numbers-i c = omega arith
 
 pub overflow_cast-number : goal.overflow_cast-number
-overflow_cast-number c = omega (arith, c.shared_slice_known-1.given c.loop-i.i)
+overflow_cast-number c = omega (arith, c.type_inv.numbers c.loop-i.i)
 
 pub returns-then-size-number : goal.returns-then-size-number
 returns-then-size-number c =    sym (sym c.loop-i.invariant.2 ∙ fresh-high c.args.size c.loop-i.marks c.args.messages.now c.args.numbers.now c.loop-i.i

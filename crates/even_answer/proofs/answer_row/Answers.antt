@@ -1,6 +1,5 @@
 -- `even_answer::answer_row` meets its contract: after p turns the symbols of the set's messages from p on are still to be combined.
 use mathlib.Core.Path.{◌≡◌, refl, sym, ap, ◌∙◌}
-use mathlib.Core.Logic.{⊎_elim}
 use mathlib.Core.List.{zip_with}
 use Prim.Native.Nat.{◌+◌, ◌-◌, ◌*◌, ◌/◌, ◌≤◌}
 use native.Mathlib.Nat.{sub-zero, zero-add, mul-le-mul}
@@ -23,6 +22,7 @@ use Rattle.even_answer.specs.Answering.{added}
 use Rattle.even_answer.proofs.RowLaws.{row_more, symbol-place, symbol-is, added-length}
 use Rattle.even_answer.proofs.Turns.{SymbolTurn, symbol-turn}
 use Rattle.even_answer.proofs.answer_row.Goals as goal
+use Rattle.even_answer.proofs.answer_row.Goals.{then-rest-eq1, else-rest-eq1}
 
 pub loop-p-init : goal.loop-p-init
 unfolding row_answer
@@ -42,7 +42,7 @@ bounds-numbers-taken c =    let turn-of : let a = c.args in
     (turn-of).inside
 
 pub overflow_cast-number : goal.overflow_cast-number
-overflow_cast-number c = omega (arith, c.shared_slice_known-then-rest-eq1-1.given c.loop-p.taken)
+overflow_cast-number c = omega (arith, c.type_inv.numbers c.loop-p.taken)
 
 pub overflow_mul-p : goal.overflow_mul-p
 overflow_mul-p c =    let few-before : c.loop-p.p * c.args.symbols ≤ 8 * 256 =
@@ -91,7 +91,8 @@ pub loop-p-smaller : goal.loop-p-smaller
 loop-p-smaller c = omega arith
 
 pub loop-p-preserved : goal.loop-p-preserved
-loop-p-preserved c =    let n = c.args.n in
+loop-p-preserved c =
+    let n = c.args.n in
     let k = c.args.k in
     let s = c.args.s in
     let sum = sum_of c.args.op in
@@ -104,27 +105,27 @@ loop-p-preserved c =    let n = c.args.n in
     let taken = c.loop-p.taken in
     let rest = c.loop-p.rest in
     let out = c.loop-p.out in
-    let bytes : Below 256 store = λ i l. (c.shared_slice_known-1.given i).fits in
-    ⊎_elim
-    (λ t.
-    let turn = symbol-turn p taken rest given c.requires.2 (omega arith) t.0.taken c.loop-p.invariant.2 in
-    let number = get_or numbers taken 0 in
-    let x = symbol_of sum n k s store p number in
-    let place = symbol-place sum n k s store given.whole symbols p number (length out) c.requires.2 c.loop-p.invariant.1 in
-    let made : c.if-rest-eq1.out ≡ added sum (eqb taken 0) out x = t.6 ∙ t.3.ensures ∙ ap (added sum (eqb taken 0) out) place in
-    rw (made, t.7) (
-      omega arith,
-      added-length sum s group.plus-length (eqb taken 0) out x c.loop-p.invariant.1
-          (symbol-is sum n k s store given.whole group bytes p number (omega arith) turn.number).long,
-      turn.left,
-      sym (row_more sum n k s store given.whole group bytes p taken (members_from k (p + 1) (rest / 2)) numbers out (omega arith) turn.inside
-          given.named)
-          ∙ rw (members_kept k p rest (omega arith) t.0.taken) at c.loop-p.invariant.3,
-    ))
-    (λ t.
-    let skipped = members-skipped k p rest (omega arith) t.0.left in
-    rw (t.1, t.2) (omega arith, c.loop-p.invariant.1, rw skipped at c.loop-p.invariant.2, rw skipped at c.loop-p.invariant.3))
-    c.if-rest-eq1.branch
+    let bytes : Below 256 store = λ i l. (c.type_inv.store i).fits in
+    elim c.if-rest-eq1.branch [
+      then-rest-eq1 w ↦
+        let turn = symbol-turn p taken rest given c.requires.2 (omega arith) w.if-rest-eq1.true c.loop-p.invariant.2 in
+        let number = get_or numbers taken 0 in
+        let x = symbol_of sum n k s store p number in
+        let place = symbol-place sum n k s store given.whole symbols p number (length out) c.requires.2 c.loop-p.invariant.1 in
+        let made : c.if-rest-eq1.out ≡ added sum (eqb taken 0) out x = w.out-is ∙ w.add_symbol.ensures ∙ ap (added sum (eqb taken 0) out) place in
+        rw (made, w.taken-is) (
+          omega arith,
+          added-length sum s group.plus-length (eqb taken 0) out x c.loop-p.invariant.1
+              (symbol-is sum n k s store given.whole group bytes p number (omega arith) turn.number).long,
+          turn.left,
+          sym (row_more sum n k s store given.whole group bytes p taken (members_from k (p + 1) (rest / 2)) numbers out (omega arith) turn.inside
+              given.named)
+              ∙ rw (members_kept k p rest (omega arith) w.if-rest-eq1.true) at c.loop-p.invariant.3,
+        )
+    | else-rest-eq1 w ↦
+        let skipped = members-skipped k p rest (omega arith) w.if-rest-eq1.false in
+        rw (w.out-is, w.taken-is) (omega arith, c.loop-p.invariant.1, rw skipped at c.loop-p.invariant.2, rw skipped at c.loop-p.invariant.3)
+    ]
 
 pub shape_of-out : goal.shape_of-out
 shape_of-out c = c.loop-p.invariant.1 ∙ sym c.requires.1

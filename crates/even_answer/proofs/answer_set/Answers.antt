@@ -95,7 +95,7 @@ loop-row-preserved c =    let s = c.args.s in
     let read = c.loop-row.row * count c.args.set in
     let answered = row_answer (sum_of c.args.op) c.args.n c.args.k s c.args.store.now
     (set_in c.args.k c.args.set) in
-    let bytes : Below 256 c.args.store.now = λ i l. (c.shared_slice_known-1.given i).fits in
+    let bytes : Below 256 c.args.store.now = λ i l. (c.type_inv.store i).fits in
     let made = c.answer_row.ensures ∙ ap answered (to_end numbers read) in (
       omega arith,
       pending-as refl refl

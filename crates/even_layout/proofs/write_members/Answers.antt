@@ -1,6 +1,5 @@
 -- `even_layout::write_members` meets its contract: after p turns the set's messages from p on are still to be written.
 use mathlib.Core.Path.{◌≡◌, refl}
-use mathlib.Core.Logic.{⊎_elim}
 use Prim.Native.Nat.{◌-◌}
 use native.Mathlib.Nat.{sub-zero}
 use native.Mathlib.Omega.{arith}
@@ -9,6 +8,7 @@ use Rattle.even_places.specs.Rule.{members}
 use Rattle.even_sets.specs.Sets.{set_in}
 use Rattle.even_layout.proofs.Bytes.{members_kept, members-skipped}
 use Rattle.even_layout.proofs.write_members.Goals as goal
+use Rattle.even_layout.proofs.write_members.Goals.{then-rest-eq1, else-rest-eq1}
 
 pub loop-p-init : goal.loop-p-init
 loop-p-init c = (omega arith, rw (sub-zero c.args.k) (pending-start c.requires.1))
@@ -31,14 +31,15 @@ pub loop-p-smaller : goal.loop-p-smaller
 loop-p-smaller c = omega arith
 
 pub loop-p-preserved : goal.loop-p-preserved
-loop-p-preserved c =    let k = c.args.k in
+loop-p-preserved c =
+    let k = c.args.k in
     let p = c.loop-p.p in
     let rest = c.loop-p.rest in (
       omega arith,
-      ⊎_elim
-          (λ kept. pending-as kept.2 refl kept.1 (pending-byte (rw (members_kept k p rest (omega arith) kept.0.taken) at c.loop-p.invariant.1)))
-          (λ skipped. pending-as skipped.2 refl skipped.1 (rw (members-skipped k p rest (omega arith) skipped.0.left) at c.loop-p.invariant.1))
-          c.if-rest-eq1.branch,
+      elim c.if-rest-eq1.branch [
+        then-rest-eq1 w ↦ pending-as w.end-is refl w.out-is (pending-byte (rw (members_kept k p rest (omega arith) w.if-rest-eq1.true) at c.loop-p.invariant.1))
+      | else-rest-eq1 w ↦ pending-as w.end-is refl w.out-is (rw (members-skipped k p rest (omega arith) w.if-rest-eq1.false) at c.loop-p.invariant.1)
+      ],
     )
 
 pub shape_of-out : goal.shape_of-out

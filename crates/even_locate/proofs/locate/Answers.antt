@@ -26,23 +26,33 @@ use Rattle.even_scheme.proofs.Asks.{sets-many}
 use Rattle.scheme.proofs.Places.{or_later, place-within, later-zero, later-twice}
 use Rattle.even_locate.proofs.Scan.{Turn, set-turn, set-decides}
 use Rattle.even_locate.proofs.locate.Goals as goal
+use Rattle.even_locate.proofs.locate.Goals.{After-set_place}
+
+-- what the set's rows tell
+seen : (c : After-set_place) → let a = c.args in
+    place_naming a.s a.message a.symbol
+    (set_rows (replicate c.rows_of-rows.result (set_in a.k (get_or c.ordered_sets-sets.result c.loop-i.i 0)))
+    (drop c.loop-i.at a.query.now))
+    ≡ c.set_place.result
+seen c =
+    let a = c.args in
+    let sets = replicate c.rows_of-rows.result (set_in a.k (get_or c.ordered_sets-sets.result c.loop-i.i 0)) in
+    sym (c.set_place.ensures ∙ ap (λ (l : List ℕ). place_naming a.s a.message a.symbol (set_rows sets l)) (to_end a.query.now c.loop-i.at))
 
 -- the set's rows tell, or those after them
-told : (c : tie.After-set-place invariant-loop decreases-loop) (place : Place) → c.set-place.result ≡ place
-    → let rows = c.before.before in
-    let at = rows.before.before in
-    let a = at.before.before.before.before.args in
+told : (c : After-set_place) (place : Place)
+    → Turn c.args.n c.args.k c.args.s c.args.query.now c.loop-i.i c.loop-i.at c.loop-i.end (get_or c.ordered_sets-sets.result c.loop-i.i 0) c.rows_of-rows.result
+    → c.set_place.result ≡ place
+    → let a = c.args in
     place_naming a.s a.message a.symbol (layout_rows a.n a.k a.query.now)
-    ≡ later at.loop.end (or_later (rows.rows_of_lem.result * a.s) place
-    (place_naming a.s a.message a.symbol (set_rows (rows_from a.n a.k (at.loop.i + 1))
-    (drop (at.loop.at + rows.rows_of_lem.result * count (get_or at.before.before.ordered-sets.result at.loop.i 0)) a.query.now))))
-told c place e =
-    let rows = c.before.before in
-    let at = rows.before.before in
-    let a = at.before.before.before.before.args in
-    set-decides a.n a.k a.s a.message a.symbol a.query.now at.loop.i at.loop.at at.loop.end
-    (get_or at.before.before.ordered-sets.result at.loop.i 0) rows.rows_of_lem.result
-    (place_naming a.s a.message a.symbol (layout_rows a.n a.k a.query.now)) place (turn-of rows) at.loop.invariant.3 (seen c ∙ e)
+    ≡ later c.loop-i.end (or_later (c.rows_of-rows.result * a.s) place
+    (place_naming a.s a.message a.symbol (set_rows (rows_from a.n a.k (c.loop-i.i + 1))
+    (drop (c.loop-i.at + c.rows_of-rows.result * count (get_or c.ordered_sets-sets.result c.loop-i.i 0)) a.query.now))))
+told c place turn e =
+    let a = c.args in
+    set-decides a.n a.k a.s a.message a.symbol a.query.now c.loop-i.i c.loop-i.at c.loop-i.end
+    (get_or c.ordered_sets-sets.result c.loop-i.i 0) c.rows_of-rows.result
+    (place_naming a.s a.message a.symbol (layout_rows a.n a.k a.query.now)) place turn c.loop-i.invariant.3 (seen c ∙ e)
 
 pub ordered_sets-sets-requires : goal.ordered_sets-sets-requires
 ordered_sets-sets-requires c =    (even-bounds c.args.n c.args.k c.args.s c.requires.s_value).messages-high
@@ -167,7 +177,15 @@ overflow_add-result c =    let turn-of : let a = c.args in
     )
 
 pub returns-in-At : goal.returns-in-At
-returns-in-At c = sym (told c.before.before.before (At c.in-At.place) c.in-At.is)
+returns-in-At c =    let turn-of : let a = c.args in
+    Turn a.n a.k a.s a.query.now c.loop-i.i c.loop-i.at c.loop-i.end (get_or c.ordered_sets-sets.result c.loop-i.i 0)
+    c.rows_of-rows.result =
+        let a = c.args in
+        let inside : c.loop-i.i < length (all_sets a.k) = omega (arith, c.power-count.ensures, all-length a.k) in
+        set-turn a.n a.k a.s a.query.now c.ordered_sets-sets.result c.loop-i.i c.loop-i.at c.loop-i.end c.rows_of-rows.result
+        (layout-fits a.n a.k a.s c.requires.s_value) c.ordered_sets-sets.ensures inside c.rows_of-rows.ensures
+        c.loop-i.invariant.1 c.loop-i.invariant.2 in
+    sym (told (goal.at.returns-in-At c).After-set_place (At c.in-At.place) turn-of c.in-At.is)
 
 pub overflow_cast-at : goal.overflow_cast-at
 overflow_cast-at c =    let turn-of : let a = c.args in
@@ -256,7 +274,7 @@ loop-i-preserved c =    let turn-of : let a = c.args in
       omega arith,
       turn.read,
       turn.placed,
-      told c.before.before Nowhere c.in_default.is ∙ later-twice c.loop-i.end (c.rows_of-rows.result * a.s) rest,
+      told (goal.at.loop-i-preserved c).After-set_place Nowhere turn c.in_default.is ∙ later-twice c.loop-i.end (c.rows_of-rows.result * a.s) rest,
     )
 
 pub returns : goal.returns

@@ -1,7 +1,6 @@
 -- `even_locate::row_names` meets its contract: after p turns the cells of the set's messages from p on are left, and those before are not the one.
 use mathlib.Core.Path.{◌≡◌, refl, sym, ap, ◌∙◌}
 use mathlib.Core.Bool.{Bool}
-use mathlib.Core.Logic.{⊎_elim}
 use mathlib.Core.List.{zip}
 use Prim.Native.Nat.{◌+◌, ◌-◌, ◌/◌, ◌<◌}
 use native.Mathlib.Nat.{sub-zero, zero-add}
@@ -14,6 +13,7 @@ use Rattle.even_layout.proofs.Bytes.{members_from, members_kept, members-skipped
 use Rattle.scheme.specs.Asked.{is_cell, times_in}
 use Rattle.even_locate.proofs.Scan.{cell-next, some-named, none_named, no_cells}
 use Rattle.even_locate.proofs.row_names.Goals as goal
+use Rattle.even_locate.proofs.row_names.Goals.{then-rest-eq1+else-is_cell, else-rest-eq1}
 
 pub loop-p-init : goal.loop-p-init
 loop-p-init c =    let a = c.args in
@@ -26,7 +26,7 @@ bounds-numbers-taken c =    let next-number : c.loop-p.taken < length c.args.num
     next-number
 
 pub overflow_cast-numbers : goal.overflow_cast-numbers
-overflow_cast-numbers c = omega (arith, c.shared_slice_known-then-rest-eq1-1.given c.loop-p.taken)
+overflow_cast-numbers c = omega (arith, c.type_inv.numbers c.loop-p.taken)
 
 pub returns-then-is_cell : goal.returns-then-is_cell
 unfolding bit
@@ -60,28 +60,29 @@ loop-p-smaller c = omega arith
 
 pub loop-p-preserved : goal.loop-p-preserved
 unfolding bit
-loop-p-preserved c =    let a = c.args in
+loop-p-preserved c =
+    let a = c.args in
     let numbers = a.numbers.now in
     let p = c.loop-p.p in
     let taken = c.loop-p.taken in
     let rest = c.loop-p.rest in
-    ⊎_elim
-    (λ t.
-    let kept = members_kept a.k p rest (omega arith) t.0.taken in
-    let inside : taken < length numbers = omega (arith, ap length kept, c.loop-p.invariant.1) in
-    let left = times_in a.message a.symbol (zip (members_from a.k (p + 1) (rest / 2)) (drop (taken + 1) numbers)) in
-    let other : is_cell a.message a.symbol (p, get_or numbers taken 0) ≡ _ = sym t.2.ensures ∙ t.3.left in
-    rw t.4 (
-      omega arith,
-      omega (arith, ap length kept, c.loop-p.invariant.1),
-      sym (cell-next a.message a.symbol a.k p rest taken numbers (omega arith) t.0.taken inside
-          ∙ ap (λ (u : Bool). bit u + left) other ∙ zero-add left)
-          ∙ c.loop-p.invariant.2,
-    ))
-    (λ t.
-    let skipped = members-skipped a.k p rest (omega arith) t.0.left in
-    rw t.1 (omega arith, rw skipped at c.loop-p.invariant.1, rw skipped at c.loop-p.invariant.2))
-    c.if-rest-eq1.branch
+    elim c.if-rest-eq1.branch [
+      then-rest-eq1+else-is_cell w ↦
+        let kept = members_kept a.k p rest (omega arith) w.if-rest-eq1.true in
+        let inside : taken < length numbers = omega (arith, ap length kept, c.loop-p.invariant.1) in
+        let left = times_in a.message a.symbol (zip (members_from a.k (p + 1) (rest / 2)) (drop (taken + 1) numbers)) in
+        let other : is_cell a.message a.symbol (p, get_or numbers taken 0) ≡ _ = sym w.is_cell.ensures ∙ w.if-is_cell.false in
+        rw w.taken-is (
+          omega arith,
+          omega (arith, ap length kept, c.loop-p.invariant.1),
+          sym (cell-next a.message a.symbol a.k p rest taken numbers (omega arith) w.if-rest-eq1.true inside
+              ∙ ap (λ (u : Bool). bit u + left) other ∙ zero-add left)
+              ∙ c.loop-p.invariant.2,
+        )
+    | else-rest-eq1 w ↦
+        let skipped = members-skipped a.k p rest (omega arith) w.if-rest-eq1.false in
+        rw w.taken-is (omega arith, rw skipped at c.loop-p.invariant.1, rw skipped at c.loop-p.invariant.2)
+    ]
 
 pub returns : goal.returns
 unfolding members set_in

@@ -19,29 +19,27 @@ use Rattle.even_scheme.specs.Asked.{set_rows}
 use Rattle.scheme.proofs.Places.{later-zero, later-twice}
 use Rattle.even_locate.proofs.Scan.{row_next}
 use Rattle.even_locate.proofs.set_place.Goals as goal
+use Rattle.even_locate.proofs.set_place.Goals.{After-row_names}
 
 -- the row at hand decides, or those after it
-row-decides : (c : tie.After-row-names invariant-loop decreases-loop) (t : Bool) → c.row-names.result ≡ t
-    → let at = c.before.before.before in
-    let a = at.before.before.args in
+row-decides : (c : After-row_names) (t : Bool) → c.row_names.result ≡ t
+    → let a = c.args in
     place_naming a.s a.message a.symbol (set_rows (replicate a.rows (set_in a.k a.set)) a.numbers.now)
-    ≡ later (at.loop.row * a.s) (cond t (At 0)
+    ≡ later (c.loop-row.row * a.s) (cond t (At 0)
     (later a.s (place_naming a.s a.message a.symbol
-    (set_rows (replicate (a.rows - (at.loop.row + 1)) (set_in a.k a.set)) (drop ((at.loop.row + 1) * count a.set) a.numbers.now)))))
+    (set_rows (replicate (a.rows - (c.loop-row.row + 1)) (set_in a.k a.set)) (drop ((c.loop-row.row + 1) * count a.set) a.numbers.now)))))
 row-decides c t e =
-    let at = c.before.before.before in
-    let start = at.before.before in
-    let a = start.args in
-    let row = at.loop.row in
+    let a = c.args in
+    let row = c.loop-row.row in
     let size = count a.set in
     let numbers = a.numbers.now in
     let A = set_in a.k a.set in
     let rest = later a.s (place_naming a.s a.message a.symbol (set_rows (replicate (a.rows - (row + 1)) A) (drop ((row + 1) * size) numbers))) in
     let told : named_in a.message a.symbol (zip (members 0 A) (drop (row * size) numbers)) ≡ t =
-    sym (c.row-names.ensures ∙ ap (λ (l : List ℕ). named_in a.message a.symbol (zip (members 0 A) l)) (to_end numbers (row * size))) ∙ e in
-    at.loop.invariant.1
+    sym (c.row_names.ensures ∙ ap (λ (l : List ℕ). named_in a.message a.symbol (zip (members 0 A) l)) (to_end numbers (row * size))) ∙ e in
+    c.loop-row.invariant.1
     ∙ ap (later (row * a.s))
-    (row_next a.s a.message a.symbol A a.rows row size numbers (omega arith) start.requires.0.0
+    (row_next a.s a.message a.symbol A a.rows row size numbers (omega arith) c.requires.set_value.0
     ∙ ap (λ (u : Bool). cond u (At 0) rest) told)
 
 pub overflow_cast-size : goal.overflow_cast-size
@@ -99,7 +97,7 @@ overflow_mul-result c =    let within : let a = c.args in
 
 pub returns-then-row_names : goal.returns-then-row_names
 returns-then-row_names c =    let a = c.args in
-    sym (row-decides c.before _ c.if-row_names.true ∙ ap At (add-zero (c.loop-row.row * a.s)))
+    sym (row-decides (goal.at.returns-then-row_names c).After-row_names _ c.if-row_names.true ∙ ap At (add-zero (c.loop-row.row * a.s)))
 
 pub overflow_add-row : goal.overflow_add-row
 overflow_add-row c = omega arith
@@ -113,7 +111,7 @@ loop-row-preserved c =    let a = c.args in
     let rest = place_naming a.s a.message a.symbol
     (set_rows (replicate (a.rows - (row + 1)) (set_in a.k a.set)) (drop ((row + 1) * count a.set) a.numbers.now)) in
     let next : row * a.s + a.s ≡ (row + 1) * a.s = omega (arith, suc-mul row a.s, ap (λ (n : ℕ). n * a.s) (add-one row)) in
-    (omega arith, row-decides c.before _ c.if-row_names.false ∙ later-twice (row * a.s) a.s rest ∙ ap (λ (n : ℕ). later n rest) next)
+    (omega arith, row-decides (goal.at.loop-row-preserved c).After-row_names _ c.if-row_names.false ∙ later-twice (row * a.s) a.s rest ∙ ap (λ (n : ℕ). later n rest) next)
 
 pub returns : goal.returns
 unfolding set_rows place_naming

@@ -16,13 +16,13 @@ bounds-messages-i c =    let a = c.args in
     omega (arith, k.even, k.inside c.loop-i.i (omega arith))
 
 pub overflow_cast-p : goal.overflow_cast-p
-overflow_cast-p c = omega (arith, c.shared_slice_known-1.given c.loop-i.i)
+overflow_cast-p c = omega (arith, c.type_inv.messages c.loop-i.i)
 
 pub bounds-places-i : goal.bounds-places-i
 bounds-places-i c = omega arith
 
 pub overflow_cast-place : goal.overflow_cast-place
-overflow_cast-place c = omega (arith, c.shared_slice_known-in-loop-i-1.given c.loop-i.i)
+overflow_cast-place c = omega (arith, c.type_inv.places c.loop-i.i)
 
 pub overflow_mul-out : goal.overflow_mul-out
 overflow_mul-out c =    let a = c.args in

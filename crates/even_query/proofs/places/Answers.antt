@@ -20,25 +20,31 @@ pub overflow_sub-count : goal.overflow_sub-count
 overflow_sub-count c = omega (arith, c.power-count.ensures, all-length c.args.k)
 
 pub slice_bounds-table-end : goal.slice_bounds-table-end
-unfolding bytes_of more_of
-slice_bounds-table-end c =    let sets-many : length (bytes_of c) ≡ c.power-count.result - 1 =
+slice_bounds-table-end c =
+    let bytes = map byte_of (all_sets c.args.k) in
+    let more = replicate (256 - length bytes) 0 in
+    let sets-many : length bytes ≡ c.power-count.result - 1 =
         all-bytes c.args.k c.power-count.result c.power-count.ensures in
-    front_fits (c.power-count.result - 1) c.ordered_sets-table.result (bytes_of c) (more_of c) c.ordered_sets-table.ensures (sets-many)
+    front_fits (c.power-count.result - 1) c.ordered_sets-table.result bytes more c.ordered_sets-table.ensures (sets-many)
 
 pub slice_bounds-sets-end : goal.slice_bounds-sets-end
-unfolding bytes_of more_of
-slice_bounds-sets-end c =    let sets-many : length (bytes_of c) ≡ c.power-count.result - 1 =
+slice_bounds-sets-end c =
+    let bytes = map byte_of (all_sets c.args.k) in
+    let more = replicate (256 - length bytes) 0 in
+    let sets-many : length bytes ≡ c.power-count.result - 1 =
         all-bytes c.args.k c.power-count.result c.power-count.ensures in
     let sets-front : take (c.power-count.result - 1) c.ordered_sets-table.result ≡ map byte_of (all_sets c.args.k) =
-        front-is (c.power-count.result - 1) c.ordered_sets-table.result (bytes_of c) (more_of c) c.ordered_sets-table.ensures (sets-many) in
+        front-is (c.power-count.result - 1) c.ordered_sets-table.result bytes more c.ordered_sets-table.ensures (sets-many) in
     sym (ap length (sets-front) ∙ sets-many)
 
 pub totals-totals-requires : goal.totals-totals-requires
-unfolding bytes_of more_of
-totals-totals-requires c =    let sets-many : length (bytes_of c) ≡ c.power-count.result - 1 =
+totals-totals-requires c =
+    let bytes = map byte_of (all_sets c.args.k) in
+    let more = replicate (256 - length bytes) 0 in
+    let sets-many : length bytes ≡ c.power-count.result - 1 =
         all-bytes c.args.k c.power-count.result c.power-count.ensures in
     let sets-front : take (c.power-count.result - 1) c.ordered_sets-table.result ≡ map byte_of (all_sets c.args.k) =
-        front-is (c.power-count.result - 1) c.ordered_sets-table.result (bytes_of c) (more_of c) c.ordered_sets-table.ensures (sets-many) in
+        front-is (c.power-count.result - 1) c.ordered_sets-table.result bytes more c.ordered_sets-table.ensures (sets-many) in
     let p = c.requires in
     (p.bounds.messages-high, p.message, sets-front)
 
@@ -54,11 +60,13 @@ takings-taken-requires c =    let a = c.args in
     )
 
 pub write_sets-requires : goal.write_sets-requires
-unfolding bytes_of more_of
-write_sets-requires c =    let sets-many : length (bytes_of c) ≡ c.power-count.result - 1 =
+write_sets-requires c =
+    let bytes = map byte_of (all_sets c.args.k) in
+    let more = replicate (256 - length bytes) 0 in
+    let sets-many : length bytes ≡ c.power-count.result - 1 =
         all-bytes c.args.k c.power-count.result c.power-count.ensures in
     let sets-front : take (c.power-count.result - 1) c.ordered_sets-table.result ≡ map byte_of (all_sets c.args.k) =
-        front-is (c.power-count.result - 1) c.ordered_sets-table.result (bytes_of c) (more_of c) c.ordered_sets-table.ensures (sets-many) in
+        front-is (c.power-count.result - 1) c.ordered_sets-table.result bytes more c.ordered_sets-table.ensures (sets-many) in
     let totals = c.totals-totals in 
     let a = c.args in
     let p = c.requires in

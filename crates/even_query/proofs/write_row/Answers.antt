@@ -1,6 +1,5 @@
 -- `even_query::write_row` meets its contract: after p turns the places of the set's messages from p on are still to be written.
 use mathlib.Core.Path.{◌≡◌, refl, ap, ◌∙◌}
-use mathlib.Core.Logic.{⊎_elim}
 use Prim.Native.Nat.{suc, ◌-◌}
 use native.Mathlib.Nat.{sub-zero}
 use native.Mathlib.Omega.{arith}
@@ -11,6 +10,7 @@ use Rattle.even_sets.specs.Sets.{set_in}
 use Rattle.even_layout.proofs.Bytes.{members_kept, members-skipped}
 use Rattle.even_ranks.specs.Walk.{origin_place}
 use Rattle.even_query.proofs.write_row.Goals as goal
+use Rattle.even_query.proofs.write_row.Goals.{then-rest-eq1, else-rest-eq1}
 
 pub loop-p-init : goal.loop-p-init
 loop-p-init c =    let a = c.args in
@@ -43,7 +43,7 @@ overflow_add-end c =    let a = c.args in
     let kept = members_kept a.k c.loop-p.p c.loop-p.rest (omega arith) c.if-rest-eq1.true in
     let small = rw kept at c.loop-p.invariant.1 in
     let left = rw kept at c.loop-p.invariant.2 in
-    omega (arith, left.room, left.long, c.well_formed.1.1.1.1.1.1.1.1.0.0)
+    omega (arith, left.room, left.long)
 
 pub overflow_add-p : goal.overflow_add-p
 overflow_add-p c = omega arith
@@ -55,19 +55,19 @@ pub loop-p-preserved : goal.loop-p-preserved
 loop-p-preserved c =    let a = c.args in
     let p = c.loop-p.p in
     let rest = c.loop-p.rest in
-    ⊎_elim
-    (λ w.
-    let kept = members_kept a.k p rest (omega arith) w.0.taken in
-    let small = rw kept at c.loop-p.invariant.1 in
-    let left = rw kept at c.loop-p.invariant.2 in (
-      omega arith,
-      (λ i h. small (suc i) (omega arith)),
-      pending-as w.3 refl (w.2 ∙ ap (set c.loop-p.out c.loop-p.end) w.1.ensures) (pending-byte left),
-    ))
-    (λ w.
-    let skipped = members-skipped a.k p rest (omega arith) w.0.left in
-    (omega arith, rw skipped at c.loop-p.invariant.1, pending-as w.2 refl w.1 (rw skipped at c.loop-p.invariant.2)))
-    c.if-rest-eq1.branch
+    elim c.if-rest-eq1.branch [
+      then-rest-eq1 w ↦
+        let kept = members_kept a.k p rest (omega arith) w.if-rest-eq1.true in
+        let small = rw kept at c.loop-p.invariant.1 in
+        let left = rw kept at c.loop-p.invariant.2 in (
+          omega arith,
+          (λ i h. small (suc i) (omega arith)),
+          pending-as w.end-is refl (w.out-is ∙ ap (set c.loop-p.out c.loop-p.end) w.place.ensures) (pending-byte left),
+        )
+    | else-rest-eq1 w ↦
+        let skipped = members-skipped a.k p rest (omega arith) w.if-rest-eq1.false in
+        (omega arith, rw skipped at c.loop-p.invariant.1, pending-as w.end-is refl w.out-is (rw skipped at c.loop-p.invariant.2))
+    ]
 
 pub shape_of-out : goal.shape_of-out
 shape_of-out c = c.loop-p.invariant.2.long

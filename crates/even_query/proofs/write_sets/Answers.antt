@@ -50,7 +50,7 @@ overflow_add-at c =    let stands_here : let a = c.args in
         let a = c.args in
         lent a.k a.wanted (get_or a.sets.now c.loop-i.i 0) c.counters_of-at.result c.requires.0.bounds.messages-high
         (stands_here).0 c.counters_of-at.ensures in
-    omega (arith, (lent-here).ranges)
+    omega (arith, (lent-here).fits)
 
 pub offset_bounds-counts-at : goal.offset_bounds-counts-at
 offset_bounds-counts-at c =    let stands_here : let a = c.args in
@@ -64,7 +64,7 @@ offset_bounds-counts-at c =    let stands_here : let a = c.args in
         let a = c.args in
         lent a.k a.wanted (get_or a.sets.now c.loop-i.i 0) c.counters_of-at.result c.requires.0.bounds.messages-high
         (stands_here).0 c.counters_of-at.ensures in
-    omega (arith, (lent-here).ranges)
+    omega (arith, (lent-here).fits)
 
 pub slice_bounds-write_set-count : goal.slice_bounds-write_set-count
 slice_bounds-write_set-count c = omega arith

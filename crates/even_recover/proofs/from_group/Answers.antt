@@ -25,7 +25,7 @@ pub bounds-query-cell : goal.bounds-query-cell
 bounds-query-cell c =    rw c.loop-i.invariant.2 (c.requires.named.cells c.loop-i.i (omega arith))
 
 pub overflow_cast-number : goal.overflow_cast-number
-overflow_cast-number c = omega (arith, c.shared_slice_known-in-loop-i-1.given c.loop-i.cell)
+overflow_cast-number c = omega (arith, c.type_inv.query c.loop-i.cell)
 
 pub from_row-requires : goal.from_row-requires
 from_row-requires c =    let pre = c.requires in
@@ -33,7 +33,7 @@ from_row-requires c =    let pre = c.requires in
       held = c.requires.held;
       grouped = c.requires.grouped;
       i_lt_count = omega arith;
-      number_bound = omega (arith, c.shared_slice_known-in-loop-i-1.given c.loop-i.cell);
+      number_bound = omega (arith, c.type_inv.query c.loop-i.cell);
     }
 
 pub overflow_add-cell : goal.overflow_add-cell
@@ -48,13 +48,11 @@ loop-i-smaller c = omega arith
 
 pub loop-i-preserved : goal.loop-i-preserved
 unfolding group_part
-loop-i-preserved c =    let turn = c.loop-i in 
-    let done = c.from_row in 
-    let at = c.args in
+loop-i-preserved c =    let at = c.args in
     let part = group_part (sum_of at.op) at.here at.group at.query.now at.answers.now in
     let symbol = group_symbol (sum_of at.op) at.here at.group at.answers.now c.loop-i.i in (
       omega arith,
-      c.from_row.auto.1.1.1.1.1.1.0 ∙ c.loop-i.invariant.1,
+      c.from_row.auto.message ∙ c.loop-i.invariant.1,
       omega (arith, c.loop-i.invariant.2, add-mul c.loop-i.i 1 at.group.messages, one-mul at.group.messages),
       c.from_row.ensures
           ∙ ap₂ (λ (cell : ℕ) (l : List ℕ). lay (get_or at.query.now cell 0 * at.here.symbol) symbol l) c.loop-i.invariant.2 c.loop-i.invariant.3

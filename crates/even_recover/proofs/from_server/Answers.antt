@@ -32,18 +32,17 @@ query-requires c =    let at = c.args in
 
 pub loop-j-init : goal.loop-j-init
 loop-j-init c =    let at = c.args in
-    let pre = c.requires.1 in
-    fetched-none at.n at.k at.s at.wanted at.server c.requires.s_value pre.0.0 pre.0.1 (sum_of at.op)
+    fetched-none at.n at.k at.s at.wanted at.server c.requires.s_value c.requires.wanted_lt_k.0 c.requires.wanted_lt_k.1 (sum_of at.op)
     at.key.now at.sets.now at.firsts.now at.answers.now at.message.now
     c.server_rows_of-here.result _ (replicate 1024 0)
-    pre.1.1.0.0 pre.1.1.0.1 pre.1.1.1 c.server_rows_of-here.ensures
+    c.requires.sets_value.0 c.requires.sets_value.1 c.requires.s_in_bounds c.server_rows_of-here.ensures
     c.query.ensures
 
 pub bounds-sets-j : goal.bounds-sets-j
 bounds-sets-j c = omega arith
 
 pub slice_bounds-from_set-end : goal.slice_bounds-from_set-end
-slice_bounds-from_set-end c = sym c.query.auto.1.1.1.1.1.0
+slice_bounds-from_set-end c = sym c.query.auto.out
 
 pub from_set-requires : goal.from_set-requires
 from_set-requires c =    let inv = c.loop-j.invariant in
@@ -76,9 +75,8 @@ pub loop-j-smaller : goal.loop-j-smaller
 loop-j-smaller c = omega (arith, c.loop-j-test.true)
 
 pub loop-j-preserved : goal.loop-j-preserved
-loop-j-preserved c =    let done = c.from_set in 
-    let sets = c.args.sets.now in
-    fetched-more c.loop-j.invariant c.loop-j-test.true _ _ c.from_set.auto.1.1.1.1.1.1.1.0 c.from_set.ensures
+loop-j-preserved c =    let sets = c.args.sets.now in
+    fetched-more c.loop-j.invariant c.loop-j-test.true _ _ c.from_set.auto.message c.from_set.ensures
     (ap (λ (r : ℕ). c.loop-j.cell + r * ones (get_or sets c.loop-j.j 0)) c.rows_of.ensures)
 
 pub shape_of-message : goal.shape_of-message

@@ -72,10 +72,9 @@ loop-server-smaller c = omega (arith, c.loop-server-test.true)
 
 pub loop-server-preserved : goal.loop-server-preserved
 loop-server-preserved c =    let at = c.args in
-    let turn = c.loop-server in 
     let inv = c.loop-server.invariant in (
       omega (arith, c.loop-server-test.true),
-      c.from_server.auto.1.1.1.1.1.1.1.1.1.1.0 ∙ inv.1,
+      c.from_server.auto.message ∙ inv.1,
       inv.2,
       inv.3,
       before_more (sum_of at.op) at.n at.k at.s at.wanted at.key.now at.answers.now c.loop-server.server
