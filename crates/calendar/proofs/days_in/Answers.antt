@@ -38,4 +38,4 @@ pub returns-in-4 : goal.returns-in-4
 returns-in-4 c = thirty c.args.year c.args.month c.in-4.is
 
 pub returns-in_default : goal.returns-in_default
-returns-in_default c = thirty-one c.args.year c.args.month c.in_default.rest.0.1 c.in_default.rest.1
+returns-in_default c = thirty-one c.args.year c.args.month c.in_default.in_default-own.rest.0.1 c.in_default.in_default-own.rest.1

@@ -1,6 +1,5 @@
 -- `length_text::counted` meets its contract: after i turns the first i lines are taken.
 use mathlib.Core.Path.{◌≡◌, sym, ◌∙◌}
-use mathlib.Core.Logic.{⊎_elim}
 use Prim.Native.Nat.{◌-◌}
 use native.Mathlib.Omega.{arith}
 use lib.ListN.{set}
@@ -10,6 +9,7 @@ use Rattle.text_lines.proofs.RoundTrip.{line_read}
 use Rattle.length_text.specs.LengthLines.{length_name, length_digits}
 use Rattle.length_text.proofs.Keeping.{taken-first, taken_more, taken-past, taken_refused, taken-all}
 use Rattle.length_text.proofs.counted.Goals as goal
+use Rattle.length_text.proofs.counted.Goals.{then-i-lt32, else-i-lt32}
 
 pub loop-i-init : goal.loop-i-init
 loop-i-init c = let a = c.args in (omega arith, taken-first a.count a.text.now a.at)
@@ -44,10 +44,10 @@ loop-i-preserved c =    let line-is : let a = c.args in
     taken_more a.count a.text.now a.at c.loop-i.i c.loop-i.next c.loop-i.places c.loop-i.invariant.1 n c.in-Value.end
     (omega arith) (line-is) in
     let places-are : c.if-i-lt32.places ≡ set c.loop-i.places c.loop-i.i n =
-    ⊎_elim
-    (λ came. came.1)
-    (λ came. came.1 ∙ sym (taken-past a.count a.text.now a.at c.loop-i.i c.loop-i.next c.loop-i.places c.loop-i.invariant.1 n (omega (arith, came.0.left))))
-    c.if-i-lt32.branch in
+        elim c.if-i-lt32.branch [
+          then-i-lt32 w ↦ w.places-is
+        | else-i-lt32 w ↦ w.places-is ∙ sym (taken-past a.count a.text.now a.at c.loop-i.i c.loop-i.next c.loop-i.places c.loop-i.invariant.1 n (omega (arith, w.if-i-lt32.false)))
+        ] in
     (omega arith, rw places-are more)
 
 pub returns : goal.returns

@@ -12,7 +12,7 @@ pub returns-then-not-l : goal.returns-then-not-l
 unfolding numbers_of
 returns-then-not-l c = record {
       value = rw (not-true c.args.l.given c.if-not-l.true) refl;
-      upper_bound = rw (not-true c.args.l.given c.if-not-l.true) omega arith;
+      upper_bound = omega arith;
     }
 
 pub returns-then-k-gt32 : goal.returns-then-k-gt32
@@ -21,9 +21,8 @@ returns-then-k-gt32 c = let l = c.args.l in
     let long = places-long l _ c.well_formed.0 in
     record {
       value = rw (not-false l.given c.if-not-l.false)
-    (sym (ap length (take_all c.args.k l.places (omega (arith, long, c.if-k-gt32.true))) ∙ long), omega arith);
-      upper_bound = rw (not-false l.given c.if-not-l.false)
-    (sym (ap length (take_all c.args.k l.places (omega (arith, long, c.if-k-gt32.true))) ∙ long), omega arith);
+          (sym (ap length (take_all c.args.k l.places (omega (arith, long, c.if-k-gt32.true))) ∙ long));
+      upper_bound = omega arith;
     }
 
 pub returns : goal.returns
@@ -32,7 +31,6 @@ returns c = let l = c.args.l in
     let long = places-long l _ c.well_formed.0 in
     record {
       value = rw (not-false l.given c.if-not-l.false)
-    (sym (length-take-le c.args.k l.places (omega (arith, long, c.if-k-gt32.false))), c.if-k-gt32.false);
-      upper_bound = rw (not-false l.given c.if-not-l.false)
-    (sym (length-take-le c.args.k l.places (omega (arith, long, c.if-k-gt32.false))), c.if-k-gt32.false);
+          (sym (length-take-le c.args.k l.places (omega (arith, long, c.if-k-gt32.false))));
+      upper_bound = c.if-k-gt32.false;
     }

@@ -22,14 +22,14 @@ pub bounds-places-i : goal.bounds-places-i
 bounds-places-i c = omega arith
 
 pub put_line-next-requires : goal.put_line-next-requires
-put_line-next-requires c =    let numbers_of : let a = c.args in take c.line_count-lines.result a.l.places ≡ numbers_of a.k a.l =
+put_line-next-requires c =    let listed : let a = c.args in take c.line_count-lines.result a.l.places ≡ numbers_of a.k a.l =
         let a = c.args in
         ap (λ (n : ℕ). take n a.l.places) c.line_count-lines.ensures.value ∙ sym (numbers-front a.k a.l) in
     let a = c.args in
     let i = c.loop-i.i in
     let more = length_more a.l.places i (omega (arith, places-long a.l _ c.well_formed.1.1.0)) in
     let within = length-within a.l.places (i + 1) c.line_count-lines.result (omega arith) in
-    let all = ap (λ (ns : List ℕ). length (length_text ns)) (numbers_of) in
+    let all = ap (λ (ns : List ℕ). length (length_text ns)) listed in
     let room = c.requires in
     omega (arith, c.loop-i.invariant.2, ap length c.loop-i.invariant.3, put-length a.at (length_text (take i a.l.places)) a.out.now (omega arith))
 
@@ -49,23 +49,23 @@ loop-i-preserved c =    let a = c.args in
     )
 
 pub shape_of-out : goal.shape_of-out
-shape_of-out c =    let numbers_of : let a = c.args in take c.line_count-lines.result a.l.places ≡ numbers_of a.k a.l =
+shape_of-out c =    let listed : let a = c.args in take c.line_count-lines.result a.l.places ≡ numbers_of a.k a.l =
         let a = c.args in
         ap (λ (n : ℕ). take n a.l.places) c.line_count-lines.ensures.value ∙ sym (numbers-front a.k a.l) in
     let a = c.args in
     let first = length_text (take c.loop-i.i a.l.places) in
     let within = length-within a.l.places c.loop-i.i c.line_count-lines.result c.loop-i.invariant.0 in
-    let all = ap (λ (ns : List ℕ). length (length_text ns)) (numbers_of) in
+    let all = ap (λ (ns : List ℕ). length (length_text ns)) listed in
     let room = c.requires in
     ap length c.loop-i.invariant.3 ∙ put-length a.at first a.out.now (omega arith)
 
 pub returns : goal.returns
-returns c =    let numbers_of : let a = c.args in take c.line_count-lines.result a.l.places ≡ numbers_of a.k a.l =
+returns c =    let listed : let a = c.args in take c.line_count-lines.result a.l.places ≡ numbers_of a.k a.l =
         let a = c.args in
         ap (λ (n : ℕ). take n a.l.places) c.line_count-lines.ensures.value ∙ sym (numbers-front a.k a.l) in
     let a = c.args in
     let last : c.loop-i.i ≡ c.line_count-lines.result = omega arith in
-    let all : take c.loop-i.i a.l.places ≡ numbers_of a.k a.l = ap (λ (n : ℕ). take n a.l.places) last ∙ numbers_of in
+    let all : take c.loop-i.i a.l.places ≡ numbers_of a.k a.l = ap (λ (n : ℕ). take n a.l.places) last ∙ listed in
     record {
       value = rw all at c.loop-i.invariant.2;
       out_after = rw all at c.loop-i.invariant.3;

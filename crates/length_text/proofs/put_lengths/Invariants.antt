@@ -8,7 +8,7 @@ use Rattle.length_text.proofs.put_lengths.Given as goal
 
 abbrev pub invariant-loop-i : goal.invariant-loop-i
 invariant-loop-i l =
-    let first = length_text (take i l.places) in (i ≤ l.lines) × (l.lines ≤ 32) × (l.i ≡ l.at + length first) × (l.next ≡ put l.at first l.initial.out)
+    let first = length_text (take l.i l.places) in (l.i ≤ l.lines) × (l.lines ≤ 32) × (l.next ≡ l.at + length first) × (l.out ≡ put l.at first l.initial.out)
 
 abbrev pub decreases-loop-i : goal.decreases-loop-i
-decreases-loop-i l = l.lines - i
+decreases-loop-i l = l.lines - l.i

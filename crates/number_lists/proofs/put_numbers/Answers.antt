@@ -13,20 +13,12 @@ use Rattle.number_lists.specs.NumberLists.{numbers_at, list_of}
 use Rattle.number_lists.proofs.Reading.{numeral-within}
 use Rattle.number_lists.proofs.Scanning.{scanned-list}
 use Rattle.number_lists.proofs.Filling.{LeftAt, left-first, next-there, next-value, next-left}
+use Rattle.number_lists.proofs.put_numbers.Invariants.{Filled}
 use Rattle.number_lists.proofs.put_numbers.Goals as goal
 
 filled : (numbers first : List ℕ) (i : ℕ) → length numbers ≤ i → length first ≤ i → take i numbers ++ drop i first ≡ numbers
 filled numbers first i h k =
     ap₂ (λ (s t : List ℕ). s ++ t) (take_all i numbers h) (drop_of_length-le first k) ∙ append-nil numbers
-
--- after i turns, over the numbers that are written and the buffer at first
-record Filled (text numbers first : List ℕ) (out : List ℕ) (at i : ℕ) : Type 0 where
-  many : length numbers ≡ length first
-  bytes : all_below 256 numbers ≡ true
-  few : i ≤ length first
-  written : out ≡ take i numbers ++ drop i first
-  same : length out ≡ length first
-  left : LeftAt text numbers at i
 
 pub loop-i-init : goal.loop-i-init
 loop-i-init c =    let a = c.args in

@@ -24,10 +24,10 @@ pub returns : goal.returns
 returns c =    let text = printed scheme_of c.args.input.now in
     let page = c.put_page-length in 
     let zeros = c.blank_bytes-bytes in 
-    let same = c.put_page-length.auto.1.0 in
-    let fits = page-fits text c.blank_bytes-bytes.result c.put_page-length.new.1.0 c.put_page-length.ensures.out_after same in
+    let same = c.put_page-length.auto.out in
+    let fits = page-fits text c.blank_bytes-bytes.result c.put_page-length.new.out c.put_page-length.ensures.out_after same in
     let is = c.put_page-length.ensures.value in
     record {
-      value = page-is text c.put_page-length.new.1.0 c.put_page-length.result is (c.put_page-length.ensures.out_after ∙ ap (put 0 text) c.blank_bytes-bytes.ensures);
+      value = page-is text c.put_page-length.new.out c.put_page-length.result is (c.put_page-length.ensures.out_after ∙ ap (put 0 text) c.blank_bytes-bytes.ensures);
       length_in_bounds = omega arith;
     }

@@ -22,6 +22,6 @@ returns-in-Refused c =    let a = c.args in
     let numbers = numbers_at a.text.now a.at in
     let refused = value-refused _ _ _ (sym c.check-outcome.ensures ∙ c.in-Refused.is) in
     let found = scanned-list numbers a.count a.bytes c.requires.at_value in
-    written_as _ _ a.out.now _ _
-    (answer-refused scheme_of a.c a.wanted (list_of numbers) _ (rw (found.0, found.1) refused))
-    c.put_refusal.ensures
+    let w = written_as _ _ a.out.now _ _
+    (answer-refused scheme_of a.c a.wanted (list_of numbers) _ (rw (found.0, found.1) refused)) (c.put_refusal.ensures.value, c.put_refusal.ensures.out_after) in
+    record { value = w.0; out_after = w.1 }

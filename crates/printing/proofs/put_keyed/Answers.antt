@@ -16,7 +16,8 @@ returns-then-not-key_good c =    let a = c.args in
     let bad = sym c.key_good.ensures ∙ not-true _ c.if-not-key_good.true-raw in
     let checked : Checked scheme_of a.c a.wanted (length a.key.now) =
     record { admitted = c.requires.admitted.0; inside = c.requires.admitted.1; long = c.requires.key_len.0 } in
-    written_as _ _ a.out.now _ _ (answer-bad-key scheme_of a.c a.wanted a.key.now checked bad) c.put_refusal.ensures
+    let w = written_as _ _ a.out.now _ _ (answer-bad-key scheme_of a.c a.wanted a.key.now checked bad) (c.put_refusal.ensures.value, c.put_refusal.ensures.out_after) in
+    record { value = w.0; out_after = w.1 }
 
 pub put_queries-requires : goal.put_queries-requires
 put_queries-requires c =    let accepted : (scheme_of c.args.c).key_good c.args.key.now ≡ true
@@ -37,4 +38,5 @@ returns c =    let accepted : (scheme_of c.args.c).key_good c.args.key.now ≡ t
     let a = c.args in
     let good = sym c.key_good.ensures ∙ not-false _ c.if-not-key_good.false-raw in
     let e = answer-queries scheme_of a.c a.wanted a.key.now (accepted good) c.requires.key_len.1 in
-    written_as _ _ a.out.now _ _ e c.put_queries.ensures
+    let w = written_as _ _ a.out.now _ _ e (c.put_queries.ensures.value, c.put_queries.ensures.out_after) in
+    record { value = w.0; out_after = w.1 }

@@ -20,14 +20,16 @@ unfolding printed input_asks lines_ask
 returns-then-input-gt65536 c =    let a = c.args in
     let long : 65536 < length a.input.now = omega (arith, c.if-input-gt65536.true) in
     let e : printed scheme_of a.input.now ≡ refusal_line Text = simp (lt-ltb _ _ long) in
-    written_as _ _ a.out.now _ _ e c.put_refusal.ensures
+    let w = written_as _ _ a.out.now _ _ e (c.put_refusal.ensures.value, c.put_refusal.ensures.out_after) in
+    record { value = w.0; out_after = w.1 }
 
 pub returns-in_default : goal.returns-in_default
 unfolding printed input_asks lines_ask
 returns-in_default c =    let a = c.args in
     let e : printed scheme_of a.input.now ≡ refusal_line Text =
     simp (le-ltb _ _ c.if-input-gt65536.false, sym c.catalogue_lines-found.ensures, c.in_default.is) in
-    written_as _ _ a.out.now _ _ e c.put_refusal-in_default.ensures
+    let w = written_as _ _ a.out.now _ _ e (c.put_refusal-in_default.ensures.value, c.put_refusal-in_default.ensures.out_after) in
+    record { value = w.0; out_after = w.1 }
 
 pub returns-in_default-number_line : goal.returns-in_default-number_line
 unfolding printed input_asks lines_ask
@@ -35,7 +37,8 @@ returns-in_default-number_line c =    let a = c.args in
     let wanted = sym c.number_line.ensures ∙ c.in_default-number_line.is in
     let e : printed scheme_of a.input.now ≡ refusal_line Text =
     simp (le-ltb _ _ c.if-input-gt65536.false, sym c.catalogue_lines-found.ensures, c.in-Accepted.is, wanted) in
-    written_as _ _ a.out.now _ _ e c.put_refusal-in_default-number_line.ensures
+    let w = written_as _ _ a.out.now _ _ e (c.put_refusal-in_default-number_line.ensures.value, c.put_refusal-in_default-number_line.ensures.out_after) in
+    record { value = w.0; out_after = w.1 }
 
 pub returns-in_default-scan_key : goal.returns-in_default-scan_key
 unfolding printed input_asks lines_ask
@@ -46,7 +49,8 @@ returns-in_default-scan_key c =    let a = c.args in
     let key = scan-refused (key_line text c.in-Value.at) none in
     let e : printed scheme_of text ≡ refusal_line Text =
     simp (le-ltb _ _ c.if-input-gt65536.false, sym c.catalogue_lines-found.ensures, c.in-Accepted.is, wanted, key) in
-    written_as _ _ a.out.now _ _ e c.put_refusal-in_default-scan_key.ensures
+    let w = written_as _ _ a.out.now _ _ e (c.put_refusal-in_default-scan_key.ensures.value, c.put_refusal-in_default-scan_key.ensures.out_after) in
+    record { value = w.0; out_after = w.1 }
 
 pub overflow_add-at : goal.overflow_add-at
 overflow_add-at c =    let w = key-line-read _ _ _ _ (sym c.scan_key.ensures ∙ c.in-Of.is) in
@@ -71,4 +75,5 @@ returns c =    let a = c.args in
     let ask = asked c.catalogue_lines-found.result.catalogue c.in-Value.wanted (list_of (numbers_at text at)) in
     let e : printed scheme_of text ≡ answer_to scheme_of ask =
     simp (le-ltb _ _ c.if-input-gt65536.false, sym c.catalogue_lines-found.ensures, c.in-Accepted.is, wanted, key) in
-    written_as _ _ a.out.now _ _ e c.put_asked.ensures
+    let w = written_as _ _ a.out.now _ _ e (c.put_asked.ensures.value, c.put_asked.ensures.out_after) in
+    record { value = w.0; out_after = w.1 }

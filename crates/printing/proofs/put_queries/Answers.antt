@@ -18,15 +18,8 @@ use Rattle.printing.specs.Input.{Asked, asked}
 use Rattle.printing.specs.Output.{page_bytes, query_line, asked_query, query_lines}
 use Rattle.printing.proofs.Lines.{lines_to, lines_none, lines_more, lines-all}
 use Rattle.printing.proofs.Room.{lines_fit}
+use Rattle.printing.proofs.put_queries.Invariants.{Printed}
 use Rattle.printing.proofs.put_queries.Goals as goal
-
--- after so many servers, over the buffer at first
-record Printed (a : Asked) (size : ℕ) (first out : List ℕ) (at server : ℕ) : Type 0 where
-  few : server ≤ a.catalogue.servers
-  place : at ≡ length (lines_to scheme_of a server)
-  most : at ≤ server * (19 + 4 * size)
-  lines : out ≡ put 0 (lines_to scheme_of a server) first
-  same : length out ≡ length first
 
 -- there is room for the next line
 next_fits : (c : Catalogue) (size at server : ℕ) → Admitted c → size ≡ (scheme_of c).sizes.query → server < c.servers

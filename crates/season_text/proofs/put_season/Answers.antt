@@ -15,8 +15,8 @@ pub returns-then-are_none : goal.returns-then-are_none
 returns-then-are_none c =    let a = c.args in
     let none = text-none a.opening a.closing (sym c.are_none.ensures ∙ c.if-are_none.true) in
     record {
-      value = rw none omega arith;
-      out_after = rw none sym (put-nil a.at a.out.now);
+      value = rw none (omega arith);
+      out_after = rw none (sym (put-nil a.at a.out.now));
     }
 
 pub put_day_line-next-requires : goal.put_day_line-next-requires

@@ -53,7 +53,7 @@ number-requires c = let tested : let a = c.args in c.starts.result ≡ begins a.
         name-within a.name.now a.text.now a.at c.if-text-at.false (found) in
     let w = within in
     record {
-      most_bound = simp (length-take, length-drop) (omega (arith, c.well_formed));
+      most_bound = omega arith;
       text_bound = simp (length-take, length-drop) (omega (arith, c.well_formed));
     }
 

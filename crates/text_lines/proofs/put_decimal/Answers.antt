@@ -8,13 +8,8 @@ use Rattle.lists.specs.Parts.{put}
 use Rattle.lists.proofs.Puts.{put-length, put-before}
 use Rattle.text_lines.specs.Decimal.{digit, decimal}
 use Rattle.text_lines.proofs.Decimal.{decimal-small, decimal-large, length-small, length-large, some-digits}
+use Rattle.text_lines.proofs.put_decimal.Invariants.{Written}
 use Rattle.text_lines.proofs.put_decimal.Goals as goal
-
-record Written (at n : ℕ) (before : List ℕ) (i front : ℕ) (out : List ℕ) : Type 0 where
-  written : List ℕ
-  whole : decimal n ≡ decimal front ++ written
-  place : i ≡ at + length (decimal front)
-  bytes : out ≡ put i written before
 
 -- where the written digits lie
 module _ (at n : ℕ) (before : List ℕ) (i front : ℕ) (out : List ℕ) (w : Written at n before i front out)
