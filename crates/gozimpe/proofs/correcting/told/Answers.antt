@@ -8,4 +8,4 @@ pub returns-in-Accepted : goal.returns-in-Accepted
 returns-in-Accepted c = ap signed_verdict (sym c.in-Accepted.is)
 
 pub returns-in-Refused : goal.returns-in-Refused
-returns-in-Refused c = to_z-of_z (record { sfits = c.minus.type_inv }) ∙ c.minus.ensures ∙ ap signed_verdict (sym c.in-Refused.is)
+returns-in-Refused c = to_z-of_z {w = W32} (record { sfits = c.minus.type_inv }) ∙ c.minus.ensures ∙ ap signed_verdict (sym c.in-Refused.is)
