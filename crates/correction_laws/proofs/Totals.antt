@@ -48,7 +48,7 @@ module _ (by : Sum) (S : ℕ) (group : AbelianGroup by S) (before after : Cell �
   unfolding total_from times_in sum bit
   row_one s all_nil e = absurd (let w : ⊥ = omega (arith, e) in w)
   row_one {start} s (all_cons {x = cell} {xs = cells} h a) e =
-      go (is_cell p i cell) refl e (row_one (group.plus-symbol s (changed.symbol cell h)) a)
+      go (is_cell p i cell) refl e (row_one {start = by.plus start (before cell)} (group.plus-symbol s (changed.symbol cell h)) a)
     where
       go : (t : Bool) → is_cell p i cell ≡ t → bit t + times_in p i cells ≡ 1
           → (times_in p i cells ≡ 1 → total_from by (by.plus start (before cell)) (map after cells)

@@ -31,7 +31,7 @@ returns c =    let a = c.args in
     let from = a.byte / 2 * 2 in
     let bytes : Below 256 a.part.now = λ i l. (c.slice_known-1.given i).fits in
     moved-part a.op a.byte a.new a.old size a.part.now c.requires c.smaller-size.ensures bytes
-    c.combine.last.1.0
+    c.combine.new.dst
     (c.combine.ensures
     ∙ ap (λ (l : List ℕ). (sum_of a.op).plus (take (from + size - from) (drop from a.part.now)) (take size l))
     c.shift_of-shift.ensures)

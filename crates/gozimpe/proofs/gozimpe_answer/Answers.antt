@@ -1,5 +1,6 @@
 -- `gozimpe::gozimpe_answer` meets its contract: a text that is refused ends the call, and else the answering end's outcome gets its sign.
 use mathlib.Core.Path.{sym, ap, ◌∙◌}
+use mir.Syntax.{w64}
 use mir.Facts.{to_z-of_z}
 use Rattle.gozimpe.specs.Host.{signed, day_of}
 use Rattle.gozimpe.proofs.Outcomes.{answer-small, text-refused, text-answered}
@@ -11,7 +12,7 @@ returns-in-Refused c =    let a = c.args in
     let did = text-refused a.catalogue.now c.read-reading.result c.read-reading.ensures (day_of a.year a.month a.day)
     a.mirror a.store.now a.request.now a.answer.now c.in-Refused.fault c.in-Refused.is in
     record {
-      value = to_z-of_z (record { sfits = c.minus.type_inv }) ∙ c.minus.ensures ∙ ap signed did.outcome;
+      value = to_z-of_z {w = w64} (record { sfits = c.minus.type_inv }) ∙ c.minus.ensures ∙ ap signed did.outcome;
       answer_after = did.buffer;
     }
 
@@ -30,7 +31,7 @@ returns-in-Value c =    let a = c.args in
     a.mirror a.store.now a.request.now a.answer.now
     c.in_default.is c.answer-outcome.result _ c.answer-outcome.ensures in
     record {
-      value = to_z-of_z (record { sfits = c.plus.type_inv }) ∙ c.plus.ensures ∙ ap signed (sym c.in-Value.is ∙ did.outcome);
+      value = to_z-of_z {w = w64} (record { sfits = c.plus.type_inv }) ∙ c.plus.ensures ∙ ap signed (sym c.in-Value.is ∙ did.outcome);
       answer_after = did.buffer;
     }
 
@@ -42,6 +43,6 @@ returns-in-Refused-outcome c =    let a = c.args in
     a.mirror a.store.now a.request.now a.answer.now
     c.in_default.is c.answer-outcome.result _ c.answer-outcome.ensures in
     record {
-      value = to_z-of_z (record { sfits = c.minus-in-Refused-outcome.type_inv }) ∙ c.minus-in-Refused-outcome.ensures ∙ ap signed (sym c.in-Refused-outcome.is ∙ did.outcome);
+      value = to_z-of_z {w = w64} (record { sfits = c.minus-in-Refused-outcome.type_inv }) ∙ c.minus-in-Refused-outcome.ensures ∙ ap signed (sym c.in-Refused-outcome.is ∙ did.outcome);
       answer_after = did.buffer;
     }

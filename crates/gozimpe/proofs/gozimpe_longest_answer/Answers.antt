@@ -2,6 +2,7 @@
 use mathlib.Core.Path.{sym, ap, ◌∙◌}
 use native.Mathlib.Omega.{arith}
 use lib.IntN.{pos}
+use mir.Syntax.{w64}
 use mir.Facts.{to_z-of_z}
 use Rattle.refusal.proofs.Chain.{not-refused}
 use Rattle.parameters.specs.declared.Sizes.{Sizes}
@@ -13,7 +14,7 @@ use Rattle.gozimpe.proofs.gozimpe_longest_answer.Goals as goal
 pub returns-in-Refused : goal.returns-in-Refused
 returns-in-Refused c =    let text = c.args.catalogue.now in
     let from = c.read-reading in 
-    to_z-of_z (record { sfits = c.minus.type_inv }) ∙ c.minus.ensures ∙ ap signed (sym (longest-refused text c.read-reading.result c.read-reading.ensures c.in-Refused.refusal c.in-Refused.is))
+    to_z-of_z {w = w64} (record { sfits = c.minus.type_inv }) ∙ c.minus.ensures ∙ ap signed (sym (longest-refused text c.read-reading.result c.read-reading.ensures c.in-Refused.refusal c.in-Refused.is))
 
 pub plus-requires : goal.plus-requires
 plus-requires c =    let sized = c.sizes in 
@@ -27,7 +28,7 @@ returns-in-Of c =    let text = c.args.catalogue.now in
     let from = c.read-reading in 
     let accepted = c.in_default.is in
     let sized = c.sizes in 
-    to_z-of_z (record { sfits = c.plus.type_inv }) ∙ c.plus.ensures
+    to_z-of_z {w = w64} (record { sfits = c.plus.type_inv }) ∙ c.plus.ensures
     ∙ ap (λ (s : Sizes). pos s.slot) (measured c.read-reading.result.catalogue c.sizes.result c.in-Of.sizes c.sizes.ensures c.in-Of.is).1
     ∙ ap signed (sym (longest-given text c.read-reading.result c.read-reading.ensures accepted))
 

@@ -31,12 +31,11 @@ pub recover-requires : goal.recover-requires
 recover-requires c =    let args = c.args in
     let pre = c.requires in
     let sizes = c.sizes_of-sizes in 
-    let rest = c.requires.1.1 in
     record {
       admitted = c.requires.admitted;
-      wanted_lt_messages = rest.0;
-      valid = key-valid args.c args.places.now c.requires.places_len c.sizes_of-sizes.result c.requires.admitted c.sizes_of-sizes.ensures rest.1.0;
-      c_in_bounds = rest.1.1.0;
+      wanted_lt_messages = c.requires.wanted_lt_messages;
+      valid = key-valid args.c args.places.now c.requires.places_len c.sizes_of-sizes.result c.requires.admitted c.sizes_of-sizes.ensures c.requires.places_value;
+      c_in_bounds = c.requires.c_in_bounds;
     }
 
 pub returns : goal.returns
