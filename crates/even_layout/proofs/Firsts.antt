@@ -4,7 +4,7 @@ use mathlib.Core.Path.{◌≡◌, refl, sym, ap, ap₂, ◌∙◌}
 use mathlib.Core.Logic.{◌≢◌}
 use mathlib.Core.List.{List, [], ◌∷◌, ◌++◌, map, flat_map}
 use mathlib.Core.Bool.{Bool, true, false, cond, ◌&&◌, false≢true}
-use Prim.Native.Nat.{ℕ, zero, suc, ◌+◌, ◌-◌, ◌*◌, ◌/◌, ◌%◌, ◌^◌, ◌≤◌, ◌<◌}
+use Prim.Native.Nat.{ℕ, zero, suc, ◌+◌, ◌*◌, ◌/◌, ◌%◌, ◌^◌, ◌≤◌, ◌<◌}
 use native.Mathlib.Nat.{pow-zero, zero-add, add-zero, add_assoc, pow-suc, pow-le-pow_right, div-add-mod', div-lt_iff_lt-mul, mod-lt}
 use native.Mathlib.Numerals.{add-one}
 use native.Mathlib.Omega.{arith}
@@ -21,7 +21,6 @@ use Rattle.lists.proofs.Sums.{sum-none}
 use Rattle.lists.proofs.Mapped.{mapped-length, mapped_at}
 use Rattle.even_places.specs.Rule.{byte_of, ones_in, all_sets, layout, alike, first_row}
 use Rattle.even_places.proofs.SetLaws.{alike-eq, alike_self}
-use Rattle.even_places.proofs.Rows.{below}
 use Rattle.even_places.proofs.Bytes.{byte-ones, byte-below}
 use Rattle.even_places.proofs.AllSets.{IsSet, all-sets, alike_all, layout-by-set}
 use Rattle.even_places.proofs.SetRuns.{first-here, first-later}

@@ -1,7 +1,7 @@
 -- `even_layout::first_rows` meets its contract: after i turns the first rows of the sets from i on are still to be written.
 use mathlib.Core.Path.{◌≡◌, refl, sym, ◌∙◌}
 use mathlib.Core.List.{[]}
-use Prim.Native.Nat.{◌-◌, ◌<◌}
+use Prim.Native.Nat.{◌<◌}
 use native.Mathlib.Omega.{arith}
 use lib.ListN.{length, get_or, length-set, drop_of_length-le}
 use Rattle.even_places.specs.Rule.{all_sets}

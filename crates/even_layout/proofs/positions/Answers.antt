@@ -1,7 +1,7 @@
 -- `even_layout::positions` meets its contract: after i turns the positions of the sets from i on are still to be written.
 use mathlib.Core.Path.{refl, sym, ap, ◌∙◌}
 use mathlib.Core.List.{[]}
-use Prim.Native.Nat.{ℕ, ◌+◌, ◌-◌, ◌≤◌, ◌<◌}
+use Prim.Native.Nat.{ℕ, ◌+◌, ◌≤◌, ◌<◌}
 use native.Mathlib.Omega.{arith}
 use lib.ListN.{length, get_or, replicate, length-append}
 use Rattle.lists.proofs.Writing.{pending-start, pending-part, pending-as, pending_done}

@@ -1,7 +1,6 @@
 -- `even_locate::locate` meets its contract: after i turns no row of the sets before names the symbol, and the rows of the sets from i on decide.
 use mathlib.Core.Path.{◌≡◌}
 use Prim.Native.Nat.{◌+◌, ◌-◌, ◌*◌, ◌≤◌}
-use lib.Count.{ones as count}
 use lib.ListN.{length, drop}
 use Rattle.even_places.specs.Rule.{layout}
 use Rattle.even_layout.proofs.Tables.{positions_from}

@@ -1,5 +1,4 @@
 -- `even_query::look_up` meets its contract: after i turns the entries from i on are still to be written.
-use Prim.Native.Nat.{◌-◌}
 use native.Mathlib.Omega.{arith}
 use Rattle.lists.proofs.Writing.{pending-start, pending-byte, pending_done}
 use Rattle.even_query.proofs.Entries.{entries-start, entries-more, entries-done, entries-length}

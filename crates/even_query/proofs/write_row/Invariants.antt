@@ -1,7 +1,6 @@
 -- `even_query::write_row` meets its contract: after p turns the places of the set's messages from p on are still to be written.
 use mathlib.Core.List.{List, map}
 use Prim.Native.Nat.{ℕ, ◌-◌, ◌≤◌}
-use lib.ListN.{set}
 use Rattle.lists.specs.Below.{Below}
 use Rattle.lists.proofs.Writing.{Pending}
 use Rattle.even_places.specs.Rule.{members}
