@@ -1,6 +1,5 @@
 -- `length_text::counted` meets its contract: after i turns the first i lines are taken.
 use mathlib.Core.Path.{◌≡◌, sym, ◌∙◌}
-use Prim.Native.Nat.{◌-◌}
 use native.Mathlib.Omega.{arith}
 use lib.ListN.{set}
 use Rattle.text_lines.specs.declared.Line.TheVariants.{Value}

@@ -2,18 +2,16 @@
 use mathlib.Core.Path.{◌≡◌, refl, sym, ap, ap₂, ◌∙◌}
 use mathlib.Core.Bool.{true}
 use mathlib.Core.List.{List, ◌++◌, append-nil}
-use Prim.Native.Nat.{ℕ, ◌+◌, ◌-◌, ◌≤◌}
+use Prim.Native.Nat.{ℕ, ◌≤◌}
 use native.Mathlib.Omega.{arith}
 use lib.ListN.{length, take, drop, set, get_or, length-set, drop_of_length-le}
 use lib.Seq.{take_all}
-use Rattle.lists.specs.Below.{all_below}
 use Rattle.lists.proofs.Below.{all_below-below}
 use Rattle.lists.proofs.Puts.{copy_more}
 use Rattle.number_lists.specs.NumberLists.{numbers_at, list_of}
 use Rattle.number_lists.proofs.Reading.{numeral-within}
 use Rattle.number_lists.proofs.Scanning.{scanned-list}
-use Rattle.number_lists.proofs.Filling.{LeftAt, left-first, next-there, next-value, next-left}
-use Rattle.number_lists.proofs.put_numbers.Invariants.{Filled}
+use Rattle.number_lists.proofs.Filling.{left-first, next-there, next-value, next-left}
 use Rattle.number_lists.proofs.put_numbers.Goals as goal
 
 filled : (numbers first : List ℕ) (i : ℕ) → length numbers ≤ i → length first ≤ i → take i numbers ++ drop i first ≡ numbers

@@ -1,6 +1,6 @@
 -- `number_lists::scan_some` meets its contract: after `count` numbers, those that are left decide.
 use mathlib.Core.Path.{sym, ap, ◌∙◌}
-use Prim.Native.Nat.{◌+◌, ◌-◌}
+use Prim.Native.Nat.{◌+◌}
 use native.Mathlib.Omega.{arith}
 use borrow.Author.Tests.{eq-eqb, ne_eqb}
 use Rattle.number_lists.specs.declared.Scanned.TheVariants.{Of}

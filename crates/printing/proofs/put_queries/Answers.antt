@@ -2,7 +2,7 @@
 -- byte of its query, and the page has room for N of them.
 use mathlib.Core.Path.{◌≡◌, refl, sym, ap, ◌∙◌}
 use mathlib.Core.List.{List}
-use Prim.Native.Nat.{ℕ, ◌+◌, ◌-◌, ◌*◌, ◌≤◌, ◌<◌}
+use Prim.Native.Nat.{ℕ, ◌+◌, ◌*◌, ◌≤◌, ◌<◌}
 use native.Mathlib.Nat.{suc-mul}
 use native.Mathlib.Numerals.{add-one}
 use native.Mathlib.Omega.{arith}
@@ -14,11 +14,10 @@ use Rattle.catalogue.specs.declared.Catalogue.{Catalogue}
 use Rattle.catalogue.specs.Catalogue.{Admitted}
 use Rattle.codes.specs.Codes.{scheme_of}
 use Rattle.session.proofs.Begin.{begin-passed}
-use Rattle.printing.specs.Input.{Asked, asked}
+use Rattle.printing.specs.Input.{asked}
 use Rattle.printing.specs.Output.{page_bytes, query_line, asked_query, query_lines}
 use Rattle.printing.proofs.Lines.{lines_to, lines_none, lines_more, lines-all}
 use Rattle.printing.proofs.Room.{lines_fit}
-use Rattle.printing.proofs.put_queries.Invariants.{Printed}
 use Rattle.printing.proofs.put_queries.Goals as goal
 
 -- there is room for the next line

@@ -1,5 +1,4 @@
 -- `text_lines::digits` meets its contract: i digits are passed, and the rest has the others.
-use Prim.Native.Nat.{◌-◌}
 use native.Mathlib.Omega.{arith}
 use Rattle.text_lines.proofs.DigitTexts.{is_digit_lem, below-digits, above-digits, count-more, count-stop, count-end}
 use Rattle.text_lines.proofs.digits.Goals as goal

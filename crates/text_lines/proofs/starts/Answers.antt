@@ -1,6 +1,5 @@
 -- `text_lines::starts` meets its contract: after i equal bytes, what is left of both decides.
 use mathlib.Core.Path.{refl, sym, ◌∙◌}
-use Prim.Native.Nat.{◌-◌}
 use native.Mathlib.Omega.{arith}
 use Rattle.text_lines.proofs.Begins.{begins-same, begins-other, begins-short, begins-all}
 use Rattle.text_lines.proofs.starts.Goals as goal
