@@ -1,6 +1,7 @@
 // The answer unit: the short answering end behind six byte registers (02, item 12). The unit is passed from access to access by value, and any value may
 // come in: each access checks its fields again. The rules stand in specs/Registers.antt, register by register.
 #![tactic(auto)]
+
 ghost use Rattle.std.specs.Prelude.{◌≡◌};
 ghost use Rattle.answer_unit.specs.Unit.{fresh as fresh·, zero_unit};
 ghost use Rattle.answer_unit.specs.Registers.{set_up, read_register, write_register, line as line·};

@@ -1,5 +1,6 @@
 // Days of the Gregorian calendar, years 2000 to 2399 (document 02, item 1): which are real, their order, and whether a day lies in a season.
 #![tactic(auto)]
+
 ghost use Rattle.std.specs.Prelude.{◌≡◌};
 ghost use Rattle.calendar.specs.Calendar.{leap_year, days_in, within, real_day, before, in_season, no_day, is_none, undated};
 

@@ -1,6 +1,7 @@
 // The catalogue: which code, how many servers and messages, how long a symbol, what symbols are combined by, in which season, where messages end;
 // whether it is admitted, and on which days it is served, and the sizes that follow.
 #![tactic(auto)]
+
 ghost use Rattle.std.specs.Prelude.{◌≡◌, true};
 ghost use Rattle.catalogue.specs.Catalogue.{numbers_fit, dates_fit, in_bounds, whole_words, catalogue_verdict, zero_catalogue, sizes_of, measured_of};
 ghost use Rattle.catalogue.specs.Days.{day_verdict};

@@ -1,5 +1,6 @@
 // The catalogue's text: reading it line by line, and writing it.
 #![tactic(auto)]
+
 ghost use Rattle.std.specs.Prelude.{◌≡◌};
 ghost use Rattle.catalogue_text.specs.Parsing.{first_lines, catalogue_of, refused_lines, catalogue_lines, lines_of, unread, read_of};
 ghost use Rattle.catalogue_text.specs.Writing.{Wrote};

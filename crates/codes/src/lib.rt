@@ -1,5 +1,6 @@
 // The code of a catalogue: each call goes to the code that the catalogue names. Its contracts speak of the catalogue's scheme alone.
 #![tactic(auto)]
+
 ghost use Rattle.std.specs.Prelude.{◌≡◌, true, ◌*◌, ◌≤◌, ◌<◌, length};
 ghost use Rattle.lists.specs.Parts.{put, lay};
 ghost use Rattle.catalogue.specs.Catalogue.{Admitted};

@@ -1,6 +1,7 @@
 // The conformance program of the answer unit, line by line: each makes its call, or sets what later calls find. It reads `stdin` and prints `stdout`, both
 // of which the second implementation writes.
 #![tactic(auto)]
+
 use trial_bytes::input::Line;
 use trial_bytes::{draw, input};
 use trial_units::state::State;

@@ -1,6 +1,7 @@
 // One corrected byte (02, item 13): a byte of the store is set, and saved answers are brought up to date with it. No answer is worked out afresh: of the store
 // the one byte is read, of an answer the one word.
 #![tactic(auto)]
+
 ghost use Rattle.std.specs.Prelude.{◌≡◌, true, ◌<◌, min, length};
 ghost use Rattle.symbol.specs.Operations.{sum_of};
 ghost use Rattle.catalogue.specs.Catalogue.{Admitted};

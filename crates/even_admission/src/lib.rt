@@ -1,5 +1,6 @@
 // Which queries a server admits in the even code (document 01, 'Even code').
 #![tactic(auto)]
+
 ghost use Rattle.std.specs.Prelude.{◌≡◌, ◌&&◌, ◌≤◌, length};
 ghost use mathlib.Core.List.{zip_with};
 ghost use Rattle.lists.specs.Below.{all_below, Below};

@@ -1,5 +1,6 @@
 // The answer to an admitted query of the even code (document 01, 'Even code').
 #![tactic(auto)]
+
 ghost use Rattle.std.specs.Prelude.{◌≡◌, ◌+◌, ◌*◌, ◌^◌, ◌≤◌, length, replicate};
 ghost use Rattle.lists.specs.Parts.{cut, put};
 ghost use Rattle.symbol.specs.Operations.{sum_of};

@@ -1,5 +1,6 @@
 // The key check of the even code: whether a key of the right length is K permutations of the numbers below N^K.
 #![tactic(auto)]
+
 ghost use Rattle.std.specs.Prelude.{◌≡◌, ◌*◌, ◌^◌, length};
 ghost use Rattle.lists.specs.Distinct.{is_permutation};
 ghost use Rattle.lists.specs.Parts.{cut};

@@ -1,6 +1,7 @@
 // The layout of an even query, which every server knows from N and K: the message at each position, each set's first row, and the order of the
 // other servers, from whose rows a row is joined. A set of messages is one byte, bit p for message p (document 01, 'Even code').
 #![tactic(auto)]
+
 ghost use Rattle.std.specs.Prelude.{◌≡◌, ℕ, ◌+◌, ◌-◌, ◌≤◌, ◌<◌, length, get_or, replicate};
 ghost use mathlib.Core.List.{flat_map};
 ghost use Rattle.lists.specs.Parts.{put};

@@ -1,5 +1,6 @@
 // Where a query of the even code names a symbol: the rows are gone over set by set, in the order of the layout, until one has it.
 #![tactic(auto)]
+
 ghost use Rattle.std.specs.Prelude.{◌≡◌, true, ◌*◌, ◌^◌, ◌≤◌, ◌<◌, length, replicate};
 ghost use mathlib.Core.List.{zip};
 ghost use Rattle.std.specs.Int.Count.{ones};

@@ -1,6 +1,7 @@
 // A server's query of the even code (source 003, section IV-B): its places, row by row in one pass over the sets, and the key's entries
 // for them.
 #![tactic(auto)]
+
 use even_ranks::Origin;
 
 mod origins;

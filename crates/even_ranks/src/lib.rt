@@ -1,6 +1,7 @@
 // The sets of an even query counted, and the places that follow from the counts without search.
 // A set of messages is one byte, bit p for message p.
 #![tactic(auto)]
+
 ghost use Rattle.std.specs.Prelude.{◌≡◌, map, ◌-◌, ◌%◌, ◌/◌, ◌^◌, ◌≤◌, ◌<◌, eqb, length};
 ghost use Rattle.std.specs.Int.Count.{ones};
 ghost use Rattle.lists.specs.Below.{Below};

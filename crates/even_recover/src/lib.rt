@@ -1,5 +1,6 @@
 // Recovery of the even code (01: 'Even code', recovery): the wanted message from the answers of all servers.
 #![tactic(auto)]
+
 ghost use Rattle.std.specs.Prelude.{◌≡◌, true, map, ◌*◌, ◌/◌, ◌%◌, ◌^◌, ◌≤◌, ◌<◌, length};
 ghost use Rattle.lists.specs.Parts.{lay};
 ghost use Rattle.lists.specs.Assembled.{lay_all};

@@ -1,6 +1,7 @@
 // The sets of an even query's rows, which every server knows from N and K: in order, and how many rows each has.
 // A set of messages is one byte, bit p for message p; its block is the number of ones in it (document 01, 'Even code').
 #![tactic(auto)]
+
 ghost use Rattle.std.specs.Prelude.{◌≡◌, map, ◌-◌, ◌^◌, ◌≤◌, ◌<◌};
 ghost use Rattle.std.specs.Int.Count.{ones};
 ghost use Rattle.lists.specs.Padded.{padded};

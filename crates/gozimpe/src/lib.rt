@@ -2,6 +2,7 @@
 // the server, request the query.
 // The catalogue comes as its text; a refusal is its number with a minus sign. Each slice is a pointer and a length in C.
 #![tactic(auto)]
+
 ghost use Rattle.std.specs.Prelude.{◌≡◌, ◌^◌, ◌<◌, pos, neg_ℤ};
 ghost use Rattle.refusal.specs.Numbers.{number_of};
 ghost use Rattle.gozimpe.specs.Host.{signed, day_of, answering_text, longest_answer};

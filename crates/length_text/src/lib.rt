@@ -1,6 +1,7 @@
 // The lines of a catalogue's lengths, `length=` (document 02, item 6): one for each message, or none. Read at a place of a text, and written at a place
 // of a buffer.
 #![tactic(auto)]
+
 ghost use Rattle.std.specs.Prelude.{◌≡◌, ◌+◌, ◌≤◌, length, drop};
 ghost use Rattle.lists.specs.Parts.{put};
 ghost use Rattle.text_lines.specs.Lines.{begins};

@@ -1,5 +1,6 @@
 // Where the messages of a catalogue end (document 02, item 6: `length=` lines): a length for each message, or none for any.
 #![tactic(auto)]
+
 ghost use Rattle.std.specs.Prelude.{◌≡◌};
 ghost use Rattle.lengths.specs.Lengths.{no_lengths, filled, is_length, place_fits, lengths_fit, length_of};
 

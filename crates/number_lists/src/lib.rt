@@ -1,5 +1,6 @@
 // Lists of numbers in decimal with one space between: read from a text that they end, and written.
 #![tactic(auto)]
+
 ghost use Rattle.std.specs.Prelude.{◌≡◌, true, false, cond, ◌+◌, ◌*◌, ◌^◌, ◌≤◌, ◌<◌, ltb, length};
 ghost use Rattle.lists.specs.Parts.{put};
 ghost use Rattle.number_lists.specs.declared.Scanned.TheVariants.{Of};

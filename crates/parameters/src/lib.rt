@@ -1,6 +1,7 @@
 // The parameters of a code, N servers, K messages, symbols of S bytes: what they may be, and the sizes that follow from them.
 // Each code has a module: `fits` tests its bounds, unless it has another code's, `sizes` gives its sizes. Here is what the codes share.
 #![tactic(auto)]
+
 ghost use Rattle.std.specs.Prelude.{◌≡◌, ◌&&◌, ◌^◌, ◌<◌};
 ghost use Rattle.parameters.specs.Bounds.{servers_fit, symbol_fits};
 

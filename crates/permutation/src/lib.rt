@@ -1,5 +1,6 @@
 // Permutations as bytes: whether a part of a key is one.
 #![tactic(auto)]
+
 ghost use Rattle.std.specs.Prelude.{◌≡◌, length};
 ghost use Rattle.lists.specs.Distinct.{is_permutation};
 

@@ -1,5 +1,6 @@
 // The request printer: from the text of an input to the text of its output.
 #![tactic(auto)]
+
 ghost use Rattle.std.specs.Prelude.{◌≡◌, true, ◌+◌, ◌*◌, ◌≤◌, ◌<◌, length};
 ghost use Rattle.lists.specs.Parts.{put};
 ghost use Rattle.lists.specs.Below.{all_below};

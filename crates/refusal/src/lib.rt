@@ -1,5 +1,6 @@
 // The numbered refusals, and what a call answers: a verdict, or a value unless it is refused.
 #![tactic(auto)]
+
 ghost use Rattle.std.specs.Prelude.{◌≡◌};
 ghost use Rattle.refusal.specs.Numbers.{number_of};
 

@@ -2,6 +2,7 @@
 // blocks of n - 1 symbols of s bytes. The rule is round_scheme/specs/Round.antt; rows are answered and recovered from in short_rows. Every function
 // goes once over what it reads and writes.
 #![tactic(auto)]
+
 ghost use Rattle.std.specs.Prelude.{◌≡◌, true, ◌-◌, ◌*◌, ◌≤◌, ◌<◌, length};
 ghost use Rattle.lists.specs.Parts.{put, lay};
 ghost use Rattle.lists.specs.Distinct.{is_permutation};

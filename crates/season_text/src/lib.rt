@@ -1,6 +1,7 @@
 // The lines of a catalogue's season, `open=` and `close=` (document 02, item 1): both or neither, each with a day. Read at a place of a text, and
 // written at a place of a buffer.
 #![tactic(auto)]
+
 ghost use Rattle.std.specs.Prelude.{◌≡◌, ◌+◌, ◌-◌, ◌^◌, ◌≤◌, ◌<◌, length, take, drop};
 ghost use Rattle.lists.specs.Parts.{put};
 ghost use Rattle.text_lines.specs.Decimal.{value_from};

@@ -1,5 +1,6 @@
 // The answering end, a server's (01: mirror): a query is checked, and answered from the store.
 #![tactic(auto)]
+
 ghost use Rattle.std.specs.Prelude.{◌≡◌};
 ghost use Rattle.codes.specs.Codes.{scheme_of};
 ghost use Rattle.server.specs.Answering.{DidAnswer, answer_verdict, answering};

@@ -1,6 +1,7 @@
 // The session: one fetch, from its key to its message, passed from call to call by value. Its calls are defined in specs/Calls.antt.
 // Each has a function for its verdict; refused, it hands back what it was given, else it writes, and marks the session.
 #![tactic(auto)]
+
 ghost use Rattle.std.specs.Prelude.{◌≡◌, ◌+◌, ◌≤◌, ◌<◌, length};
 ghost use Rattle.codes.specs.Codes.{scheme_of};
 ghost use Rattle.session_parts.specs.Meters.{counted};

@@ -1,6 +1,7 @@
 // What the calls of a session check of its fields: the catalogue, the wanted message and the key, and the marks and meters of its servers. The code's
 // calls by such a key are in keyed.rt; the faults are specs/Checks.antt.
 #![tactic(auto)]
+
 ghost use Rattle.std.specs.Prelude.{◌≡◌, [], ◌∷◌, ◌++◌, ◌≤◌, ◌<◌, length};
 ghost use Rattle.refusal.specs.Foremost.{foremost};
 ghost use Rattle.refusal.specs.Chain.{chain};

@@ -1,5 +1,6 @@
 // The parts of a session that are lists: the marks and the meters of its servers, the places of its key, and the slots of its answer buffer.
 #![tactic(auto)]
+
 ghost use Rattle.std.specs.Prelude.{◌≡◌, ◌+◌, ◌≤◌, ◌<◌, ltb, length};
 ghost use Rattle.lists.specs.Parts.{put};
 ghost use Rattle.session_parts.specs.Marks.{mark_good, marks_good, all_taken};

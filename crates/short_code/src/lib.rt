@@ -1,6 +1,7 @@
 // The short code of Tian, Sun and Chen: keys, queries, admission, answers and recovery, for n servers and k messages of n - 1
 // symbols of s bytes. The rule is short_scheme/specs/Short.antt; rows are answered and recovered from in short_rows.
 #![tactic(auto)]
+
 ghost use Rattle.std.specs.Prelude.{◌≡◌, true, ◌*◌, ◌≤◌, ◌<◌, length, get_or};
 ghost use Rattle.lists.specs.Parts.{put, lay};
 ghost use Rattle.lists.specs.Below.{all_below};

@@ -1,6 +1,7 @@
 // Symbols of bytes (01: pieces): copied, combined and taken away again. All combining of the codes goes through `combine`, `subtract`
 // and `write_difference`, which are told the operation; no code asks which it is.
 #![tactic(auto)]
+
 ghost use Rattle.std.specs.Prelude.{◌≡◌, min, length};
 ghost use Rattle.lists.specs.Parts.{lay};
 ghost use Rattle.symbol.specs.Sum.{less};

@@ -1,5 +1,6 @@
 // Lines of text: a name and a decimal number, ended by byte 10. Read at a place of a text, and written at a place of a buffer.
 #![tactic(auto)]
+
 ghost use Rattle.std.specs.Prelude.{◌≡◌, ◌+◌, ◌^◌, ◌≤◌, ◌<◌, length};
 ghost use Rattle.lists.specs.Parts.{put};
 ghost use Rattle.text_lines.specs.Decimal.{decimal, digit_count, value_from};

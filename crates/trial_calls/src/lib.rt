@@ -1,6 +1,7 @@
 // The lines of a conformance program's input that make a single call on a session or a server, or write a catalogue's text. Proved safe and to end,
 // like all of the test program.
 #![tactic(auto)]
+
 use trial_bytes::draw;
 use trial_bytes::input::Line;
 use trials::state::State;

@@ -1,6 +1,7 @@
 // What the conformance program of corrections is made of: its calls, what they are given, and what stands between two of them. Proved safe and to end,
 // like all test programs.
 #![tactic(auto)]
+
 use state::State;
 use trial_bytes::draw;
 use trial_bytes::input::Line;

@@ -1,6 +1,7 @@
 // Whole fetches: begin, then for each server issue, answer and take, then recover, all in buffers of exactly the length that they need, but for the
 // message's, which the line says.
 #![tactic(auto)]
+
 ghost use Rattle.std.specs.Prelude.{◌≤◌};
 
 use calendar::Day;

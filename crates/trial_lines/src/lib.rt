@@ -1,6 +1,7 @@
 // The lines of a conformance program's input that read a catalogue, or set what later calls are lent. Proved safe and to end, like all of the
 // test program; the other calls are `trial_calls`, whole fetches `trial_fetches`.
 #![tactic(auto)]
+
 use session::Session;
 use trial_bytes::draw;
 use trial_bytes::input::Line;

@@ -1,6 +1,7 @@
 // The lines of a conformance program's input, one after another: each makes its call, or sets what later calls are lent. Proved safe and to end,
 // like all of the test program.
 #![tactic(auto)]
+
 use trial_bytes::input;
 use trial_bytes::input::Line;
 use trials::state;

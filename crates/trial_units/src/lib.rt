@@ -1,6 +1,7 @@
 // What the conformance program of the answer unit is made of: its calls, units with a field set, and what stands between two calls. Proved safe and to
 // end, like all test programs.
 #![tactic(auto)]
+
 use state::State;
 use trial_bytes::input::Line;
 use trial_lines::catalogues;

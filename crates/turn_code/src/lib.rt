@@ -2,6 +2,7 @@
 // others are a key of the short code. The rule is specs/Turn.antt. Which digits are good, how long an answer is and what it says are the short
 // code's, and so are the functions (`key_good`, `answer_length`, `answer` of short_code); what knows the turn is here.
 #![tactic(auto)]
+
 ghost use Rattle.std.specs.Prelude.{◌≡◌, true, ◌*◌, ◌≤◌, ◌<◌, length};
 ghost use Rattle.lists.specs.Parts.{put, lay};
 ghost use Rattle.lists.specs.Below.{all_below};

@@ -1,6 +1,7 @@
 // The eight accesses that answer one query (02, item 12): two bytes of it, a start with the interrupt enabled, the flag, the refusal number, the status, the
 // byte of the answer, and the flag cleared. Each is printed, with the interrupt line after it; README.md has what they print.
 #![tactic(auto)]
+
 use answer_unit::{AnswerUnit, Handed};
 use catalogue::Catalogue;
 use refusal::Verdict;

@@ -7,9 +7,9 @@ pub returns-then-a-b : goal.returns-then-a-b
 returns-then-a-b c = let x = c.args in sym (by-year x.a x.b c.if-a-b.true)
 
 pub returns-then-a-b-2 : goal.returns-then-a-b-2
-returns-then-a-b-2 c =    let x = c.args in
+returns-then-a-b-2 c = let x = c.args in
     sym (by-month x.a x.b c.if-a-b.false c.if-a-b-2.true)
 
 pub returns : goal.returns
-returns c =    let x = c.args in
+returns c = let x = c.args in
     sym (by-day x.a x.b c.if-a-b.false c.if-a-b-2.false)

@@ -11,14 +11,14 @@ returns-then-not-is_within c = simp (sym c.is_within.ensures ∙ not-true _ c.if
 
 pub returns-then-not-is_within-2 : goal.returns-then-not-is_within-2
 unfolding real_day
-returns-then-not-is_within-2 c =    simp (
-      sym c.is_within.ensures ∙ not-false _ c.if-not-is_within.false-raw,
-      sym c.is_within-2.ensures ∙ not-true _ c.if-not-is_within-2.true-raw,
-    )
+returns-then-not-is_within-2 c = simp (
+  sym c.is_within.ensures ∙ not-false _ c.if-not-is_within.false-raw,
+  sym c.is_within-2.ensures ∙ not-true _ c.if-not-is_within-2.true-raw,
+)
 
 pub returns : goal.returns
 unfolding real_day
-returns c =    let d = c.args.d in
+returns c = let d = c.args.d in
     c.is_within-3.ensures ∙ ap (λ (n : ℕ). within 1 n d.day) c.days_in.ensures
     ∙ simp (
       sym c.is_within.ensures ∙ not-false _ c.if-not-is_within.false-raw,

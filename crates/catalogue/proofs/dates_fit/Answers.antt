@@ -10,24 +10,24 @@ returns-then-are_none c = simp (sym c.are_none.ensures ∙ c.if-are_none.true)
 
 pub returns-then-not-is_real : goal.returns-then-not-is_real
 unfolding dates_fit
-returns-then-not-is_real c =    simp (
-      sym c.are_none.ensures ∙ c.if-are_none.false,
-      sym c.is_real.ensures ∙ not-true _ c.if-not-is_real.true-raw,
-    )
+returns-then-not-is_real c = simp (
+  sym c.are_none.ensures ∙ c.if-are_none.false,
+  sym c.is_real.ensures ∙ not-true _ c.if-not-is_real.true-raw,
+)
 
 pub returns-then-not-is_real-2 : goal.returns-then-not-is_real-2
 unfolding dates_fit
-returns-then-not-is_real-2 c =    simp (
-      sym c.are_none.ensures ∙ c.if-are_none.false,
-      sym c.is_real.ensures ∙ not-false _ c.if-not-is_real.false-raw,
-      sym c.is_real-2.ensures ∙ not-true _ c.if-not-is_real-2.true-raw,
-    )
+returns-then-not-is_real-2 c = simp (
+  sym c.are_none.ensures ∙ c.if-are_none.false,
+  sym c.is_real.ensures ∙ not-false _ c.if-not-is_real.false-raw,
+  sym c.is_real-2.ensures ∙ not-true _ c.if-not-is_real-2.true-raw,
+)
 
 pub returns : goal.returns
 unfolding dates_fit
-returns c =    simp (
-      sym c.are_none.ensures ∙ c.if-are_none.false,
-      sym c.is_real.ensures ∙ not-false _ c.if-not-is_real.false-raw,
-      sym c.is_real-2.ensures ∙ not-false _ c.if-not-is_real-2.false-raw,
-      c.is_before.ensures,
-    )
+returns c = simp (
+  sym c.are_none.ensures ∙ c.if-are_none.false,
+  sym c.is_real.ensures ∙ not-false _ c.if-not-is_real.false-raw,
+  sym c.is_real-2.ensures ∙ not-false _ c.if-not-is_real-2.false-raw,
+  c.is_before.ensures,
+)

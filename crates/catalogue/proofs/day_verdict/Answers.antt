@@ -6,10 +6,10 @@ use Rattle.catalogue.proofs.Faults.{day-chain}
 use Rattle.catalogue.proofs.day_verdict.Goals as goal
 
 pub returns-then-are_none : goal.returns-then-are_none
-returns-then-are_none c =    let a = c.args in rw (day-chain a.c a.today, sym c.are_none.ensures ∙ c.if-are_none.true)
+returns-then-are_none c = let a = c.args in rw (day-chain a.c a.today, sym c.are_none.ensures ∙ c.if-are_none.true)
 
 pub returns-then-not-is_real : goal.returns-then-not-is_real
-returns-then-not-is_real c =    let a = c.args in
+returns-then-not-is_real c = let a = c.args in
     rw (
       day-chain a.c a.today,
       sym c.are_none.ensures ∙ c.if-are_none.false,
@@ -17,7 +17,7 @@ returns-then-not-is_real c =    let a = c.args in
     )
 
 pub returns-then-in_season : goal.returns-then-in_season
-returns-then-in_season c =    let a = c.args in
+returns-then-in_season c = let a = c.args in
     rw (
       day-chain a.c a.today,
       sym c.are_none.ensures ∙ c.if-are_none.false,
@@ -26,7 +26,7 @@ returns-then-in_season c =    let a = c.args in
     )
 
 pub returns : goal.returns
-returns c =    let a = c.args in
+returns c = let a = c.args in
     rw (
       day-chain a.c a.today,
       sym c.are_none.ensures ∙ c.if-are_none.false,

@@ -9,16 +9,16 @@ pub returns-then-not-numbers_fit : goal.returns-then-not-numbers_fit
 returns-then-not-numbers_fit c = rw (sym c.numbers_fit.ensures ∙ not-true _ c.if-not-numbers_fit.true-raw)
 
 pub returns-then-not-dates_fit : goal.returns-then-not-dates_fit
-returns-then-not-dates_fit c =    rw (
-      sym c.numbers_fit.ensures ∙ not-false _ c.if-not-numbers_fit.false-raw,
-      sym c.dates_fit.ensures ∙ not-true _ c.if-not-dates_fit.true-raw,
-    )
+returns-then-not-dates_fit c = rw (
+  sym c.numbers_fit.ensures ∙ not-false _ c.if-not-numbers_fit.false-raw,
+  sym c.dates_fit.ensures ∙ not-true _ c.if-not-dates_fit.true-raw,
+)
 
 pub sizes_of-sizes-requires : goal.sizes_of-sizes-requires
 sizes_of-sizes-requires c = sym c.numbers_fit.ensures ∙ not-false _ c.if-not-numbers_fit.false-raw
 
 pub returns : goal.returns
-returns c =    let at = c.args.c in
+returns c = let at = c.args.c in
     rw (
       sym c.numbers_fit.ensures ∙ not-false _ c.if-not-numbers_fit.false-raw,
       sym c.dates_fit.ensures ∙ not-false _ c.if-not-dates_fit.false-raw,

@@ -7,11 +7,11 @@ use Rattle.catalogue.proofs.sizes.Goals as goal
 
 pub returns-in-Refused : goal.returns-in-Refused
 unfolding measured_of
-returns-in-Refused c =    simp (sym c.verdict.ensures ∙ c.in-Refused.is)
+returns-in-Refused c = simp (sym c.verdict.ensures ∙ c.in-Refused.is)
 
 pub sizes_of-requires : goal.sizes_of-requires
-sizes_of-requires c =    admitted-fits c.args.c (sym c.verdict.ensures ∙ c.in_default.is)
+sizes_of-requires c = admitted-fits c.args.c (sym c.verdict.ensures ∙ c.in_default.is)
 
 pub returns : goal.returns
 unfolding measured_of
-returns c =    ap Of c.sizes_of.ensures ∙ simp (sym c.verdict.ensures ∙ c.in_default.is)
+returns c = ap Of c.sizes_of.ensures ∙ simp (sym c.verdict.ensures ∙ c.in_default.is)

@@ -10,7 +10,7 @@ returns-in_default c = c.refused.ensures ∙ simp (sym c.first_lines.ensures ∙
 
 pub returns-in_default-season_lines : goal.returns-in_default-season_lines
 unfolding catalogue_lines
-returns-in_default-season_lines c =    c.refused-in_default-season_lines.ensures
+returns-in_default-season_lines c = c.refused-in_default-season_lines.ensures
     ∙ simp (
       sym c.first_lines.ensures ∙ c.in-Of.is,
       sym c.season_lines.ensures ∙ c.in_default-season_lines.is,
@@ -18,7 +18,7 @@ returns-in_default-season_lines c =    c.refused-in_default-season_lines.ensures
 
 pub returns-in_default-sum_line : goal.returns-in_default-sum_line
 unfolding catalogue_lines
-returns-in_default-sum_line c =    c.refused-in_default-sum_line.ensures
+returns-in_default-sum_line c = c.refused-in_default-sum_line.ensures
     ∙ simp (
       sym c.first_lines.ensures ∙ c.in-Of.is,
       sym c.season_lines.ensures ∙ c.in-Of-season_lines.is,
@@ -27,7 +27,7 @@ returns-in_default-sum_line c =    c.refused-in_default-sum_line.ensures
 
 pub returns-then-not-found : goal.returns-then-not-found
 unfolding catalogue_lines
-returns-then-not-found c =    c.refused-then-not-found.ensures
+returns-then-not-found c = c.refused-then-not-found.ensures
     ∙ simp (
       sym c.first_lines.ensures ∙ c.in-Of.is,
       sym c.season_lines.ensures ∙ c.in-Of-season_lines.is,
@@ -38,11 +38,11 @@ returns-then-not-found c =    c.refused-then-not-found.ensures
 
 pub returns : goal.returns
 unfolding catalogue_lines
-returns c =    simp (
-      sym c.first_lines.ensures ∙ c.in-Of.is,
-      sym c.season_lines.ensures ∙ c.in-Of-season_lines.is,
-      sym c.sum_line.ensures ∙ c.in-Value.is,
-      sym c.length_lines-found.ensures,
-      not-false c.length_lines-found.result.formed c.if-not-found.false,
-      c.catalogue_of-c.ensures,
-    )
+returns c = simp (
+  sym c.first_lines.ensures ∙ c.in-Of.is,
+  sym c.season_lines.ensures ∙ c.in-Of-season_lines.is,
+  sym c.sum_line.ensures ∙ c.in-Value.is,
+  sym c.length_lines-found.ensures,
+  not-false c.length_lines-found.result.formed c.if-not-found.false,
+  c.catalogue_of-c.ensures,
+)

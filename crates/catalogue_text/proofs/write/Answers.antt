@@ -10,22 +10,22 @@ use Rattle.catalogue_text.proofs.write.Goals as goal
 
 pub returns-in-Refused : goal.returns-in-Refused
 unfolding write_verdict
-returns-in-Refused c =    let args = c.args in
+returns-in-Refused c = let args = c.args in
     wrote-refused args.c args.out.now _
     (after-catalogue args.c _ refl _ _ c.verdict.ensures (rw c.in-Refused.is))
 
 pub returns-then-out-text_length : goal.returns-then-out-text_length
 unfolding write_verdict
-returns-then-out-text_length c =    let admitted : Admitted c.args.c =
-        sym c.verdict.ensures ∙ c.in_default.is in
+returns-then-out-text_length c = let admitted : Admitted c.args.c =
+    sym c.verdict.ensures ∙ c.in_default.is in
     let args = c.args in
     let short = lt-ltb _ _ (rw c.text_length.ensures at c.if-out-text_length.true) in
     wrote-refused args.c args.out.now _ (after-catalogue args.c _ refl Accepted _ (sym (admitted)) (rw short))
 
 pub returns : goal.returns
 unfolding write_verdict
-returns c =    let admitted : Admitted c.args.c =
-        sym c.verdict.ensures ∙ c.in_default.is in
+returns c = let admitted : Admitted c.args.c =
+    sym c.verdict.ensures ∙ c.in_default.is in
     let args = c.args in
     let long = le-ltb _ _ (rw c.text_length.ensures at c.if-out-text_length.false) in
     let written = c.put_text.ensures in

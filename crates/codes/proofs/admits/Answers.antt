@@ -5,11 +5,11 @@ use Rattle.codes.proofs.Promises.{admitted-even, admitted-round, scheme-short, s
 use Rattle.codes.proofs.admits.Goals as goal
 
 pub admits-requires-in-Even : goal.admits-requires-in-Even
-admits-requires-in-Even c =    let a = c.args.c in
+admits-requires-in-Even c = let a = c.args.c in
     layout-fits a.servers a.messages a.symbol (admitted-even a c.requires c.in-Even.is)
 
 pub admits-requires-in-Round : goal.admits-requires-in-Round
-admits-requires-in-Round c =    let a = c.args.c in
+admits-requires-in-Round c = let a = c.args.c in
     fits-numbers a.servers a.messages a.symbol (admitted-round a c.requires c.in-Round.is)
 
 pub returns-in-Short : goal.returns-in-Short

@@ -8,7 +8,7 @@ use Rattle.codes.proofs.key_good.Goals as goal
 
 pub key_good-requires-in-Even : goal.key_good-requires-in-Even
 unfolding even_sizes
-key_good-requires-in-Even c =    rw (scheme-even c.args.c c.in-Even.is) at c.requires.key_len
+key_good-requires-in-Even c = rw (scheme-even c.args.c c.in-Even.is) at c.requires.key_len
 
 pub returns-in-Short : goal.returns-in-Short
 returns-in-Short c = rw (scheme-short c.args.c c.in-Short.is) c.key_good.ensures
@@ -21,6 +21,6 @@ returns-in-Turn c = rw (scheme-turn c.args.c c.in-Turn.is) c.key_good-in-Turn.en
 
 pub returns-in-Round : goal.returns-in-Round
 unfolding round_sizes
-returns-in-Round c =    let e = scheme-round c.args.c c.in-Round.is in
+returns-in-Round c = let e = scheme-round c.args.c c.in-Round.is in
     let long = rw e at c.requires.key_len in
     rw e (c.is_permutation.ensures ∙ ap (λ (size : ℕ). is_permutation size c.args.key.now) long)

@@ -6,9 +6,9 @@ pub returns-then-messages-edit : goal.returns-then-messages-edit
 returns-then-messages-edit c = let a = c.args in rw (le-leb a.messages a.edit.message c.if-messages-edit.true)
 
 pub returns-then-symbols-edit : goal.returns-then-symbols-edit
-returns-then-symbols-edit c =    let a = c.args in
+returns-then-symbols-edit c = let a = c.args in
     rw (lt-leb a.messages a.edit.message c.if-messages-edit.false, le-leb a.symbols a.edit.symbol c.if-symbols-edit.true)
 
 pub returns : goal.returns
-returns c =    let a = c.args in
+returns c = let a = c.args in
     rw (lt-leb a.messages a.edit.message c.if-messages-edit.false, lt-leb a.symbols a.edit.symbol c.if-symbols-edit.false)

@@ -12,21 +12,21 @@ use Rattle.correction.proofs.Local.{lent-long, moved-part}
 use Rattle.correction.proofs.move_symbol.Goals as goal
 
 pub slice_bounds-combine-end-2 : goal.slice_bounds-combine-end-2
-slice_bounds-combine-end-2 c =    let a = c.args in
-    let pair = c.shift_of-shift in 
+slice_bounds-combine-end-2 c = let a = c.args in
+    let pair = c.shift_of-shift in
     let two : length c.shift_of-shift.result ≡ 2 = ap length c.shift_of-shift.ensures ∙ shift-long a.op 2 (a.byte % 2) a.new a.old in
     sym (length-take-le c.smaller-size.result c.shift_of-shift.result (omega (arith, c.smaller-size.ensures, two)))
 
 pub combine-requires : goal.combine-requires
-combine-requires c =    let a = c.args in
+combine-requires c = let a = c.args in
     let size = c.smaller-size.result in
     let fit = c.smaller-size.ensures in
-    let pair = c.shift_of-shift in 
+    let pair = c.shift_of-shift in
     let two : length c.shift_of-shift.result ≡ 2 = ap length c.shift_of-shift.ensures ∙ shift-long a.op 2 (a.byte % 2) a.new a.old in
     length-take-le size c.shift_of-shift.result (omega (arith, fit, two)) ∙ sym (lent-long _ size a.part.now (omega (arith, fit, c.requires)))
 
 pub returns : goal.returns
-returns c =    let a = c.args in
+returns c = let a = c.args in
     let size = c.smaller-size.result in
     let from = a.byte / 2 * 2 in
     let bytes : Below 256 a.part.now = λ i l. (c.slice_known-1.given i).fits in

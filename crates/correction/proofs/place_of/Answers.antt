@@ -45,44 +45,44 @@ way c e a i sizes same =
     })
 
 pub returns-in_default : goal.returns-in_default
-returns-in_default c =    let from = c.sizes in 
+returns-in_default c = let from = c.sizes in
     not-refused c.in_default.field-0
     (sym (unmeasured c.args.c c.sizes.result _ c.sizes.ensures c.in_default.is) ∙ c.requires.admitted)
 
 pub overflow_mul-result : goal.overflow_mul-result
-overflow_mul-result c =    let sized : c.in-Of.sizes ≡ (scheme_of c.args.c).sizes =
-        (measured c.args.c c.sizes.result c.in-Of.sizes c.sizes.ensures c.in-Of.is).1 in
+overflow_mul-result c = let sized : c.in-Of.sizes ≡ (scheme_of c.args.c).sizes =
+    (measured c.args.c c.sizes.result c.in-Of.sizes c.sizes.ensures c.in-Of.is).1 in
     let on-way : let a = c.args in
     Way c.in-Of.sizes.symbols a.c.symbol a.edit.message a.edit.symbol a.edit.byte =
-        way c.args.c c.args.edit c.requires.admitted c.requires.edit_in c.in-Of.sizes (sized) in
+    way c.args.c c.args.edit c.requires.admitted c.requires.edit_in c.in-Of.sizes (sized) in
     omega (arith, (on-way).first)
 
 pub overflow_add-result : goal.overflow_add-result
-overflow_add-result c =    let sized : c.in-Of.sizes ≡ (scheme_of c.args.c).sizes =
-        (measured c.args.c c.sizes.result c.in-Of.sizes c.sizes.ensures c.in-Of.is).1 in
+overflow_add-result c = let sized : c.in-Of.sizes ≡ (scheme_of c.args.c).sizes =
+    (measured c.args.c c.sizes.result c.in-Of.sizes c.sizes.ensures c.in-Of.is).1 in
     let on-way : let a = c.args in
     Way c.in-Of.sizes.symbols a.c.symbol a.edit.message a.edit.symbol a.edit.byte =
-        way c.args.c c.args.edit c.requires.admitted c.requires.edit_in c.in-Of.sizes (sized) in
+    way c.args.c c.args.edit c.requires.admitted c.requires.edit_in c.in-Of.sizes (sized) in
     omega (arith, (on-way).number)
 
 pub overflow_mul-result-2 : goal.overflow_mul-result-2
-overflow_mul-result-2 c =    let sized : c.in-Of.sizes ≡ (scheme_of c.args.c).sizes =
-        (measured c.args.c c.sizes.result c.in-Of.sizes c.sizes.ensures c.in-Of.is).1 in
+overflow_mul-result-2 c = let sized : c.in-Of.sizes ≡ (scheme_of c.args.c).sizes =
+    (measured c.args.c c.sizes.result c.in-Of.sizes c.sizes.ensures c.in-Of.is).1 in
     let on-way : let a = c.args in
     Way c.in-Of.sizes.symbols a.c.symbol a.edit.message a.edit.symbol a.edit.byte =
-        way c.args.c c.args.edit c.requires.admitted c.requires.edit_in c.in-Of.sizes (sized) in
+    way c.args.c c.args.edit c.requires.admitted c.requires.edit_in c.in-Of.sizes (sized) in
     omega (arith, (on-way).begins)
 
 pub overflow_add-result-2 : goal.overflow_add-result-2
-overflow_add-result-2 c =    let sized : c.in-Of.sizes ≡ (scheme_of c.args.c).sizes =
-        (measured c.args.c c.sizes.result c.in-Of.sizes c.sizes.ensures c.in-Of.is).1 in
+overflow_add-result-2 c = let sized : c.in-Of.sizes ≡ (scheme_of c.args.c).sizes =
+    (measured c.args.c c.sizes.result c.in-Of.sizes c.sizes.ensures c.in-Of.is).1 in
     let on-way : let a = c.args in
     Way c.in-Of.sizes.symbols a.c.symbol a.edit.message a.edit.symbol a.edit.byte =
-        way c.args.c c.args.edit c.requires.admitted c.requires.edit_in c.in-Of.sizes (sized) in
+    way c.args.c c.args.edit c.requires.admitted c.requires.edit_in c.in-Of.sizes (sized) in
     omega (arith, (on-way).place)
 
 pub returns : goal.returns
-returns c =    let sized : c.in-Of.sizes ≡ (scheme_of c.args.c).sizes =
-        (measured c.args.c c.sizes.result c.in-Of.sizes c.sizes.ensures c.in-Of.is).1 in
+returns c = let sized : c.in-Of.sizes ≡ (scheme_of c.args.c).sizes =
+    (measured c.args.c c.sizes.result c.in-Of.sizes c.sizes.ensures c.in-Of.is).1 in
     let a = c.args in
     ap (λ (s : Sizes). (a.edit.message * s.symbols + a.edit.symbol) * a.c.symbol + a.edit.byte) (sized)

@@ -13,75 +13,75 @@ use Rattle.correction.proofs.verdict.Goals as goal
 
 pub returns-in_default : goal.returns-in_default
 unfolding correct_verdict
-returns-in_default c =    let value = c.args.c in
+returns-in_default c = let value = c.args.c in
     let refused = unmeasured value c.sizes.result c.in_default.field-0 c.sizes.ensures c.in_default.is in
     after-catalogue value _ refl c.verdict.result _ c.verdict.ensures (rw (c.verdict.ensures, refused))
 
 pub returns-then-c-server : goal.returns-then-c-server
-returns-then-c-server c =    let sized : let value = c.args.c in (Admitted value) × (c.in-Of.sizes ≡ (scheme_of value).sizes) =
-        measured c.args.c c.sizes.result c.in-Of.sizes c.sizes.ensures c.in-Of.is in
+returns-then-c-server c = let sized : let value = c.args.c in (Admitted value) × (c.in-Of.sizes ≡ (scheme_of value).sizes) =
+    measured c.args.c c.sizes.result c.in-Of.sizes c.sizes.ensures c.in-Of.is in
     let a = c.args in
     server-refused a.c a.server a.stored a.query.now a.edit a.saved (sized).0 c.if-c-server.true
 
 pub admits-requires : goal.admits-requires
-admits-requires c =    let sized : let value = c.args.c in (Admitted value) × (c.in-Of.sizes ≡ (scheme_of value).sizes) =
-        measured c.args.c c.sizes.result c.in-Of.sizes c.sizes.ensures c.in-Of.is in
+admits-requires c = let sized : let value = c.args.c in (Admitted value) × (c.in-Of.sizes ≡ (scheme_of value).sizes) =
+    measured c.args.c c.sizes.result c.in-Of.sizes c.sizes.ensures c.in-Of.is in
     (sized).0
 
 pub returns-then-not-admits : goal.returns-then-not-admits
-returns-then-not-admits c =    let sized : let value = c.args.c in (Admitted value) × (c.in-Of.sizes ≡ (scheme_of value).sizes) =
-        measured c.args.c c.sizes.result c.in-Of.sizes c.sizes.ensures c.in-Of.is in
+returns-then-not-admits c = let sized : let value = c.args.c in (Admitted value) × (c.in-Of.sizes ≡ (scheme_of value).sizes) =
+    measured c.args.c c.sizes.result c.in-Of.sizes c.sizes.ensures c.in-Of.is in
     let a = c.args in
-    let asked = c.admits in 
+    let asked = c.admits in
     query-refused a.c a.server a.stored a.query.now a.edit a.saved (sized).0 c.if-c-server.false
     (sym c.admits.ensures ∙ not-true c.admits.result c.if-not-admits.true-raw)
 
 pub returns-then-stored-sizes : goal.returns-then-stored-sizes
-returns-then-stored-sizes c =    let sized : let value = c.args.c in (Admitted value) × (c.in-Of.sizes ≡ (scheme_of value).sizes) =
-        measured c.args.c c.sizes.result c.in-Of.sizes c.sizes.ensures c.in-Of.is in
+returns-then-stored-sizes c = let sized : let value = c.args.c in (Admitted value) × (c.in-Of.sizes ≡ (scheme_of value).sizes) =
+    measured c.args.c c.sizes.result c.in-Of.sizes c.sizes.ensures c.in-Of.is in
     let store-size : c.in-Of.sizes.store ≡ (scheme_of c.args.c).sizes.store =
-        ap (λ (s : Sizes). s.store) (sized).1 in
+    ap (λ (s : Sizes). s.store) (sized).1 in
     let good : let a = c.args in
     (scheme_of a.c).admits a.server a.query.now ≡ true =
-        sym c.admits.ensures ∙ not-false c.admits.result c.if-not-admits.false-raw in
+    sym c.admits.ensures ∙ not-false c.admits.result c.if-not-admits.false-raw in
     let a = c.args in
     store-refused a.c a.server a.stored a.query.now a.edit a.saved (sized).0 c.if-c-server.false
     (good) (λ e. c.if-stored-sizes.true (e ∙ sym (store-size)))
 
 pub returns-then-is_outside : goal.returns-then-is_outside
-returns-then-is_outside c =    let sized : let value = c.args.c in (Admitted value) × (c.in-Of.sizes ≡ (scheme_of value).sizes) =
-        measured c.args.c c.sizes.result c.in-Of.sizes c.sizes.ensures c.in-Of.is in
+returns-then-is_outside c = let sized : let value = c.args.c in (Admitted value) × (c.in-Of.sizes ≡ (scheme_of value).sizes) =
+    measured c.args.c c.sizes.result c.in-Of.sizes c.sizes.ensures c.in-Of.is in
     let store-size : c.in-Of.sizes.store ≡ (scheme_of c.args.c).sizes.store =
-        ap (λ (s : Sizes). s.store) (sized).1 in
+    ap (λ (s : Sizes). s.store) (sized).1 in
     let good : let a = c.args in
     (scheme_of a.c).admits a.server a.query.now ≡ true =
-        sym c.admits.ensures ∙ not-false c.admits.result c.if-not-admits.false-raw in
+    sym c.admits.ensures ∙ not-false c.admits.result c.if-not-admits.false-raw in
     let told-outside : let a = c.args in
     c.is_outside.result ≡ outside a.c a.edit =
-        let a = c.args in
-        c.is_outside.ensures ∙ ap (λ (s : Sizes). outside_of a.c.messages s.symbols a.c.symbol a.edit) (sized).1 in
+    let a = c.args in
+    c.is_outside.ensures ∙ ap (λ (s : Sizes). outside_of a.c.messages s.symbols a.c.symbol a.edit) (sized).1 in
     let a = c.args in
     edit-refused a.c a.server a.stored a.query.now a.edit a.saved (sized).0
     c.if-c-server.false
     (good) (c.if-stored-sizes.false ∙ store-size) (sym (told-outside) ∙ c.if-is_outside.true)
 
 pub answer_length-requires : goal.answer_length-requires
-answer_length-requires c =    let sized : let value = c.args.c in (Admitted value) × (c.in-Of.sizes ≡ (scheme_of value).sizes) =
-        measured c.args.c c.sizes.result c.in-Of.sizes c.sizes.ensures c.in-Of.is in
+answer_length-requires c = let sized : let value = c.args.c in (Admitted value) × (c.in-Of.sizes ≡ (scheme_of value).sizes) =
+    measured c.args.c c.sizes.result c.in-Of.sizes c.sizes.ensures c.in-Of.is in
     (sized).0
 
 pub returns-then-saved-answer_length : goal.returns-then-saved-answer_length
-returns-then-saved-answer_length c =    let sized : let value = c.args.c in (Admitted value) × (c.in-Of.sizes ≡ (scheme_of value).sizes) =
-        measured c.args.c c.sizes.result c.in-Of.sizes c.sizes.ensures c.in-Of.is in
+returns-then-saved-answer_length c = let sized : let value = c.args.c in (Admitted value) × (c.in-Of.sizes ≡ (scheme_of value).sizes) =
+    measured c.args.c c.sizes.result c.in-Of.sizes c.sizes.ensures c.in-Of.is in
     let store-size : c.in-Of.sizes.store ≡ (scheme_of c.args.c).sizes.store =
-        ap (λ (s : Sizes). s.store) (sized).1 in
+    ap (λ (s : Sizes). s.store) (sized).1 in
     let good : let a = c.args in
     (scheme_of a.c).admits a.server a.query.now ≡ true =
-        sym c.admits.ensures ∙ not-false c.admits.result c.if-not-admits.false-raw in
+    sym c.admits.ensures ∙ not-false c.admits.result c.if-not-admits.false-raw in
     let told-outside : let a = c.args in
     c.is_outside.result ≡ outside a.c a.edit =
-        let a = c.args in
-        c.is_outside.ensures ∙ ap (λ (s : Sizes). outside_of a.c.messages s.symbols a.c.symbol a.edit) (sized).1 in
+    let a = c.args in
+    c.is_outside.ensures ∙ ap (λ (s : Sizes). outside_of a.c.messages s.symbols a.c.symbol a.edit) (sized).1 in
     let a = c.args in
     length-refused a.c a.server a.stored a.query.now a.edit a.saved (sized).0
     c.if-c-server.false
@@ -89,17 +89,17 @@ returns-then-saved-answer_length c =    let sized : let value = c.args.c in (Adm
     (λ e. c.if-saved-answer_length.true (e ∙ sym c.answer_length.ensures))
 
 pub returns : goal.returns
-returns c =    let sized : let value = c.args.c in (Admitted value) × (c.in-Of.sizes ≡ (scheme_of value).sizes) =
-        measured c.args.c c.sizes.result c.in-Of.sizes c.sizes.ensures c.in-Of.is in
+returns c = let sized : let value = c.args.c in (Admitted value) × (c.in-Of.sizes ≡ (scheme_of value).sizes) =
+    measured c.args.c c.sizes.result c.in-Of.sizes c.sizes.ensures c.in-Of.is in
     let store-size : c.in-Of.sizes.store ≡ (scheme_of c.args.c).sizes.store =
-        ap (λ (s : Sizes). s.store) (sized).1 in
+    ap (λ (s : Sizes). s.store) (sized).1 in
     let good : let a = c.args in
     (scheme_of a.c).admits a.server a.query.now ≡ true =
-        sym c.admits.ensures ∙ not-false c.admits.result c.if-not-admits.false-raw in
+    sym c.admits.ensures ∙ not-false c.admits.result c.if-not-admits.false-raw in
     let told-outside : let a = c.args in
     c.is_outside.result ≡ outside a.c a.edit =
-        let a = c.args in
-        c.is_outside.ensures ∙ ap (λ (s : Sizes). outside_of a.c.messages s.symbols a.c.symbol a.edit) (sized).1 in
+    let a = c.args in
+    c.is_outside.ensures ∙ ap (λ (s : Sizes). outside_of a.c.messages s.symbols a.c.symbol a.edit) (sized).1 in
     let a = c.args in
     sym (correct-accepted a.c a.server a.stored a.query.now a.edit a.saved (record {
       admitted = (sized).0;

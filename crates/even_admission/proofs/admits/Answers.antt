@@ -19,43 +19,43 @@ pub overflow_sub-k : goal.overflow_sub-k
 overflow_sub-k c = omega (arith, c.requires.messages-low)
 
 pub power-requires : goal.power-requires
-power-requires c =    let n = c.args.n in
+power-requires c = let n = c.args.n in
     omega (arith, power-less n c.args.k c.requires)
 
 pub overflow_mul-k : goal.overflow_mul-k
-overflow_mul-k c =    let n = c.args.n in
+overflow_mul-k c = let n = c.args.n in
     let k = c.args.k in
     let few : c.power.result ≤ 256 = omega (arith, c.power.ensures, power-less n k c.requires) in
     omega (arith, mul-le-mul c.requires.messages-high few)
 
 pub returns-then-query-k : goal.returns-then-query-k
 unfolding even_admits
-returns-then-query-k c =    let k = c.args.k in
+returns-then-query-k c = let k = c.args.k in
     rw (ne_eqb (length c.args.query.now) (k * c.args.n ^ (k - 1))
     (λ e. c.if-query-k.true (e ∙ ap (λ (m : ℕ). k * m) (sym c.power.ensures))))
 
 pub slice_bounds-messages-end : goal.slice_bounds-messages-end
-slice_bounds-messages-end c =    let n = c.args.n in
+slice_bounds-messages-end c = let n = c.args.n in
     let k = c.args.k in
     let query = c.args.query.now in
     let long : length query ≡ k * n ^ (k - 1) = c.if-query-k.false ∙ ap (λ (m : ℕ). k * m) c.power.ensures in
     positions-fit n k c.positions-messages.result query c.requires c.positions-messages.ensures long
 
 pub slice_bounds-all_fresh-end : goal.slice_bounds-all_fresh-end
-slice_bounds-all_fresh-end c =    let n = c.args.n in
+slice_bounds-all_fresh-end c = let n = c.args.n in
     let k = c.args.k in
     let query = c.args.query.now in
     let long : length query ≡ k * n ^ (k - 1) = c.if-query-k.false ∙ ap (λ (m : ℕ). k * m) c.power.ensures in
-    let table = c.positions-messages in 
+    let table = c.positions-messages in
     sym (ap length (positions-front n k c.positions-messages.result query c.requires c.positions-messages.ensures long)
     ∙ positions-length n k c.requires.servers-low c.requires.messages-low ∙ sym long)
 
 pub all_fresh-requires : goal.all_fresh-requires
-all_fresh-requires c =    let n = c.args.n in
+all_fresh-requires c = let n = c.args.n in
     let k = c.args.k in
     let query = c.args.query.now in
     let long : length query ≡ k * n ^ (k - 1) = c.if-query-k.false ∙ ap (λ (m : ℕ). k * m) c.power.ensures in
-    let table = c.positions-messages in 
+    let table = c.positions-messages in
     let front = positions-front n k c.positions-messages.result query c.requires c.positions-messages.ensures long in (
       omega (arith, c.power-2.ensures, c.requires.symbols-high),
       ap length front ∙ positions-length n k c.requires.servers-low c.requires.messages-low ∙ sym long,
@@ -63,11 +63,11 @@ all_fresh-requires c =    let n = c.args.n in
     )
 
 pub returns : goal.returns
-returns c =    let n = c.args.n in
+returns c = let n = c.args.n in
     let k = c.args.k in
     let query = c.args.query.now in
     let long : length query ≡ k * n ^ (k - 1) = c.if-query-k.false ∙ ap (λ (m : ℕ). k * m) c.power.ensures in
-    let table = c.positions-messages in 
+    let table = c.positions-messages in
     c.all_fresh.ensures
     ∙ ap₂ (λ (m : ℕ) (l : List ℕ). all_below m query && distinct (zip_with (cell_of m) l query)) c.power-2.ensures
     (positions-front n k c.positions-messages.result query c.requires c.positions-messages.ensures long)

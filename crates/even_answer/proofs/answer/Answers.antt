@@ -28,13 +28,13 @@ use Rattle.even_answer.proofs.Turns.{SetTurn, set-turn}
 use Rattle.even_answer.proofs.answer.Goals as goal
 
 pub power-symbols-requires : goal.power-symbols-requires
-power-symbols-requires c =    omega (arith, (even-bounds c.args.n c.args.k c.args.s c.requires.fits).symbols-high)
+power-symbols-requires c = omega (arith, (even-bounds c.args.n c.args.k c.args.s c.requires.fits).symbols-high)
 
 pub ordered_sets-sets-requires : goal.ordered_sets-sets-requires
-ordered_sets-sets-requires c =    (even-bounds c.args.n c.args.k c.args.s c.requires.fits).messages-high
+ordered_sets-sets-requires c = (even-bounds c.args.n c.args.k c.args.s c.requires.fits).messages-high
 
 pub power-count-requires : goal.power-count-requires
-power-count-requires c =    let k = c.args.k in
+power-count-requires c = let k = c.args.k in
     omega (arith, subsets-few k (even-bounds c.args.n k c.args.s c.requires.fits).messages-high)
 
 pub overflow_sub-count : goal.overflow_sub-count
@@ -42,7 +42,7 @@ overflow_sub-count c = omega (arith, c.power-count.ensures, all-length c.args.k)
 
 pub loop-i-init : goal.loop-i-init
 unfolding even_answer even_sizes
-loop-i-init c =    let n = c.args.n in
+loop-i-init c = let n = c.args.n in
     let k = c.args.k in
     let s = c.args.s in
     let store = c.args.store.now in
@@ -59,11 +59,11 @@ loop-i-init c =    let n = c.args.n in
     )
 
 pub bounds-sets-i : goal.bounds-sets-i
-bounds-sets-i c =    let bounds = layout-fits c.args.n c.args.k c.args.s c.requires.fits in
+bounds-sets-i c = let bounds = layout-fits c.args.n c.args.k c.args.s c.requires.fits in
     omega (arith, c.power-count.ensures, subsets-few c.args.k bounds.messages-high)
 
 pub rows_of-rows-requires : goal.rows_of-rows-requires
-rows_of-rows-requires c =    let n = c.args.n in
+rows_of-rows-requires c = let n = c.args.n in
     let k = c.args.k in
     let bounds = layout-fits n k c.args.s c.requires.fits in
     let inside : c.loop-i.i < length (all_sets k) = omega (arith, c.power-count.ensures, all-length k) in
@@ -72,66 +72,66 @@ rows_of-rows-requires c =    let n = c.args.n in
     (omega (arith, bounds.servers-low), b.some, omega (arith, b.rows, b.high))
 
 pub slice_bounds-answer_set-count : goal.slice_bounds-answer_set-count
-slice_bounds-answer_set-count c =    let turn-of : let args = c.args in
+slice_bounds-answer_set-count c = let turn-of : let args = c.args in
     SetTurn (sum_of args.op) args.n args.k args.s args.store.now args.query.now args.out.now
     c.loop-i.i c.loop-i.at c.loop-i.end (get_or c.ordered_sets-sets.result c.loop-i.i 0) c.rows_of-rows.result c.loop-i.out =
-        let inside : c.loop-i.i < length (all_sets c.args.k) = omega (arith, c.power-count.ensures, all-length c.args.k) in
-        set-turn c.loop-i.i c.loop-i.at (group_of c.args.op c.args.s).plus-length c.requires
-        c.ordered_sets-sets.ensures inside c.rows_of-rows.ensures c.loop-i.invariant.1 c.loop-i.invariant.2 in
+    let inside : c.loop-i.i < length (all_sets c.args.k) = omega (arith, c.power-count.ensures, all-length c.args.k) in
+    set-turn c.loop-i.i c.loop-i.at (group_of c.args.op c.args.s).plus-length c.requires
+    c.ordered_sets-sets.ensures inside c.rows_of-rows.ensures c.loop-i.invariant.1 c.loop-i.invariant.2 in
     let turn = turn-of in omega (arith, turn.read, turn.written)
 
 pub slice_bounds-answer_set-start : goal.slice_bounds-answer_set-start
-slice_bounds-answer_set-start c =    let turn-of : let args = c.args in
+slice_bounds-answer_set-start c = let turn-of : let args = c.args in
     SetTurn (sum_of args.op) args.n args.k args.s args.store.now args.query.now args.out.now
     c.loop-i.i c.loop-i.at c.loop-i.end (get_or c.ordered_sets-sets.result c.loop-i.i 0) c.rows_of-rows.result c.loop-i.out =
-        let inside : c.loop-i.i < length (all_sets c.args.k) = omega (arith, c.power-count.ensures, all-length c.args.k) in
-        set-turn c.loop-i.i c.loop-i.at (group_of c.args.op c.args.s).plus-length c.requires
-        c.ordered_sets-sets.ensures inside c.rows_of-rows.ensures c.loop-i.invariant.1 c.loop-i.invariant.2 in
+    let inside : c.loop-i.i < length (all_sets c.args.k) = omega (arith, c.power-count.ensures, all-length c.args.k) in
+    set-turn c.loop-i.i c.loop-i.at (group_of c.args.op c.args.s).plus-length c.requires
+    c.ordered_sets-sets.ensures inside c.rows_of-rows.ensures c.loop-i.invariant.1 c.loop-i.invariant.2 in
     let turn = turn-of in omega (arith, turn.read, turn.written)
 
 pub slice_bounds-answer_set-end : goal.slice_bounds-answer_set-end
-slice_bounds-answer_set-end c =    let turn-of : let args = c.args in
+slice_bounds-answer_set-end c = let turn-of : let args = c.args in
     SetTurn (sum_of args.op) args.n args.k args.s args.store.now args.query.now args.out.now
     c.loop-i.i c.loop-i.at c.loop-i.end (get_or c.ordered_sets-sets.result c.loop-i.i 0) c.rows_of-rows.result c.loop-i.out =
-        let inside : c.loop-i.i < length (all_sets c.args.k) = omega (arith, c.power-count.ensures, all-length c.args.k) in
-        set-turn c.loop-i.i c.loop-i.at (group_of c.args.op c.args.s).plus-length c.requires
-        c.ordered_sets-sets.ensures inside c.rows_of-rows.ensures c.loop-i.invariant.1 c.loop-i.invariant.2 in
+    let inside : c.loop-i.i < length (all_sets c.args.k) = omega (arith, c.power-count.ensures, all-length c.args.k) in
+    set-turn c.loop-i.i c.loop-i.at (group_of c.args.op c.args.s).plus-length c.requires
+    c.ordered_sets-sets.ensures inside c.rows_of-rows.ensures c.loop-i.invariant.1 c.loop-i.invariant.2 in
     let turn = turn-of in omega (arith, turn.read, turn.written)
 
 pub slice_bounds-answer_set-count-in-loop-i : goal.slice_bounds-answer_set-count-in-loop-i
-slice_bounds-answer_set-count-in-loop-i c =    let turn-of : let args = c.args in
+slice_bounds-answer_set-count-in-loop-i c = let turn-of : let args = c.args in
     SetTurn (sum_of args.op) args.n args.k args.s args.store.now args.query.now args.out.now
     c.loop-i.i c.loop-i.at c.loop-i.end (get_or c.ordered_sets-sets.result c.loop-i.i 0) c.rows_of-rows.result c.loop-i.out =
-        let inside : c.loop-i.i < length (all_sets c.args.k) = omega (arith, c.power-count.ensures, all-length c.args.k) in
-        set-turn c.loop-i.i c.loop-i.at (group_of c.args.op c.args.s).plus-length c.requires
-        c.ordered_sets-sets.ensures inside c.rows_of-rows.ensures c.loop-i.invariant.1 c.loop-i.invariant.2 in
+    let inside : c.loop-i.i < length (all_sets c.args.k) = omega (arith, c.power-count.ensures, all-length c.args.k) in
+    set-turn c.loop-i.i c.loop-i.at (group_of c.args.op c.args.s).plus-length c.requires
+    c.ordered_sets-sets.ensures inside c.rows_of-rows.ensures c.loop-i.invariant.1 c.loop-i.invariant.2 in
     let turn = turn-of in omega (arith, turn.read, turn.written)
 
 pub slice_bounds-answer_set-start-in-loop-i : goal.slice_bounds-answer_set-start-in-loop-i
-slice_bounds-answer_set-start-in-loop-i c =    let turn-of : let args = c.args in
+slice_bounds-answer_set-start-in-loop-i c = let turn-of : let args = c.args in
     SetTurn (sum_of args.op) args.n args.k args.s args.store.now args.query.now args.out.now
     c.loop-i.i c.loop-i.at c.loop-i.end (get_or c.ordered_sets-sets.result c.loop-i.i 0) c.rows_of-rows.result c.loop-i.out =
-        let inside : c.loop-i.i < length (all_sets c.args.k) = omega (arith, c.power-count.ensures, all-length c.args.k) in
-        set-turn c.loop-i.i c.loop-i.at (group_of c.args.op c.args.s).plus-length c.requires
-        c.ordered_sets-sets.ensures inside c.rows_of-rows.ensures c.loop-i.invariant.1 c.loop-i.invariant.2 in
+    let inside : c.loop-i.i < length (all_sets c.args.k) = omega (arith, c.power-count.ensures, all-length c.args.k) in
+    set-turn c.loop-i.i c.loop-i.at (group_of c.args.op c.args.s).plus-length c.requires
+    c.ordered_sets-sets.ensures inside c.rows_of-rows.ensures c.loop-i.invariant.1 c.loop-i.invariant.2 in
     let turn = turn-of in omega (arith, turn.read, turn.written)
 
 pub slice_bounds-answer_set-end-in-loop-i : goal.slice_bounds-answer_set-end-in-loop-i
-slice_bounds-answer_set-end-in-loop-i c =    let turn-of : let args = c.args in
+slice_bounds-answer_set-end-in-loop-i c = let turn-of : let args = c.args in
     SetTurn (sum_of args.op) args.n args.k args.s args.store.now args.query.now args.out.now
     c.loop-i.i c.loop-i.at c.loop-i.end (get_or c.ordered_sets-sets.result c.loop-i.i 0) c.rows_of-rows.result c.loop-i.out =
-        let inside : c.loop-i.i < length (all_sets c.args.k) = omega (arith, c.power-count.ensures, all-length c.args.k) in
-        set-turn c.loop-i.i c.loop-i.at (group_of c.args.op c.args.s).plus-length c.requires
-        c.ordered_sets-sets.ensures inside c.rows_of-rows.ensures c.loop-i.invariant.1 c.loop-i.invariant.2 in
+    let inside : c.loop-i.i < length (all_sets c.args.k) = omega (arith, c.power-count.ensures, all-length c.args.k) in
+    set-turn c.loop-i.i c.loop-i.at (group_of c.args.op c.args.s).plus-length c.requires
+    c.ordered_sets-sets.ensures inside c.rows_of-rows.ensures c.loop-i.invariant.1 c.loop-i.invariant.2 in
     let turn = turn-of in omega (arith, turn.read, turn.written)
 
 pub answer_set-requires : goal.answer_set-requires
-answer_set-requires c =    let turn-of : let args = c.args in
+answer_set-requires c = let turn-of : let args = c.args in
     SetTurn (sum_of args.op) args.n args.k args.s args.store.now args.query.now args.out.now
     c.loop-i.i c.loop-i.at c.loop-i.end (get_or c.ordered_sets-sets.result c.loop-i.i 0) c.rows_of-rows.result c.loop-i.out =
-        let inside : c.loop-i.i < length (all_sets c.args.k) = omega (arith, c.power-count.ensures, all-length c.args.k) in
-        set-turn c.loop-i.i c.loop-i.at (group_of c.args.op c.args.s).plus-length c.requires
-        c.ordered_sets-sets.ensures inside c.rows_of-rows.ensures c.loop-i.invariant.1 c.loop-i.invariant.2 in
+    let inside : c.loop-i.i < length (all_sets c.args.k) = omega (arith, c.power-count.ensures, all-length c.args.k) in
+    set-turn c.loop-i.i c.loop-i.at (group_of c.args.op c.args.s).plus-length c.requires
+    c.ordered_sets-sets.ensures inside c.rows_of-rows.ensures c.loop-i.invariant.1 c.loop-i.invariant.2 in
     let turn = turn-of in (
       rw (to_end c.args.query.now c.loop-i.at) turn.given,
       rw (to_end c.loop-i.out c.loop-i.end) (omega (arith, length-drop c.loop-i.end c.loop-i.out, turn.written)),
@@ -139,49 +139,49 @@ answer_set-requires c =    let turn-of : let args = c.args in
     )
 
 pub overflow_cast-at : goal.overflow_cast-at
-overflow_cast-at c =    let turn-of : let args = c.args in
+overflow_cast-at c = let turn-of : let args = c.args in
     SetTurn (sum_of args.op) args.n args.k args.s args.store.now args.query.now args.out.now
     c.loop-i.i c.loop-i.at c.loop-i.end (get_or c.ordered_sets-sets.result c.loop-i.i 0) c.rows_of-rows.result c.loop-i.out =
-        let inside : c.loop-i.i < length (all_sets c.args.k) = omega (arith, c.power-count.ensures, all-length c.args.k) in
-        set-turn c.loop-i.i c.loop-i.at (group_of c.args.op c.args.s).plus-length c.requires
-        c.ordered_sets-sets.ensures inside c.rows_of-rows.ensures c.loop-i.invariant.1 c.loop-i.invariant.2 in
+    let inside : c.loop-i.i < length (all_sets c.args.k) = omega (arith, c.power-count.ensures, all-length c.args.k) in
+    set-turn c.loop-i.i c.loop-i.at (group_of c.args.op c.args.s).plus-length c.requires
+    c.ordered_sets-sets.ensures inside c.rows_of-rows.ensures c.loop-i.invariant.1 c.loop-i.invariant.2 in
     let turn = turn-of in
     omega (arith, ones-le 8 (get_or c.ordered_sets-sets.result c.loop-i.i 0) turn.small)
 
 pub overflow_mul-at : goal.overflow_mul-at
-overflow_mul-at c =    let turn-of : let args = c.args in
+overflow_mul-at c = let turn-of : let args = c.args in
     SetTurn (sum_of args.op) args.n args.k args.s args.store.now args.query.now args.out.now
     c.loop-i.i c.loop-i.at c.loop-i.end (get_or c.ordered_sets-sets.result c.loop-i.i 0) c.rows_of-rows.result c.loop-i.out =
-        let inside : c.loop-i.i < length (all_sets c.args.k) = omega (arith, c.power-count.ensures, all-length c.args.k) in
-        set-turn c.loop-i.i c.loop-i.at (group_of c.args.op c.args.s).plus-length c.requires
-        c.ordered_sets-sets.ensures inside c.rows_of-rows.ensures c.loop-i.invariant.1 c.loop-i.invariant.2 in
+    let inside : c.loop-i.i < length (all_sets c.args.k) = omega (arith, c.power-count.ensures, all-length c.args.k) in
+    set-turn c.loop-i.i c.loop-i.at (group_of c.args.op c.args.s).plus-length c.requires
+    c.ordered_sets-sets.ensures inside c.rows_of-rows.ensures c.loop-i.invariant.1 c.loop-i.invariant.2 in
     let turn = turn-of in omega (arith, turn.read, turn.written)
 
 pub overflow_add-at : goal.overflow_add-at
-overflow_add-at c =    let turn-of : let args = c.args in
+overflow_add-at c = let turn-of : let args = c.args in
     SetTurn (sum_of args.op) args.n args.k args.s args.store.now args.query.now args.out.now
     c.loop-i.i c.loop-i.at c.loop-i.end (get_or c.ordered_sets-sets.result c.loop-i.i 0) c.rows_of-rows.result c.loop-i.out =
-        let inside : c.loop-i.i < length (all_sets c.args.k) = omega (arith, c.power-count.ensures, all-length c.args.k) in
-        set-turn c.loop-i.i c.loop-i.at (group_of c.args.op c.args.s).plus-length c.requires
-        c.ordered_sets-sets.ensures inside c.rows_of-rows.ensures c.loop-i.invariant.1 c.loop-i.invariant.2 in
+    let inside : c.loop-i.i < length (all_sets c.args.k) = omega (arith, c.power-count.ensures, all-length c.args.k) in
+    set-turn c.loop-i.i c.loop-i.at (group_of c.args.op c.args.s).plus-length c.requires
+    c.ordered_sets-sets.ensures inside c.rows_of-rows.ensures c.loop-i.invariant.1 c.loop-i.invariant.2 in
     let turn = turn-of in omega (arith, turn.read, turn.written)
 
 pub overflow_mul-end : goal.overflow_mul-end
-overflow_mul-end c =    let turn-of : let args = c.args in
+overflow_mul-end c = let turn-of : let args = c.args in
     SetTurn (sum_of args.op) args.n args.k args.s args.store.now args.query.now args.out.now
     c.loop-i.i c.loop-i.at c.loop-i.end (get_or c.ordered_sets-sets.result c.loop-i.i 0) c.rows_of-rows.result c.loop-i.out =
-        let inside : c.loop-i.i < length (all_sets c.args.k) = omega (arith, c.power-count.ensures, all-length c.args.k) in
-        set-turn c.loop-i.i c.loop-i.at (group_of c.args.op c.args.s).plus-length c.requires
-        c.ordered_sets-sets.ensures inside c.rows_of-rows.ensures c.loop-i.invariant.1 c.loop-i.invariant.2 in
+    let inside : c.loop-i.i < length (all_sets c.args.k) = omega (arith, c.power-count.ensures, all-length c.args.k) in
+    set-turn c.loop-i.i c.loop-i.at (group_of c.args.op c.args.s).plus-length c.requires
+    c.ordered_sets-sets.ensures inside c.rows_of-rows.ensures c.loop-i.invariant.1 c.loop-i.invariant.2 in
     let turn = turn-of in omega (arith, turn.read, turn.written)
 
 pub overflow_add-end : goal.overflow_add-end
-overflow_add-end c =    let turn-of : let args = c.args in
+overflow_add-end c = let turn-of : let args = c.args in
     SetTurn (sum_of args.op) args.n args.k args.s args.store.now args.query.now args.out.now
     c.loop-i.i c.loop-i.at c.loop-i.end (get_or c.ordered_sets-sets.result c.loop-i.i 0) c.rows_of-rows.result c.loop-i.out =
-        let inside : c.loop-i.i < length (all_sets c.args.k) = omega (arith, c.power-count.ensures, all-length c.args.k) in
-        set-turn c.loop-i.i c.loop-i.at (group_of c.args.op c.args.s).plus-length c.requires
-        c.ordered_sets-sets.ensures inside c.rows_of-rows.ensures c.loop-i.invariant.1 c.loop-i.invariant.2 in
+    let inside : c.loop-i.i < length (all_sets c.args.k) = omega (arith, c.power-count.ensures, all-length c.args.k) in
+    set-turn c.loop-i.i c.loop-i.at (group_of c.args.op c.args.s).plus-length c.requires
+    c.ordered_sets-sets.ensures inside c.rows_of-rows.ensures c.loop-i.invariant.1 c.loop-i.invariant.2 in
     let turn = turn-of in omega (arith, turn.read, turn.written)
 
 pub overflow_add-i : goal.overflow_add-i
@@ -191,12 +191,12 @@ pub loop-i-smaller : goal.loop-i-smaller
 loop-i-smaller c = omega arith
 
 pub loop-i-preserved : goal.loop-i-preserved
-loop-i-preserved c =    let turn-of : let args = c.args in
+loop-i-preserved c = let turn-of : let args = c.args in
     SetTurn (sum_of args.op) args.n args.k args.s args.store.now args.query.now args.out.now
     c.loop-i.i c.loop-i.at c.loop-i.end (get_or c.ordered_sets-sets.result c.loop-i.i 0) c.rows_of-rows.result c.loop-i.out =
-        let inside : c.loop-i.i < length (all_sets c.args.k) = omega (arith, c.power-count.ensures, all-length c.args.k) in
-        set-turn c.loop-i.i c.loop-i.at (group_of c.args.op c.args.s).plus-length c.requires
-        c.ordered_sets-sets.ensures inside c.rows_of-rows.ensures c.loop-i.invariant.1 c.loop-i.invariant.2 in
+    let inside : c.loop-i.i < length (all_sets c.args.k) = omega (arith, c.power-count.ensures, all-length c.args.k) in
+    set-turn c.loop-i.i c.loop-i.at (group_of c.args.op c.args.s).plus-length c.requires
+    c.ordered_sets-sets.ensures inside c.rows_of-rows.ensures c.loop-i.invariant.1 c.loop-i.invariant.2 in
     let turn = turn-of in
     let end = c.loop-i.end in
     let out = c.loop-i.out in
@@ -218,6 +218,6 @@ shape_of-out c = c.loop-i.invariant.2.long
 
 pub returns : goal.returns
 unfolding row_answers
-returns c =    let k = c.args.k in
+returns c = let k = c.args.k in
     let over : length (all_sets k) ≤ c.loop-i.i = omega (arith, c.power-count.ensures, all-length k) in
     pending_done (rw (rows_none c.args.n k c.loop-i.i over) at c.loop-i.invariant.2)

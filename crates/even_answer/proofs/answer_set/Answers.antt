@@ -24,7 +24,7 @@ pub overflow_cast-size : goal.overflow_cast-size
 overflow_cast-size c = omega (arith, ones-le 8 c.args.set (search rules))
 
 pub loop-row-init : goal.loop-row-init
-loop-row-init c =    let n = c.args.n in
+loop-row-init c = let n = c.args.n in
     let k = c.args.k in
     let s = c.args.s in
     let store = c.args.store.now in
@@ -39,42 +39,42 @@ loop-row-init c =    let n = c.args.n in
     (omega arith, pending-as (zero-mul s) (rw (sub-zero rows, zero-mul (count c.args.set)) refl) refl (pending-start room))
 
 pub overflow_mul-at : goal.overflow_mul-at
-overflow_mul-at c =    let turn = row-turn c.loop-row.row c.requires.0 c.requires.1 (omega arith) in
+overflow_mul-at c = let turn = row-turn c.loop-row.row c.requires.0 c.requires.1 (omega arith) in
     omega (arith, turn.read, turn.written, c.loop-row.invariant.1.long)
 
 pub overflow_mul-from : goal.overflow_mul-from
-overflow_mul-from c =    let turn = row-turn c.loop-row.row c.requires.0 c.requires.1 (omega arith) in
+overflow_mul-from c = let turn = row-turn c.loop-row.row c.requires.0 c.requires.1 (omega arith) in
     omega (arith, turn.read, turn.written, c.loop-row.invariant.1.long)
 
 pub overflow_add-to : goal.overflow_add-to
-overflow_add-to c =    let turn = row-turn c.loop-row.row c.requires.0 c.requires.1 (omega arith) in
+overflow_add-to c = let turn = row-turn c.loop-row.row c.requires.0 c.requires.1 (omega arith) in
     omega (arith, turn.read, turn.written, c.loop-row.invariant.1.long)
 
 pub slice_bounds-answer_row-count : goal.slice_bounds-answer_row-count
-slice_bounds-answer_row-count c =    let turn = row-turn c.loop-row.row c.requires.0 c.requires.1 (omega arith) in
+slice_bounds-answer_row-count c = let turn = row-turn c.loop-row.row c.requires.0 c.requires.1 (omega arith) in
     omega (arith, turn.read, turn.written, c.loop-row.invariant.1.long)
 
 pub slice_bounds-answer_row-start : goal.slice_bounds-answer_row-start
-slice_bounds-answer_row-start c =    let turn = row-turn c.loop-row.row c.requires.0 c.requires.1 (omega arith) in
+slice_bounds-answer_row-start c = let turn = row-turn c.loop-row.row c.requires.0 c.requires.1 (omega arith) in
     omega (arith, turn.read, turn.written, c.loop-row.invariant.1.long)
 
 pub slice_bounds-answer_row-end : goal.slice_bounds-answer_row-end
-slice_bounds-answer_row-end c =    let turn = row-turn c.loop-row.row c.requires.0 c.requires.1 (omega arith) in
+slice_bounds-answer_row-end c = let turn = row-turn c.loop-row.row c.requires.0 c.requires.1 (omega arith) in
     omega (arith, turn.read, turn.written, c.loop-row.invariant.1.long)
 
 pub slice_bounds-answer_row-count-in-loop-row : goal.slice_bounds-answer_row-count-in-loop-row
 slice_bounds-answer_row-count-in-loop-row c = omega arith
 
 pub slice_bounds-answer_row-start-in-loop-row : goal.slice_bounds-answer_row-start-in-loop-row
-slice_bounds-answer_row-start-in-loop-row c =    let turn = row-turn c.loop-row.row c.requires.0 c.requires.1 (omega arith) in
+slice_bounds-answer_row-start-in-loop-row c = let turn = row-turn c.loop-row.row c.requires.0 c.requires.1 (omega arith) in
     omega (arith, turn.read, turn.written, c.loop-row.invariant.1.long)
 
 pub slice_bounds-answer_row-end-in-loop-row : goal.slice_bounds-answer_row-end-in-loop-row
-slice_bounds-answer_row-end-in-loop-row c =    let turn = row-turn c.loop-row.row c.requires.0 c.requires.1 (omega arith) in
+slice_bounds-answer_row-end-in-loop-row c = let turn = row-turn c.loop-row.row c.requires.0 c.requires.1 (omega arith) in
     omega (arith, turn.read, turn.written, c.loop-row.invariant.1.long)
 
 pub answer_row-requires : goal.answer_row-requires
-answer_row-requires c =    let turn = row-turn c.loop-row.row c.requires.0 c.requires.1 (omega arith) in
+answer_row-requires c = let turn = row-turn c.loop-row.row c.requires.0 c.requires.1 (omega arith) in
     let from = c.loop-row.row * c.args.s in (
       rw (to_end c.args.numbers.now (c.loop-row.row * count c.args.set)) (row-given c.requires.0 turn),
       rw (add-sub_cancel_left from c.args.s) (cut-length from c.args.s c.loop-row.out (omega (arith, turn.written, c.loop-row.invariant.1.long))),
@@ -88,7 +88,7 @@ pub loop-row-smaller : goal.loop-row-smaller
 loop-row-smaller c = omega arith
 
 pub loop-row-preserved : goal.loop-row-preserved
-loop-row-preserved c =    let s = c.args.s in
+loop-row-preserved c = let s = c.args.s in
     let from = c.loop-row.row * s in
     let out = c.loop-row.out in
     let numbers = c.args.numbers.now in
@@ -109,5 +109,5 @@ shape_of-out c = c.loop-row.invariant.1.long
 
 pub returns : goal.returns
 unfolding row_answers
-returns c =    let none : c.args.rows - c.loop-row.row ≡ 0 = omega arith in
+returns c = let none : c.args.rows - c.loop-row.row ≡ 0 = omega arith in
     pending_done (rw none at c.loop-row.invariant.1)

@@ -16,7 +16,7 @@ size_fits n zero bound some h = rw (pow-zero n) some
 size_fits n (suc k) bound some h = omega (arith, suc-mul k (n ^ suc k))
 
 pub power-requires : goal.power-requires
-power-requires c =    let args = c.args in
+power-requires c = let args = c.args in
     size_fits args.n args.k (2 ^ 64) (omega arith) (let fits : length args.key.now < 2 ^ 64 = omega arith in omega arith)
 
 pub permutations_good-requires : goal.permutations_good-requires
@@ -24,6 +24,6 @@ permutations_good-requires c = rw c.power.ensures c.requires
 
 pub returns : goal.returns
 unfolding even_key_good permutation
-returns c =    let args = c.args in
+returns c = let args = c.args in
     c.permutations_good.ensures
     ∙ ap (λ (size : ℕ). every args.k (λ p. is_permutation size (cut (p * size) size args.key.now))) c.power.ensures

@@ -24,63 +24,63 @@ pub loop-i-init : goal.loop-i-init
 loop-i-init c = (omega arith, refl, omega arith, refl)
 
 pub bounds-sets-i : goal.bounds-sets-i
-bounds-sets-i c =    let k = c.args.k in
+bounds-sets-i c = let k = c.args.k in
     omega (arith, c.power-count.ensures, subsets-few k c.requires.messages-high)
 
 pub overflow_cast-firsts : goal.overflow_cast-firsts
-overflow_cast-firsts c =    let inside : c.loop-i.i < length (all_sets c.args.k) =
-        omega (arith, c.power-count.ensures, all-length c.args.k) in
+overflow_cast-firsts c = let inside : c.loop-i.i < length (all_sets c.args.k) =
+    omega (arith, c.power-count.ensures, all-length c.args.k) in
     let set_here : let a = c.args in
     let i = c.loop-i.i in
     SetByte a.n a.k (get_or c.ordered_sets-sets.result i 0) (get_or (all_sets a.k) i []) =
-        let k = c.args.k in
-        let sets = c.ordered_sets-sets in 
-        byte_at c.args.n k c.loop-i.i c.ordered_sets-sets.result _ c.requires c.ordered_sets-sets.ensures (inside) in
+    let k = c.args.k in
+    let sets = c.ordered_sets-sets in
+    byte_at c.args.n k c.loop-i.i c.ordered_sets-sets.result _ c.requires c.ordered_sets-sets.ensures (inside) in
     omega (arith, (set_here).small)
 
 pub offset_bounds-firsts-set : goal.offset_bounds-firsts-set
-offset_bounds-firsts-set c =    let inside : c.loop-i.i < length (all_sets c.args.k) =
-        omega (arith, c.power-count.ensures, all-length c.args.k) in
+offset_bounds-firsts-set c = let inside : c.loop-i.i < length (all_sets c.args.k) =
+    omega (arith, c.power-count.ensures, all-length c.args.k) in
     let set_here : let a = c.args in
     let i = c.loop-i.i in
     SetByte a.n a.k (get_or c.ordered_sets-sets.result i 0) (get_or (all_sets a.k) i []) =
-        let k = c.args.k in
-        let sets = c.ordered_sets-sets in 
-        byte_at c.args.n k c.loop-i.i c.ordered_sets-sets.result _ c.requires c.ordered_sets-sets.ensures (inside) in
+    let k = c.args.k in
+    let sets = c.ordered_sets-sets in
+    byte_at c.args.n k c.loop-i.i c.ordered_sets-sets.result _ c.requires c.ordered_sets-sets.ensures (inside) in
     omega (arith, (set_here).small)
 
 pub bounds-firsts-set : goal.bounds-firsts-set
-bounds-firsts-set c =    let inside : c.loop-i.i < length (all_sets c.args.k) =
-        omega (arith, c.power-count.ensures, all-length c.args.k) in
+bounds-firsts-set c = let inside : c.loop-i.i < length (all_sets c.args.k) =
+    omega (arith, c.power-count.ensures, all-length c.args.k) in
     let set_here : let a = c.args in
     let i = c.loop-i.i in
     SetByte a.n a.k (get_or c.ordered_sets-sets.result i 0) (get_or (all_sets a.k) i []) =
-        let k = c.args.k in
-        let sets = c.ordered_sets-sets in 
-        byte_at c.args.n k c.loop-i.i c.ordered_sets-sets.result _ c.requires c.ordered_sets-sets.ensures (inside) in
+    let k = c.args.k in
+    let sets = c.ordered_sets-sets in
+    byte_at c.args.n k c.loop-i.i c.ordered_sets-sets.result _ c.requires c.ordered_sets-sets.ensures (inside) in
     omega (arith, (set_here).small)
 
 pub rows_of-row-requires : goal.rows_of-row-requires
-rows_of-row-requires c =    let inside : c.loop-i.i < length (all_sets c.args.k) =
-        omega (arith, c.power-count.ensures, all-length c.args.k) in
+rows_of-row-requires c = let inside : c.loop-i.i < length (all_sets c.args.k) =
+    omega (arith, c.power-count.ensures, all-length c.args.k) in
     let set_here : let a = c.args in
     let i = c.loop-i.i in
     SetByte a.n a.k (get_or c.ordered_sets-sets.result i 0) (get_or (all_sets a.k) i []) =
-        let k = c.args.k in
-        let sets = c.ordered_sets-sets in 
-        byte_at c.args.n k c.loop-i.i c.ordered_sets-sets.result _ c.requires c.ordered_sets-sets.ensures (inside) in
+    let k = c.args.k in
+    let sets = c.ordered_sets-sets in
+    byte_at c.args.n k c.loop-i.i c.ordered_sets-sets.result _ c.requires c.ordered_sets-sets.ensures (inside) in
     let s = set_here in
     (omega (arith, c.requires.servers-low), s.some, omega (arith, s.rows, s.high))
 
 pub overflow_add-row : goal.overflow_add-row
-overflow_add-row c =    let inside : c.loop-i.i < length (all_sets c.args.k) =
-        omega (arith, c.power-count.ensures, all-length c.args.k) in
+overflow_add-row c = let inside : c.loop-i.i < length (all_sets c.args.k) =
+    omega (arith, c.power-count.ensures, all-length c.args.k) in
     let set_here : let a = c.args in
     let i = c.loop-i.i in
     SetByte a.n a.k (get_or c.ordered_sets-sets.result i 0) (get_or (all_sets a.k) i []) =
-        let k = c.args.k in
-        let sets = c.ordered_sets-sets in 
-        byte_at c.args.n k c.loop-i.i c.ordered_sets-sets.result _ c.requires c.ordered_sets-sets.ensures (inside) in
+    let k = c.args.k in
+    let sets = c.ordered_sets-sets in
+    byte_at c.args.n k c.loop-i.i c.ordered_sets-sets.result _ c.requires c.ordered_sets-sets.ensures (inside) in
     let s = set_here in
     omega (arith, c.rows_of-row.ensures, s.rows, s.high, subsets-few c.args.k c.requires.messages-high, c.power-count.ensures)
 
@@ -91,14 +91,14 @@ pub loop-i-smaller : goal.loop-i-smaller
 loop-i-smaller c = omega arith
 
 pub loop-i-preserved : goal.loop-i-preserved
-loop-i-preserved c =    let inside : c.loop-i.i < length (all_sets c.args.k) =
-        omega (arith, c.power-count.ensures, all-length c.args.k) in
+loop-i-preserved c = let inside : c.loop-i.i < length (all_sets c.args.k) =
+    omega (arith, c.power-count.ensures, all-length c.args.k) in
     let set_here : let a = c.args in
     let i = c.loop-i.i in
     SetByte a.n a.k (get_or c.ordered_sets-sets.result i 0) (get_or (all_sets a.k) i []) =
-        let k = c.args.k in
-        let sets = c.ordered_sets-sets in 
-        byte_at c.args.n k c.loop-i.i c.ordered_sets-sets.result _ c.requires c.ordered_sets-sets.ensures (inside) in
+    let k = c.args.k in
+    let sets = c.ordered_sets-sets in
+    byte_at c.args.n k c.loop-i.i c.ordered_sets-sets.result _ c.requires c.ordered_sets-sets.ensures (inside) in
     let a = c.args in
     let i = c.loop-i.i in
     let s = set_here in
@@ -111,6 +111,6 @@ loop-i-preserved c =    let inside : c.loop-i.i < length (all_sets c.args.k) =
 
 pub returns : goal.returns
 unfolding filled
-returns c =    let k = c.args.k in
+returns c = let k = c.args.k in
     let none = drop_of_length-le (all_sets k) {i = c.loop-i.i} (omega (arith, c.power-count.ensures, all-length k)) in
     rw none at c.loop-i.invariant.3 ∙ filled-firsts c.args.n k c.requires

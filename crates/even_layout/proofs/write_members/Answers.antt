@@ -17,11 +17,11 @@ pub overflow_cast-out : goal.overflow_cast-out
 overflow_cast-out c = omega arith
 
 pub bounds-out-end : goal.bounds-out-end
-bounds-out-end c =    let p = rw (members_kept c.args.k c.loop-p.p c.loop-p.rest (omega arith) c.if-rest-eq1.true) at c.loop-p.invariant.1 in
+bounds-out-end c = let p = rw (members_kept c.args.k c.loop-p.p c.loop-p.rest (omega arith) c.if-rest-eq1.true) at c.loop-p.invariant.1 in
     omega (arith, p.room)
 
 pub overflow_add-end : goal.overflow_add-end
-overflow_add-end c =    let p = rw (members_kept c.args.k c.loop-p.p c.loop-p.rest (omega arith) c.if-rest-eq1.true) at c.loop-p.invariant.1 in
+overflow_add-end c = let p = rw (members_kept c.args.k c.loop-p.p c.loop-p.rest (omega arith) c.if-rest-eq1.true) at c.loop-p.invariant.1 in
     omega (arith, p.room)
 
 pub overflow_add-p : goal.overflow_add-p
@@ -37,8 +37,8 @@ loop-p-preserved c =
     let rest = c.loop-p.rest in (
       omega arith,
       elim c.if-rest-eq1.branch [
-        then-rest-eq1 w ↦ pending-as w.end-is refl w.out-is (pending-byte (rw (members_kept k p rest (omega arith) w.if-rest-eq1.true) at c.loop-p.invariant.1))
-      | else-rest-eq1 w ↦ pending-as w.end-is refl w.out-is (rw (members-skipped k p rest (omega arith) w.if-rest-eq1.false) at c.loop-p.invariant.1)
+        | then-rest-eq1 w ↦ pending-as w.end-is refl w.out-is (pending-byte (rw (members_kept k p rest (omega arith) w.if-rest-eq1.true) at c.loop-p.invariant.1))
+        | else-rest-eq1 w ↦ pending-as w.end-is refl w.out-is (rw (members-skipped k p rest (omega arith) w.if-rest-eq1.false) at c.loop-p.invariant.1)
       ],
     )
 
@@ -47,6 +47,6 @@ shape_of-out c = c.loop-p.invariant.1.long
 
 pub returns : goal.returns
 unfolding members set_in
-returns c =    let none : c.args.k - c.loop-p.p ≡ 0 = omega arith in
+returns c = let none : c.args.k - c.loop-p.p ≡ 0 = omega arith in
     let p = rw none at c.loop-p.invariant.1 in
     (pending-ends p, pending_done p)

@@ -55,10 +55,10 @@ told c place turn e =
     (place_naming a.s a.message a.symbol (layout_rows a.n a.k a.query.now)) place turn c.loop-i.invariant.3 (seen c ∙ e)
 
 pub ordered_sets-sets-requires : goal.ordered_sets-sets-requires
-ordered_sets-sets-requires c =    (even-bounds c.args.n c.args.k c.args.s c.requires.s_value).messages-high
+ordered_sets-sets-requires c = (even-bounds c.args.n c.args.k c.args.s c.requires.s_value).messages-high
 
 pub power-count-requires : goal.power-count-requires
-power-count-requires c =    let k = c.args.k in
+power-count-requires c = let k = c.args.k in
     omega (arith, subsets-few k (even-bounds c.args.n k c.args.s c.requires.s_value).messages-high)
 
 pub overflow_sub-count : goal.overflow_sub-count
@@ -66,7 +66,7 @@ overflow_sub-count c = omega (arith, c.power-count.ensures, all-length c.args.k)
 
 pub loop-i-init : goal.loop-i-init
 unfolding even_sizes
-loop-i-init c =    let a = c.args in
+loop-i-init c = let a = c.args in
     let bounds = layout-fits a.n a.k a.s c.requires.s_value in
     let place = place_naming a.s a.message a.symbol (layout_rows a.n a.k a.query.now) in (
       omega arith,
@@ -76,11 +76,11 @@ loop-i-init c =    let a = c.args in
     )
 
 pub bounds-sets-i : goal.bounds-sets-i
-bounds-sets-i c =    let bounds = layout-fits c.args.n c.args.k c.args.s c.requires.s_value in
+bounds-sets-i c = let bounds = layout-fits c.args.n c.args.k c.args.s c.requires.s_value in
     omega (arith, c.power-count.ensures, subsets-few c.args.k bounds.messages-high)
 
 pub rows_of-rows-requires : goal.rows_of-rows-requires
-rows_of-rows-requires c =    let n = c.args.n in
+rows_of-rows-requires c = let n = c.args.n in
     let k = c.args.k in
     let bounds = layout-fits n k c.args.s c.requires.s_value in
     let inside : c.loop-i.i < length (all_sets k) = omega (arith, c.power-count.ensures, all-length k) in
@@ -89,52 +89,52 @@ rows_of-rows-requires c =    let n = c.args.n in
     (omega (arith, bounds.servers-low), b.some, omega (arith, b.rows, b.high))
 
 pub slice_bounds-set_place-count : goal.slice_bounds-set_place-count
-slice_bounds-set_place-count c =    let turn-of : let a = c.args in
+slice_bounds-set_place-count c = let turn-of : let a = c.args in
     Turn a.n a.k a.s a.query.now c.loop-i.i c.loop-i.at c.loop-i.end (get_or c.ordered_sets-sets.result c.loop-i.i 0)
     c.rows_of-rows.result =
-        let a = c.args in
-        let inside : c.loop-i.i < length (all_sets a.k) = omega (arith, c.power-count.ensures, all-length a.k) in
-        set-turn a.n a.k a.s a.query.now c.ordered_sets-sets.result c.loop-i.i c.loop-i.at c.loop-i.end c.rows_of-rows.result
-        (layout-fits a.n a.k a.s c.requires.s_value) c.ordered_sets-sets.ensures inside c.rows_of-rows.ensures
-        c.loop-i.invariant.1 c.loop-i.invariant.2 in
+    let a = c.args in
+    let inside : c.loop-i.i < length (all_sets a.k) = omega (arith, c.power-count.ensures, all-length a.k) in
+    set-turn a.n a.k a.s a.query.now c.ordered_sets-sets.result c.loop-i.i c.loop-i.at c.loop-i.end c.rows_of-rows.result
+    (layout-fits a.n a.k a.s c.requires.s_value) c.ordered_sets-sets.ensures inside c.rows_of-rows.ensures
+    c.loop-i.invariant.1 c.loop-i.invariant.2 in
     omega (arith, (turn-of).read)
 
 pub slice_bounds-set_place-start : goal.slice_bounds-set_place-start
-slice_bounds-set_place-start c =    let turn-of : let a = c.args in
+slice_bounds-set_place-start c = let turn-of : let a = c.args in
     Turn a.n a.k a.s a.query.now c.loop-i.i c.loop-i.at c.loop-i.end (get_or c.ordered_sets-sets.result c.loop-i.i 0)
     c.rows_of-rows.result =
-        let a = c.args in
-        let inside : c.loop-i.i < length (all_sets a.k) = omega (arith, c.power-count.ensures, all-length a.k) in
-        set-turn a.n a.k a.s a.query.now c.ordered_sets-sets.result c.loop-i.i c.loop-i.at c.loop-i.end c.rows_of-rows.result
-        (layout-fits a.n a.k a.s c.requires.s_value) c.ordered_sets-sets.ensures inside c.rows_of-rows.ensures
-        c.loop-i.invariant.1 c.loop-i.invariant.2 in
+    let a = c.args in
+    let inside : c.loop-i.i < length (all_sets a.k) = omega (arith, c.power-count.ensures, all-length a.k) in
+    set-turn a.n a.k a.s a.query.now c.ordered_sets-sets.result c.loop-i.i c.loop-i.at c.loop-i.end c.rows_of-rows.result
+    (layout-fits a.n a.k a.s c.requires.s_value) c.ordered_sets-sets.ensures inside c.rows_of-rows.ensures
+    c.loop-i.invariant.1 c.loop-i.invariant.2 in
     omega (arith, (turn-of).read)
 
 pub slice_bounds-set_place-end : goal.slice_bounds-set_place-end
-slice_bounds-set_place-end c =    let turn-of : let a = c.args in
+slice_bounds-set_place-end c = let turn-of : let a = c.args in
     Turn a.n a.k a.s a.query.now c.loop-i.i c.loop-i.at c.loop-i.end (get_or c.ordered_sets-sets.result c.loop-i.i 0)
     c.rows_of-rows.result =
-        let a = c.args in
-        let inside : c.loop-i.i < length (all_sets a.k) = omega (arith, c.power-count.ensures, all-length a.k) in
-        set-turn a.n a.k a.s a.query.now c.ordered_sets-sets.result c.loop-i.i c.loop-i.at c.loop-i.end c.rows_of-rows.result
-        (layout-fits a.n a.k a.s c.requires.s_value) c.ordered_sets-sets.ensures inside c.rows_of-rows.ensures
-        c.loop-i.invariant.1 c.loop-i.invariant.2 in
+    let a = c.args in
+    let inside : c.loop-i.i < length (all_sets a.k) = omega (arith, c.power-count.ensures, all-length a.k) in
+    set-turn a.n a.k a.s a.query.now c.ordered_sets-sets.result c.loop-i.i c.loop-i.at c.loop-i.end c.rows_of-rows.result
+    (layout-fits a.n a.k a.s c.requires.s_value) c.ordered_sets-sets.ensures inside c.rows_of-rows.ensures
+    c.loop-i.invariant.1 c.loop-i.invariant.2 in
     omega (arith, (turn-of).read)
 
 pub set_place-requires : goal.set_place-requires
 unfolding even_sizes
-set_place-requires c =    let turn-of : let a = c.args in
+set_place-requires c = let turn-of : let a = c.args in
     Turn a.n a.k a.s a.query.now c.loop-i.i c.loop-i.at c.loop-i.end (get_or c.ordered_sets-sets.result c.loop-i.i 0)
     c.rows_of-rows.result =
-        let a = c.args in
-        let inside : c.loop-i.i < length (all_sets a.k) = omega (arith, c.power-count.ensures, all-length a.k) in
-        set-turn a.n a.k a.s a.query.now c.ordered_sets-sets.result c.loop-i.i c.loop-i.at c.loop-i.end c.rows_of-rows.result
-        (layout-fits a.n a.k a.s c.requires.s_value) c.ordered_sets-sets.ensures inside c.rows_of-rows.ensures
-        c.loop-i.invariant.1 c.loop-i.invariant.2 in
+    let a = c.args in
+    let inside : c.loop-i.i < length (all_sets a.k) = omega (arith, c.power-count.ensures, all-length a.k) in
+    set-turn a.n a.k a.s a.query.now c.ordered_sets-sets.result c.loop-i.i c.loop-i.at c.loop-i.end c.rows_of-rows.result
+    (layout-fits a.n a.k a.s c.requires.s_value) c.ordered_sets-sets.ensures inside c.rows_of-rows.ensures
+    c.loop-i.invariant.1 c.loop-i.invariant.2 in
     let slot_small : let a = c.args in length (layout a.n a.k) * a.s < 2 ^ 32 =
-        let a = c.args in
-        let b = even-bounds a.n a.k a.s c.requires.s_value in
-        omega (arith, (even-small a.n a.k a.s b).slot, ap (λ (m : ℕ). m * a.s) (layout-length a.n a.k b.servers-low b.messages-low)) in
+    let a = c.args in
+    let b = even-bounds a.n a.k a.s c.requires.s_value in
+    omega (arith, (even-small a.n a.k a.s b).slot, ap (λ (m : ℕ). m * a.s) (layout-length a.n a.k b.servers-low b.messages-low)) in
     let turn = turn-of in
     let query = c.args.query.now in record {
       set_value = (turn.ones-in, rw (to_end query c.loop-i.at) (omega (arith, length-drop c.loop-i.at query, turn.read)));
@@ -143,26 +143,26 @@ set_place-requires c =    let turn-of : let a = c.args in
 
 pub overflow_add-result : goal.overflow_add-result
 unfolding even_sizes
-overflow_add-result c =    let turn-of : let a = c.args in
+overflow_add-result c = let turn-of : let a = c.args in
     Turn a.n a.k a.s a.query.now c.loop-i.i c.loop-i.at c.loop-i.end (get_or c.ordered_sets-sets.result c.loop-i.i 0)
     c.rows_of-rows.result =
-        let a = c.args in
-        let inside : c.loop-i.i < length (all_sets a.k) = omega (arith, c.power-count.ensures, all-length a.k) in
-        set-turn a.n a.k a.s a.query.now c.ordered_sets-sets.result c.loop-i.i c.loop-i.at c.loop-i.end c.rows_of-rows.result
-        (layout-fits a.n a.k a.s c.requires.s_value) c.ordered_sets-sets.ensures inside c.rows_of-rows.ensures
-        c.loop-i.invariant.1 c.loop-i.invariant.2 in
+    let a = c.args in
+    let inside : c.loop-i.i < length (all_sets a.k) = omega (arith, c.power-count.ensures, all-length a.k) in
+    set-turn a.n a.k a.s a.query.now c.ordered_sets-sets.result c.loop-i.i c.loop-i.at c.loop-i.end c.rows_of-rows.result
+    (layout-fits a.n a.k a.s c.requires.s_value) c.ordered_sets-sets.ensures inside c.rows_of-rows.ensures
+    c.loop-i.invariant.1 c.loop-i.invariant.2 in
     let slot_small : let a = c.args in length (layout a.n a.k) * a.s < 2 ^ 32 =
-        let a = c.args in
-        let b = even-bounds a.n a.k a.s c.requires.s_value in
-        omega (arith, (even-small a.n a.k a.s b).slot, ap (λ (m : ℕ). m * a.s) (layout-length a.n a.k b.servers-low b.messages-low)) in
+    let a = c.args in
+    let b = even-bounds a.n a.k a.s c.requires.s_value in
+    omega (arith, (even-small a.n a.k a.s b).slot, ap (λ (m : ℕ). m * a.s) (layout-length a.n a.k b.servers-low b.messages-low)) in
     let seen : let a = c.args in
     place_naming a.s a.message a.symbol
     (set_rows (replicate c.rows_of-rows.result (set_in a.k (get_or c.ordered_sets-sets.result c.loop-i.i 0)))
     (drop c.loop-i.at a.query.now))
     ≡ c.set_place.result =
-        let a = c.args in
-        let sets = replicate c.rows_of-rows.result (set_in a.k (get_or c.ordered_sets-sets.result c.loop-i.i 0)) in
-        sym (c.set_place.ensures ∙ ap (λ (l : List ℕ). place_naming a.s a.message a.symbol (set_rows sets l)) (to_end a.query.now c.loop-i.at)) in
+    let a = c.args in
+    let sets = replicate c.rows_of-rows.result (set_in a.k (get_or c.ordered_sets-sets.result c.loop-i.i 0)) in
+    sym (c.set_place.ensures ∙ ap (λ (l : List ℕ). place_naming a.s a.message a.symbol (set_rows sets l)) (to_end a.query.now c.loop-i.at)) in
     let a = c.args in
     let sets = replicate c.rows_of-rows.result (set_in a.k (get_or c.ordered_sets-sets.result c.loop-i.i 0)) in
     let numbers = drop c.loop-i.at a.query.now in
@@ -177,79 +177,79 @@ overflow_add-result c =    let turn-of : let a = c.args in
     )
 
 pub returns-in-At : goal.returns-in-At
-returns-in-At c =    let turn-of : let a = c.args in
+returns-in-At c = let turn-of : let a = c.args in
     Turn a.n a.k a.s a.query.now c.loop-i.i c.loop-i.at c.loop-i.end (get_or c.ordered_sets-sets.result c.loop-i.i 0)
     c.rows_of-rows.result =
-        let a = c.args in
-        let inside : c.loop-i.i < length (all_sets a.k) = omega (arith, c.power-count.ensures, all-length a.k) in
-        set-turn a.n a.k a.s a.query.now c.ordered_sets-sets.result c.loop-i.i c.loop-i.at c.loop-i.end c.rows_of-rows.result
-        (layout-fits a.n a.k a.s c.requires.s_value) c.ordered_sets-sets.ensures inside c.rows_of-rows.ensures
-        c.loop-i.invariant.1 c.loop-i.invariant.2 in
+    let a = c.args in
+    let inside : c.loop-i.i < length (all_sets a.k) = omega (arith, c.power-count.ensures, all-length a.k) in
+    set-turn a.n a.k a.s a.query.now c.ordered_sets-sets.result c.loop-i.i c.loop-i.at c.loop-i.end c.rows_of-rows.result
+    (layout-fits a.n a.k a.s c.requires.s_value) c.ordered_sets-sets.ensures inside c.rows_of-rows.ensures
+    c.loop-i.invariant.1 c.loop-i.invariant.2 in
     sym (told (goal.at.returns-in-At c).After-set_place (At c.in-At.place) turn-of c.in-At.is)
 
 pub overflow_cast-at : goal.overflow_cast-at
-overflow_cast-at c =    let turn-of : let a = c.args in
+overflow_cast-at c = let turn-of : let a = c.args in
     Turn a.n a.k a.s a.query.now c.loop-i.i c.loop-i.at c.loop-i.end (get_or c.ordered_sets-sets.result c.loop-i.i 0)
     c.rows_of-rows.result =
-        let a = c.args in
-        let inside : c.loop-i.i < length (all_sets a.k) = omega (arith, c.power-count.ensures, all-length a.k) in
-        set-turn a.n a.k a.s a.query.now c.ordered_sets-sets.result c.loop-i.i c.loop-i.at c.loop-i.end c.rows_of-rows.result
-        (layout-fits a.n a.k a.s c.requires.s_value) c.ordered_sets-sets.ensures inside c.rows_of-rows.ensures
-        c.loop-i.invariant.1 c.loop-i.invariant.2 in
+    let a = c.args in
+    let inside : c.loop-i.i < length (all_sets a.k) = omega (arith, c.power-count.ensures, all-length a.k) in
+    set-turn a.n a.k a.s a.query.now c.ordered_sets-sets.result c.loop-i.i c.loop-i.at c.loop-i.end c.rows_of-rows.result
+    (layout-fits a.n a.k a.s c.requires.s_value) c.ordered_sets-sets.ensures inside c.rows_of-rows.ensures
+    c.loop-i.invariant.1 c.loop-i.invariant.2 in
     omega (arith, ones-le 8 (get_or c.ordered_sets-sets.result c.loop-i.i 0) (turn-of).small)
 
 pub overflow_mul-at : goal.overflow_mul-at
-overflow_mul-at c =    let turn-of : let a = c.args in
+overflow_mul-at c = let turn-of : let a = c.args in
     Turn a.n a.k a.s a.query.now c.loop-i.i c.loop-i.at c.loop-i.end (get_or c.ordered_sets-sets.result c.loop-i.i 0)
     c.rows_of-rows.result =
-        let a = c.args in
-        let inside : c.loop-i.i < length (all_sets a.k) = omega (arith, c.power-count.ensures, all-length a.k) in
-        set-turn a.n a.k a.s a.query.now c.ordered_sets-sets.result c.loop-i.i c.loop-i.at c.loop-i.end c.rows_of-rows.result
-        (layout-fits a.n a.k a.s c.requires.s_value) c.ordered_sets-sets.ensures inside c.rows_of-rows.ensures
-        c.loop-i.invariant.1 c.loop-i.invariant.2 in
+    let a = c.args in
+    let inside : c.loop-i.i < length (all_sets a.k) = omega (arith, c.power-count.ensures, all-length a.k) in
+    set-turn a.n a.k a.s a.query.now c.ordered_sets-sets.result c.loop-i.i c.loop-i.at c.loop-i.end c.rows_of-rows.result
+    (layout-fits a.n a.k a.s c.requires.s_value) c.ordered_sets-sets.ensures inside c.rows_of-rows.ensures
+    c.loop-i.invariant.1 c.loop-i.invariant.2 in
     omega (arith, (turn-of).read)
 
 pub overflow_add-at : goal.overflow_add-at
-overflow_add-at c =    let turn-of : let a = c.args in
+overflow_add-at c = let turn-of : let a = c.args in
     Turn a.n a.k a.s a.query.now c.loop-i.i c.loop-i.at c.loop-i.end (get_or c.ordered_sets-sets.result c.loop-i.i 0)
     c.rows_of-rows.result =
-        let a = c.args in
-        let inside : c.loop-i.i < length (all_sets a.k) = omega (arith, c.power-count.ensures, all-length a.k) in
-        set-turn a.n a.k a.s a.query.now c.ordered_sets-sets.result c.loop-i.i c.loop-i.at c.loop-i.end c.rows_of-rows.result
-        (layout-fits a.n a.k a.s c.requires.s_value) c.ordered_sets-sets.ensures inside c.rows_of-rows.ensures
-        c.loop-i.invariant.1 c.loop-i.invariant.2 in
+    let a = c.args in
+    let inside : c.loop-i.i < length (all_sets a.k) = omega (arith, c.power-count.ensures, all-length a.k) in
+    set-turn a.n a.k a.s a.query.now c.ordered_sets-sets.result c.loop-i.i c.loop-i.at c.loop-i.end c.rows_of-rows.result
+    (layout-fits a.n a.k a.s c.requires.s_value) c.ordered_sets-sets.ensures inside c.rows_of-rows.ensures
+    c.loop-i.invariant.1 c.loop-i.invariant.2 in
     omega (arith, (turn-of).read)
 
 pub overflow_mul-end : goal.overflow_mul-end
 unfolding even_sizes
-overflow_mul-end c =    let turn-of : let a = c.args in
+overflow_mul-end c = let turn-of : let a = c.args in
     Turn a.n a.k a.s a.query.now c.loop-i.i c.loop-i.at c.loop-i.end (get_or c.ordered_sets-sets.result c.loop-i.i 0)
     c.rows_of-rows.result =
-        let a = c.args in
-        let inside : c.loop-i.i < length (all_sets a.k) = omega (arith, c.power-count.ensures, all-length a.k) in
-        set-turn a.n a.k a.s a.query.now c.ordered_sets-sets.result c.loop-i.i c.loop-i.at c.loop-i.end c.rows_of-rows.result
-        (layout-fits a.n a.k a.s c.requires.s_value) c.ordered_sets-sets.ensures inside c.rows_of-rows.ensures
-        c.loop-i.invariant.1 c.loop-i.invariant.2 in
+    let a = c.args in
+    let inside : c.loop-i.i < length (all_sets a.k) = omega (arith, c.power-count.ensures, all-length a.k) in
+    set-turn a.n a.k a.s a.query.now c.ordered_sets-sets.result c.loop-i.i c.loop-i.at c.loop-i.end c.rows_of-rows.result
+    (layout-fits a.n a.k a.s c.requires.s_value) c.ordered_sets-sets.ensures inside c.rows_of-rows.ensures
+    c.loop-i.invariant.1 c.loop-i.invariant.2 in
     let slot_small : let a = c.args in length (layout a.n a.k) * a.s < 2 ^ 32 =
-        let a = c.args in
-        let b = even-bounds a.n a.k a.s c.requires.s_value in
-        omega (arith, (even-small a.n a.k a.s b).slot, ap (λ (m : ℕ). m * a.s) (layout-length a.n a.k b.servers-low b.messages-low)) in
+    let a = c.args in
+    let b = even-bounds a.n a.k a.s c.requires.s_value in
+    omega (arith, (even-small a.n a.k a.s b).slot, ap (λ (m : ℕ). m * a.s) (layout-length a.n a.k b.servers-low b.messages-low)) in
     omega (arith, (turn-of).placed, slot_small)
 
 pub overflow_add-end : goal.overflow_add-end
 unfolding even_sizes
-overflow_add-end c =    let turn-of : let a = c.args in
+overflow_add-end c = let turn-of : let a = c.args in
     Turn a.n a.k a.s a.query.now c.loop-i.i c.loop-i.at c.loop-i.end (get_or c.ordered_sets-sets.result c.loop-i.i 0)
     c.rows_of-rows.result =
-        let a = c.args in
-        let inside : c.loop-i.i < length (all_sets a.k) = omega (arith, c.power-count.ensures, all-length a.k) in
-        set-turn a.n a.k a.s a.query.now c.ordered_sets-sets.result c.loop-i.i c.loop-i.at c.loop-i.end c.rows_of-rows.result
-        (layout-fits a.n a.k a.s c.requires.s_value) c.ordered_sets-sets.ensures inside c.rows_of-rows.ensures
-        c.loop-i.invariant.1 c.loop-i.invariant.2 in
+    let a = c.args in
+    let inside : c.loop-i.i < length (all_sets a.k) = omega (arith, c.power-count.ensures, all-length a.k) in
+    set-turn a.n a.k a.s a.query.now c.ordered_sets-sets.result c.loop-i.i c.loop-i.at c.loop-i.end c.rows_of-rows.result
+    (layout-fits a.n a.k a.s c.requires.s_value) c.ordered_sets-sets.ensures inside c.rows_of-rows.ensures
+    c.loop-i.invariant.1 c.loop-i.invariant.2 in
     let slot_small : let a = c.args in length (layout a.n a.k) * a.s < 2 ^ 32 =
-        let a = c.args in
-        let b = even-bounds a.n a.k a.s c.requires.s_value in
-        omega (arith, (even-small a.n a.k a.s b).slot, ap (λ (m : ℕ). m * a.s) (layout-length a.n a.k b.servers-low b.messages-low)) in
+    let a = c.args in
+    let b = even-bounds a.n a.k a.s c.requires.s_value in
+    omega (arith, (even-small a.n a.k a.s b).slot, ap (λ (m : ℕ). m * a.s) (layout-length a.n a.k b.servers-low b.messages-low)) in
     omega (arith, (turn-of).placed, slot_small)
 
 pub overflow_add-i : goal.overflow_add-i
@@ -259,14 +259,14 @@ pub loop-i-smaller : goal.loop-i-smaller
 loop-i-smaller c = omega arith
 
 pub loop-i-preserved : goal.loop-i-preserved
-loop-i-preserved c =    let turn-of : let a = c.args in
+loop-i-preserved c = let turn-of : let a = c.args in
     Turn a.n a.k a.s a.query.now c.loop-i.i c.loop-i.at c.loop-i.end (get_or c.ordered_sets-sets.result c.loop-i.i 0)
     c.rows_of-rows.result =
-        let a = c.args in
-        let inside : c.loop-i.i < length (all_sets a.k) = omega (arith, c.power-count.ensures, all-length a.k) in
-        set-turn a.n a.k a.s a.query.now c.ordered_sets-sets.result c.loop-i.i c.loop-i.at c.loop-i.end c.rows_of-rows.result
-        (layout-fits a.n a.k a.s c.requires.s_value) c.ordered_sets-sets.ensures inside c.rows_of-rows.ensures
-        c.loop-i.invariant.1 c.loop-i.invariant.2 in
+    let a = c.args in
+    let inside : c.loop-i.i < length (all_sets a.k) = omega (arith, c.power-count.ensures, all-length a.k) in
+    set-turn a.n a.k a.s a.query.now c.ordered_sets-sets.result c.loop-i.i c.loop-i.at c.loop-i.end c.rows_of-rows.result
+    (layout-fits a.n a.k a.s c.requires.s_value) c.ordered_sets-sets.ensures inside c.rows_of-rows.ensures
+    c.loop-i.invariant.1 c.loop-i.invariant.2 in
     let a = c.args in
     let turn = turn-of in
     let rest = place_naming a.s a.message a.symbol (set_rows (rows_from a.n a.k (c.loop-i.i + 1))
@@ -279,6 +279,6 @@ loop-i-preserved c =    let turn-of : let a = c.args in
 
 pub returns : goal.returns
 unfolding set_rows place_naming
-returns c =    let a = c.args in
+returns c = let a = c.args in
     let over : length (all_sets a.k) ≤ c.loop-i.i = omega (arith, c.power-count.ensures, all-length a.k) in
     sym (rw (rows_none a.n a.k c.loop-i.i over) at c.loop-i.invariant.3)

@@ -46,57 +46,57 @@ pub overflow_cast-size : goal.overflow_cast-size
 overflow_cast-size c = omega (arith, ones-le 8 c.args.set (search rules))
 
 pub loop-row-init : goal.loop-row-init
-loop-row-init c =    let a = c.args in
+loop-row-init c = let a = c.args in
     let place = place_naming a.s a.message a.symbol (set_rows (replicate a.rows (set_in a.k a.set)) a.numbers.now) in
     (omega arith, rw (zero-mul a.s, zero-mul (count a.set), sub-zero a.rows) (sym (later-zero place)))
 
 pub overflow_mul-at : goal.overflow_mul-at
-overflow_mul-at c =    let within : let a = c.args in
+overflow_mul-at c = let within : let a = c.args in
     (c.loop-row.row * count a.set + count a.set ≤ length a.numbers.now) × (c.loop-row.row * a.s + a.s ≤ a.rows * a.s) =
-        let a = c.args in
-        (omega (arith, slot-end c.loop-row.row a.rows (count a.set) (omega arith), c.requires.set_value), slot-end c.loop-row.row a.rows a.s (omega arith)) in
+    let a = c.args in
+    (omega (arith, slot-end c.loop-row.row a.rows (count a.set) (omega arith), c.requires.set_value), slot-end c.loop-row.row a.rows a.s (omega arith)) in
     omega (arith, within)
 
 pub slice_bounds-row_names-count : goal.slice_bounds-row_names-count
-slice_bounds-row_names-count c =    let within : let a = c.args in
+slice_bounds-row_names-count c = let within : let a = c.args in
     (c.loop-row.row * count a.set + count a.set ≤ length a.numbers.now) × (c.loop-row.row * a.s + a.s ≤ a.rows * a.s) =
-        let a = c.args in
-        (omega (arith, slot-end c.loop-row.row a.rows (count a.set) (omega arith), c.requires.set_value), slot-end c.loop-row.row a.rows a.s (omega arith)) in
+    let a = c.args in
+    (omega (arith, slot-end c.loop-row.row a.rows (count a.set) (omega arith), c.requires.set_value), slot-end c.loop-row.row a.rows a.s (omega arith)) in
     omega (arith, within)
 
 pub slice_bounds-row_names-start : goal.slice_bounds-row_names-start
-slice_bounds-row_names-start c =    let within : let a = c.args in
+slice_bounds-row_names-start c = let within : let a = c.args in
     (c.loop-row.row * count a.set + count a.set ≤ length a.numbers.now) × (c.loop-row.row * a.s + a.s ≤ a.rows * a.s) =
-        let a = c.args in
-        (omega (arith, slot-end c.loop-row.row a.rows (count a.set) (omega arith), c.requires.set_value), slot-end c.loop-row.row a.rows a.s (omega arith)) in
+    let a = c.args in
+    (omega (arith, slot-end c.loop-row.row a.rows (count a.set) (omega arith), c.requires.set_value), slot-end c.loop-row.row a.rows a.s (omega arith)) in
     omega (arith, within)
 
 pub slice_bounds-row_names-end : goal.slice_bounds-row_names-end
-slice_bounds-row_names-end c =    let within : let a = c.args in
+slice_bounds-row_names-end c = let within : let a = c.args in
     (c.loop-row.row * count a.set + count a.set ≤ length a.numbers.now) × (c.loop-row.row * a.s + a.s ≤ a.rows * a.s) =
-        let a = c.args in
-        (omega (arith, slot-end c.loop-row.row a.rows (count a.set) (omega arith), c.requires.set_value), slot-end c.loop-row.row a.rows a.s (omega arith)) in
+    let a = c.args in
+    (omega (arith, slot-end c.loop-row.row a.rows (count a.set) (omega arith), c.requires.set_value), slot-end c.loop-row.row a.rows a.s (omega arith)) in
     omega (arith, within)
 
 pub row_names-requires : goal.row_names-requires
-row_names-requires c =    let within : let a = c.args in
+row_names-requires c = let within : let a = c.args in
     (c.loop-row.row * count a.set + count a.set ≤ length a.numbers.now) × (c.loop-row.row * a.s + a.s ≤ a.rows * a.s) =
-        let a = c.args in
-        (omega (arith, slot-end c.loop-row.row a.rows (count a.set) (omega arith), c.requires.set_value), slot-end c.loop-row.row a.rows a.s (omega arith)) in
+    let a = c.args in
+    (omega (arith, slot-end c.loop-row.row a.rows (count a.set) (omega arith), c.requires.set_value), slot-end c.loop-row.row a.rows a.s (omega arith)) in
     let a = c.args in
     let from = c.loop-row.row * count a.set in
     rw (to_end a.numbers.now from)
     (omega (arith, members-length 0 (set_in a.k a.set), c.requires.set_value, length-drop from a.numbers.now, within))
 
 pub overflow_mul-result : goal.overflow_mul-result
-overflow_mul-result c =    let within : let a = c.args in
+overflow_mul-result c = let within : let a = c.args in
     (c.loop-row.row * count a.set + count a.set ≤ length a.numbers.now) × (c.loop-row.row * a.s + a.s ≤ a.rows * a.s) =
-        let a = c.args in
-        (omega (arith, slot-end c.loop-row.row a.rows (count a.set) (omega arith), c.requires.set_value), slot-end c.loop-row.row a.rows a.s (omega arith)) in
+    let a = c.args in
+    (omega (arith, slot-end c.loop-row.row a.rows (count a.set) (omega arith), c.requires.set_value), slot-end c.loop-row.row a.rows a.s (omega arith)) in
     omega (arith, within, c.requires.s_bound)
 
 pub returns-then-row_names : goal.returns-then-row_names
-returns-then-row_names c =    let a = c.args in
+returns-then-row_names c = let a = c.args in
     sym (row-decides (goal.at.returns-then-row_names c).After-row_names _ c.if-row_names.true ∙ ap At (add-zero (c.loop-row.row * a.s)))
 
 pub overflow_add-row : goal.overflow_add-row
@@ -106,7 +106,7 @@ pub loop-row-smaller : goal.loop-row-smaller
 loop-row-smaller c = omega arith
 
 pub loop-row-preserved : goal.loop-row-preserved
-loop-row-preserved c =    let a = c.args in
+loop-row-preserved c = let a = c.args in
     let row = c.loop-row.row in
     let rest = place_naming a.s a.message a.symbol
     (set_rows (replicate (a.rows - (row + 1)) (set_in a.k a.set)) (drop ((row + 1) * count a.set) a.numbers.now)) in
@@ -115,6 +115,6 @@ loop-row-preserved c =    let a = c.args in
 
 pub returns : goal.returns
 unfolding set_rows place_naming
-returns c =    let a = c.args in
+returns c = let a = c.args in
     let none : a.rows - c.loop-row.row ≡ 0 = omega arith in
     sym (rw none at c.loop-row.invariant.1)

@@ -5,12 +5,12 @@ use Rattle.even_query.proofs.Entries.{entries-start, entries-more, entries-done,
 use Rattle.even_query.proofs.look_up.Goals as goal
 
 pub loop-i-init : goal.loop-i-init
-loop-i-init c =    let a = c.args in
+loop-i-init c = let a = c.args in
     let all = entries-length a.symbols a.key.now a.messages.now a.places.now c.requires.0.even in
     (omega arith, rw (entries-start a.symbols a.key.now a.messages.now a.places.now) (pending-start (omega (arith, all, c.requires.1))))
 
 pub bounds-messages-i : goal.bounds-messages-i
-bounds-messages-i c =    let a = c.args in
+bounds-messages-i c = let a = c.args in
     let k = c.requires.0 in
     omega (arith, k.even, k.inside c.loop-i.i (omega arith))
 
@@ -24,17 +24,17 @@ pub overflow_cast-place : goal.overflow_cast-place
 overflow_cast-place c = omega (arith, c.type_inv.places c.loop-i.i)
 
 pub overflow_mul-out : goal.overflow_mul-out
-overflow_mul-out c =    let a = c.args in
+overflow_mul-out c = let a = c.args in
     let k = c.requires.0 in
     omega (arith, k.even, k.inside c.loop-i.i (omega arith))
 
 pub overflow_add-out : goal.overflow_add-out
-overflow_add-out c =    let a = c.args in
+overflow_add-out c = let a = c.args in
     let k = c.requires.0 in
     omega (arith, k.even, k.inside c.loop-i.i (omega arith))
 
 pub bounds-key-p : goal.bounds-key-p
-bounds-key-p c =    let a = c.args in
+bounds-key-p c = let a = c.args in
     let k = c.requires.0 in
     omega (arith, k.even, k.inside c.loop-i.i (omega arith))
 
@@ -48,7 +48,7 @@ pub loop-i-smaller : goal.loop-i-smaller
 loop-i-smaller c = omega arith
 
 pub loop-i-preserved : goal.loop-i-preserved
-loop-i-preserved c =    let a = c.args in
+loop-i-preserved c = let a = c.args in
     let i = c.loop-i.i in (
       omega arith,
       pending-byte
@@ -59,5 +59,5 @@ pub shape_of-out : goal.shape_of-out
 shape_of-out c = c.loop-i.invariant.1.long
 
 pub returns : goal.returns
-returns c =    let a = c.args in
+returns c = let a = c.args in
     pending_done (rw (entries-done a.symbols c.loop-i.i a.key.now a.messages.now a.places.now (omega arith)) at c.loop-i.invariant.1)

@@ -5,22 +5,22 @@ use Rattle.even_query.proofs.place.Goals as goal
 
 pub place_in-requires : goal.place_in-requires
 unfolding origin_place
-place_in-requires c =    let a = c.args in
+place_in-requires c = let a = c.args in
     let w = c.requires.1 in
     (c.requires.0, w.block-low, c.requires.2, w.some, rw (eq-eqb a.p a.wanted c.if-p-wanted.true) at c.requires.4)
 
 pub returns-then-p-wanted : goal.returns-then-p-wanted
 unfolding origin_place
-returns-then-p-wanted c =    let a = c.args in
+returns-then-p-wanted c = let a = c.args in
     rw (eq-eqb a.p a.wanted c.if-p-wanted.true) c.place_in.ensures
 
 pub place_in-requires-2 : goal.place_in-requires-2
 unfolding origin_place
-place_in-requires-2 c =    let a = c.args in
+place_in-requires-2 c = let a = c.args in
     let w = c.requires.1 in
     (c.requires.0, w.source-low, c.requires.2, w.some, rw (ne_eqb a.p a.wanted c.if-p-wanted.false) at c.requires.4)
 
 pub returns : goal.returns
 unfolding origin_place
-returns c =    let a = c.args in
+returns c = let a = c.args in
     rw (ne_eqb a.p a.wanted c.if-p-wanted.false) c.place_in-2.ensures

@@ -24,7 +24,7 @@ slice_bounds-table-end c =
     let bytes = map byte_of (all_sets c.args.k) in
     let more = replicate (256 - length bytes) 0 in
     let sets-many : length bytes ≡ c.power-count.result - 1 =
-        all-bytes c.args.k c.power-count.result c.power-count.ensures in
+    all-bytes c.args.k c.power-count.result c.power-count.ensures in
     front_fits (c.power-count.result - 1) c.ordered_sets-table.result bytes more c.ordered_sets-table.ensures (sets-many)
 
 pub slice_bounds-sets-end : goal.slice_bounds-sets-end
@@ -32,9 +32,9 @@ slice_bounds-sets-end c =
     let bytes = map byte_of (all_sets c.args.k) in
     let more = replicate (256 - length bytes) 0 in
     let sets-many : length bytes ≡ c.power-count.result - 1 =
-        all-bytes c.args.k c.power-count.result c.power-count.ensures in
+    all-bytes c.args.k c.power-count.result c.power-count.ensures in
     let sets-front : take (c.power-count.result - 1) c.ordered_sets-table.result ≡ map byte_of (all_sets c.args.k) =
-        front-is (c.power-count.result - 1) c.ordered_sets-table.result bytes more c.ordered_sets-table.ensures (sets-many) in
+    front-is (c.power-count.result - 1) c.ordered_sets-table.result bytes more c.ordered_sets-table.ensures (sets-many) in
     sym (ap length (sets-front) ∙ sets-many)
 
 pub totals-totals-requires : goal.totals-totals-requires
@@ -42,14 +42,14 @@ totals-totals-requires c =
     let bytes = map byte_of (all_sets c.args.k) in
     let more = replicate (256 - length bytes) 0 in
     let sets-many : length bytes ≡ c.power-count.result - 1 =
-        all-bytes c.args.k c.power-count.result c.power-count.ensures in
+    all-bytes c.args.k c.power-count.result c.power-count.ensures in
     let sets-front : take (c.power-count.result - 1) c.ordered_sets-table.result ≡ map byte_of (all_sets c.args.k) =
-        front-is (c.power-count.result - 1) c.ordered_sets-table.result bytes more c.ordered_sets-table.ensures (sets-many) in
+    front-is (c.power-count.result - 1) c.ordered_sets-table.result bytes more c.ordered_sets-table.ensures (sets-many) in
     let p = c.requires in
     (p.bounds.messages-high, p.message, sets-front)
 
 pub takings-taken-requires : goal.takings-taken-requires
-takings-taken-requires c =    let a = c.args in
+takings-taken-requires c = let a = c.args in
     let p = c.requires in
     let e = c.totals-totals.ensures in (
       omega (arith, p.bounds.servers-low),
@@ -64,10 +64,10 @@ write_sets-requires c =
     let bytes = map byte_of (all_sets c.args.k) in
     let more = replicate (256 - length bytes) 0 in
     let sets-many : length bytes ≡ c.power-count.result - 1 =
-        all-bytes c.args.k c.power-count.result c.power-count.ensures in
+    all-bytes c.args.k c.power-count.result c.power-count.ensures in
     let sets-front : take (c.power-count.result - 1) c.ordered_sets-table.result ≡ map byte_of (all_sets c.args.k) =
-        front-is (c.power-count.result - 1) c.ordered_sets-table.result bytes more c.ordered_sets-table.ensures (sets-many) in
-    let totals = c.totals-totals in 
+    front-is (c.power-count.result - 1) c.ordered_sets-table.result bytes more c.ordered_sets-table.ensures (sets-many) in
+    let totals = c.totals-totals in
     let a = c.args in
     let p = c.requires in
     let are = places-are a.n a.k a.wanted a.server p c.totals-totals.result c.totals-totals.ensures in (
@@ -82,8 +82,8 @@ write_sets-requires c =
     )
 
 pub returns : goal.returns
-returns c =    let a = c.args in
-    let totals = c.totals-totals in 
+returns c = let a = c.args in
+    let totals = c.totals-totals in
     c.write_sets.ensures
     ∙ ap (λ (l : List ℕ). put 0 l (replicate 1024 0)) (places-are a.n a.k a.wanted a.server c.requires c.totals-totals.result c.totals-totals.ensures)
     ∙ put-padded (map (λ cell. cell.1) (query_cells a.n a.k a.wanted a.server)) 1024

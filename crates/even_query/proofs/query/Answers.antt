@@ -12,7 +12,7 @@ use Rattle.even_query.proofs.Whole.{places-length, messages-length, query-room, 
 use Rattle.even_query.proofs.query.Goals as goal
 
 pub power-requires : goal.power-requires
-power-requires c =    let a = c.args in
+power-requires c = let a = c.args in
     let p = c.requires.0 in
     let less : a.n ^ (a.k - 1) ≤ a.n ^ a.k = pow-le-pow_right {n = a.n} (omega (arith, p.bounds.servers-low)) (omega arith) in
     omega (arith, p.bounds.symbols-high)
@@ -21,7 +21,7 @@ pub overflow_mul-count : goal.overflow_mul-count
 overflow_mul-count c =
     let many = c.args.k * c.power.result in
     let count-is : many ≡ c.args.k * c.args.n ^ (c.args.k - 1) =
-        ap (λ (x : ℕ). c.args.k * x) c.power.ensures in
+    ap (λ (x : ℕ). c.args.k * x) c.power.ensures in
     let a = c.args in
     omega (arith, count-is, query-room a.n a.k a.wanted a.server c.requires.0)
 
@@ -33,9 +33,9 @@ slice_bounds-messages-end c =
     let many = c.args.k * c.power.result in
     let messages = «positions» c.args.n c.args.k in
     let count-is : many ≡ c.args.k * c.args.n ^ (c.args.k - 1) =
-        ap (λ (x : ℕ). c.args.k * x) c.power.ensures in
+    ap (λ (x : ℕ). c.args.k * x) c.power.ensures in
     let messages-many : length messages ≡ many =
-        let a = c.args in messages-length a.n a.k a.wanted a.server c.requires.0 ∙ sym (count-is) in
+    let a = c.args in messages-length a.n a.k a.wanted a.server c.requires.0 ∙ sym (count-is) in
     front_fits many c.positions-messages.result messages (replicate (1024 - length messages) 0)
     c.positions-messages.ensures (messages-many)
 
@@ -44,12 +44,12 @@ slice_bounds-look_up-end c =
     let many = c.args.k * c.power.result in
     let messages = «positions» c.args.n c.args.k in
     let count-is : many ≡ c.args.k * c.args.n ^ (c.args.k - 1) =
-        ap (λ (x : ℕ). c.args.k * x) c.power.ensures in
+    ap (λ (x : ℕ). c.args.k * x) c.power.ensures in
     let messages-many : length messages ≡ many =
-        let a = c.args in messages-length a.n a.k a.wanted a.server c.requires.0 ∙ sym (count-is) in
+    let a = c.args in messages-length a.n a.k a.wanted a.server c.requires.0 ∙ sym (count-is) in
     let messages-front : take many c.positions-messages.result ≡ messages =
-        front-is many c.positions-messages.result messages (replicate (1024 - length messages) 0)
-        c.positions-messages.ensures (messages-many) in
+    front-is many c.positions-messages.result messages (replicate (1024 - length messages) 0)
+    c.positions-messages.ensures (messages-many) in
     sym (ap length (messages-front) ∙ messages-many)
 
 pub slice_bounds-places-end : goal.slice_bounds-places-end
@@ -57,9 +57,9 @@ slice_bounds-places-end c =
     let many = c.args.k * c.power.result in
     let places = map (λ cell. cell.1) (query_cells c.args.n c.args.k c.args.wanted c.args.server) in
     let count-is : many ≡ c.args.k * c.args.n ^ (c.args.k - 1) =
-        ap (λ (x : ℕ). c.args.k * x) c.power.ensures in
+    ap (λ (x : ℕ). c.args.k * x) c.power.ensures in
     let places-many : length places ≡ many =
-        let a = c.args in places-length a.n a.k a.wanted a.server c.requires.0 ∙ sym (count-is) in
+    let a = c.args in places-length a.n a.k a.wanted a.server c.requires.0 ∙ sym (count-is) in
     front_fits many c.places-places.result places (replicate (1024 - length places) 0)
     c.places-places.ensures (places-many)
 
@@ -68,12 +68,12 @@ slice_bounds-look_up-end-2 c =
     let many = c.args.k * c.power.result in
     let places = map (λ cell. cell.1) (query_cells c.args.n c.args.k c.args.wanted c.args.server) in
     let count-is : many ≡ c.args.k * c.args.n ^ (c.args.k - 1) =
-        ap (λ (x : ℕ). c.args.k * x) c.power.ensures in
+    ap (λ (x : ℕ). c.args.k * x) c.power.ensures in
     let places-many : length places ≡ many =
-        let a = c.args in places-length a.n a.k a.wanted a.server c.requires.0 ∙ sym (count-is) in
+    let a = c.args in places-length a.n a.k a.wanted a.server c.requires.0 ∙ sym (count-is) in
     let places-front : take many c.places-places.result ≡ places =
-        front-is many c.places-places.result places (replicate (1024 - length places) 0)
-        c.places-places.ensures (places-many) in
+    front-is many c.places-places.result places (replicate (1024 - length places) 0)
+    c.places-places.ensures (places-many) in
     sym (ap length (places-front) ∙ places-many)
 
 pub look_up-requires : goal.look_up-requires
@@ -82,17 +82,17 @@ look_up-requires c =
     let messages = «positions» c.args.n c.args.k in
     let places = map (λ cell. cell.1) (query_cells c.args.n c.args.k c.args.wanted c.args.server) in
     let count-is : many ≡ c.args.k * c.args.n ^ (c.args.k - 1) =
-        ap (λ (x : ℕ). c.args.k * x) c.power.ensures in
+    ap (λ (x : ℕ). c.args.k * x) c.power.ensures in
     let messages-many : length messages ≡ many =
-        let a = c.args in messages-length a.n a.k a.wanted a.server c.requires.0 ∙ sym (count-is) in
+    let a = c.args in messages-length a.n a.k a.wanted a.server c.requires.0 ∙ sym (count-is) in
     let places-many : length places ≡ many =
-        let a = c.args in places-length a.n a.k a.wanted a.server c.requires.0 ∙ sym (count-is) in
+    let a = c.args in places-length a.n a.k a.wanted a.server c.requires.0 ∙ sym (count-is) in
     let messages-front : take many c.positions-messages.result ≡ messages =
-        front-is many c.positions-messages.result messages (replicate (1024 - length messages) 0)
-        c.positions-messages.ensures (messages-many) in
+    front-is many c.positions-messages.result messages (replicate (1024 - length messages) 0)
+    c.positions-messages.ensures (messages-many) in
     let places-front : take many c.places-places.result ≡ places =
-        front-is many c.places-places.result places (replicate (1024 - length places) 0)
-        c.places-places.ensures (places-many) in
+    front-is many c.places-places.result places (replicate (1024 - length places) 0)
+    c.places-places.ensures (places-many) in
     let a = c.args in (
       rw (c.power-2.ensures, messages-front, places-front)
           (keyed a.n a.k a.wanted a.server c.requires.0 a.key.now c.requires.1),
@@ -105,17 +105,17 @@ returns c =
     let messages = «positions» c.args.n c.args.k in
     let places = map (λ cell. cell.1) (query_cells c.args.n c.args.k c.args.wanted c.args.server) in
     let count-is : many ≡ c.args.k * c.args.n ^ (c.args.k - 1) =
-        ap (λ (x : ℕ). c.args.k * x) c.power.ensures in
+    ap (λ (x : ℕ). c.args.k * x) c.power.ensures in
     let messages-many : length messages ≡ many =
-        let a = c.args in messages-length a.n a.k a.wanted a.server c.requires.0 ∙ sym (count-is) in
+    let a = c.args in messages-length a.n a.k a.wanted a.server c.requires.0 ∙ sym (count-is) in
     let places-many : length places ≡ many =
-        let a = c.args in places-length a.n a.k a.wanted a.server c.requires.0 ∙ sym (count-is) in
+    let a = c.args in places-length a.n a.k a.wanted a.server c.requires.0 ∙ sym (count-is) in
     let messages-front : take many c.positions-messages.result ≡ messages =
-        front-is many c.positions-messages.result messages (replicate (1024 - length messages) 0)
-        c.positions-messages.ensures (messages-many) in
+    front-is many c.positions-messages.result messages (replicate (1024 - length messages) 0)
+    c.positions-messages.ensures (messages-many) in
     let places-front : take many c.places-places.result ≡ places =
-        front-is many c.places-places.result places (replicate (1024 - length places) 0)
-        c.places-places.ensures (places-many) in
+    front-is many c.places-places.result places (replicate (1024 - length places) 0)
+    c.places-places.ensures (places-many) in
     let a = c.args in
     let found =
     rw (c.power-2.ensures, messages-front, places-front) at c.look_up.ensures in

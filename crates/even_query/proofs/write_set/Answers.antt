@@ -18,11 +18,11 @@ pub overflow_cast-ones : goal.overflow_cast-ones
 overflow_cast-ones c = omega (arith, ones-le 8 c.args.set (search rules))
 
 pub is_joined-joins-requires : goal.is_joined-joins-requires
-is_joined-joins-requires c =    let asks = c.requires.0 in
+is_joined-joins-requires c = let asks = c.requires.0 in
     omega (arith, asks.message, asks.bounds.messages-high)
 
 pub rows_of-rows-requires : goal.rows_of-rows-requires
-rows_of-rows-requires c =    let a = c.args in
+rows_of-rows-requires c = let a = c.args in
     let asks = c.requires.0 in
     let stands = c.requires.2 in (
       omega (arith, asks.bounds.servers-low),
@@ -31,12 +31,12 @@ rows_of-rows-requires c =    let a = c.args in
     )
 
 pub loop-i-init : goal.loop-i-init
-loop-i-init c =    let a = c.args in
+loop-i-init c = let a = c.args in
     let all = rows_start a.n a.wanted a.server a.totals.now a.ranks.now (set_in a.k a.set) in
     (omega arith, rw all c.requires.4, rw all (pending-start c.requires.5))
 
 pub origin-o-requires : goal.origin-o-requires
-origin-o-requires c =    let a = c.args in
+origin-o-requires c = let a = c.args in
     let asks = c.requires.0 in
     let stands = c.requires.2 in (
       asks.bounds.servers-low,
@@ -49,18 +49,18 @@ origin-o-requires c =    let a = c.args in
     )
 
 pub write_row-end-requires : goal.write_row-end-requires
-write_row-end-requires c =    let rows_at : let a = c.args in
+write_row-end-requires c = let rows_at : let a = c.args in
     c.rows_of-rows.result ≡ (a.n - 1) ^ (ones_in (set_in a.k a.set) - 1) =
-        let a = c.args in
-        c.rows_of-rows.ensures ∙ ap (λ (m : ℕ). (a.n - 1) ^ (m - 1)) (stands-count a.k a.set c.requires.2) in
+    let a = c.args in
+    c.rows_of-rows.ensures ∙ ap (λ (m : ℕ). (a.n - 1) ^ (m - 1)) (stands-count a.k a.set c.requires.2) in
     let turn_at : let a = c.args in
-    let loop = c.loop-i in 
+    let loop = c.loop-i in
     RowTurn a.n a.k a.wanted a.server a.set c.loop-i.i a.totals.now a.ranks.now c.origin-o.result
     a.at (set_places a.n a.wanted a.server a.totals.now a.ranks.now (set_in a.k a.set)) a.out.now c.loop-i.end c.loop-i.out =
-        let joined = c.is_joined-joins in 
-        let asks = c.requires.0 in
-        row-turn c.requires.2 asks.bounds.servers-low asks.bounds.messages-high (omega (arith, rows_at)) c.is_joined-joins.ensures c.origin-o.ensures
-        c.loop-i.invariant.1 c.loop-i.invariant.2 in
+    let joined = c.is_joined-joins in
+    let asks = c.requires.0 in
+    row-turn c.requires.2 asks.bounds.servers-low asks.bounds.messages-high (omega (arith, rows_at)) c.is_joined-joins.ensures c.origin-o.ensures
+    c.loop-i.invariant.1 c.loop-i.invariant.2 in
     let t = turn_at in
     (c.requires.1, t.within, c.requires.0.bounds.messages-high, c.requires.3, t.small, t.room)
 
@@ -71,18 +71,18 @@ pub loop-i-smaller : goal.loop-i-smaller
 loop-i-smaller c = omega arith
 
 pub loop-i-preserved : goal.loop-i-preserved
-loop-i-preserved c =    let rows_at : let a = c.args in
+loop-i-preserved c = let rows_at : let a = c.args in
     c.rows_of-rows.result ≡ (a.n - 1) ^ (ones_in (set_in a.k a.set) - 1) =
-        let a = c.args in
-        c.rows_of-rows.ensures ∙ ap (λ (m : ℕ). (a.n - 1) ^ (m - 1)) (stands-count a.k a.set c.requires.2) in
+    let a = c.args in
+    c.rows_of-rows.ensures ∙ ap (λ (m : ℕ). (a.n - 1) ^ (m - 1)) (stands-count a.k a.set c.requires.2) in
     let turn_at : let a = c.args in
-    let loop = c.loop-i in 
+    let loop = c.loop-i in
     RowTurn a.n a.k a.wanted a.server a.set c.loop-i.i a.totals.now a.ranks.now c.origin-o.result
     a.at (set_places a.n a.wanted a.server a.totals.now a.ranks.now (set_in a.k a.set)) a.out.now c.loop-i.end c.loop-i.out =
-        let joined = c.is_joined-joins in 
-        let asks = c.requires.0 in
-        row-turn c.requires.2 asks.bounds.servers-low asks.bounds.messages-high (omega (arith, rows_at)) c.is_joined-joins.ensures c.origin-o.ensures
-        c.loop-i.invariant.1 c.loop-i.invariant.2 in
+    let joined = c.is_joined-joins in
+    let asks = c.requires.0 in
+    row-turn c.requires.2 asks.bounds.servers-low asks.bounds.messages-high (omega (arith, rows_at)) c.is_joined-joins.ensures c.origin-o.ensures
+    c.loop-i.invariant.1 c.loop-i.invariant.2 in
     let t = turn_at in
     let written = c.write_row-end.ensures in
     (omega arith, t.rest-small, pending-as c.write_row-end.ensures.0 refl c.write_row-end.ensures.1 t.rest)
@@ -91,10 +91,10 @@ pub shape_of-out : goal.shape_of-out
 shape_of-out c = c.loop-i.invariant.2.long
 
 pub returns : goal.returns
-returns c =    let rows_at : let a = c.args in
+returns c = let rows_at : let a = c.args in
     c.rows_of-rows.result ≡ (a.n - 1) ^ (ones_in (set_in a.k a.set) - 1) =
-        let a = c.args in
-        c.rows_of-rows.ensures ∙ ap (λ (m : ℕ). (a.n - 1) ^ (m - 1)) (stands-count a.k a.set c.requires.2) in
+    let a = c.args in
+    c.rows_of-rows.ensures ∙ ap (λ (m : ℕ). (a.n - 1) ^ (m - 1)) (stands-count a.k a.set c.requires.2) in
     let a = c.args in
     let done = rows-done a.n a.wanted a.server a.totals.now a.ranks.now (set_in a.k a.set) c.loop-i.i (omega (arith, rows_at)) in
     let left = rw done at c.loop-i.invariant.2 in

@@ -21,7 +21,7 @@ pub bounds-counts-p : goal.bounds-counts-p
 bounds-counts-p c = omega arith
 
 pub overflow_add-counts : goal.overflow_add-counts
-overflow_add-counts c =    let p = c.loop-p.p in
+overflow_add-counts c = let p = c.loop-p.p in
     omega (arith, c.loop-p.invariant.2 p (omega arith), c.requires.1 p (omega arith), mod-lt c.loop-p.rest {m = 2} (omega arith))
 
 pub bounds-counts-p-in-loop-p : goal.bounds-counts-p-in-loop-p
@@ -34,7 +34,7 @@ pub loop-p-smaller : goal.loop-p-smaller
 loop-p-smaller c = omega arith
 
 pub loop-p-preserved : goal.loop-p-preserved
-loop-p-preserved c =    let counts = c.loop-p.counts in
+loop-p-preserved c = let counts = c.loop-p.counts in
     let p = c.loop-p.p in
     let next = get_or counts p 0 + c.loop-p.rest % 2 in (
       omega arith,
@@ -47,7 +47,7 @@ pub shape_of-counts : goal.shape_of-counts
 shape_of-counts c = omega arith
 
 pub returns : goal.returns
-returns c =    let counts = c.loop-p.counts in
+returns c = let counts = c.loop-p.counts in
     let all : c.loop-p.p ≡ c.args.k = omega arith in
     sym (ap (λ (p : ℕ). counts_from c.args.k p c.loop-p.rest counts) all
     ∙ counts-done c.args.k c.loop-p.rest counts c.loop-p.invariant.1)

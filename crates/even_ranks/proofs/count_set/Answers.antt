@@ -11,26 +11,26 @@ use Rattle.even_ranks.proofs.Steps.{stands-count, lent, counted-part}
 use Rattle.even_ranks.proofs.count_set.Goals as goal
 
 pub counters_of-at-requires : goal.counters_of-at-requires
-counters_of-at-requires c =    let a = c.args in
+counters_of-at-requires c = let a = c.args in
     (omega (arith, c.requires.0, c.requires.1), omega (arith, stands-count a.k a.set c.requires.2, c.requires.2.some))
 
 pub overflow_add-at : goal.overflow_add-at
-overflow_add-at c =    let a = c.args in
+overflow_add-at c = let a = c.args in
     let l = lent a.k a.wanted a.set c.counters_of-at.result c.requires.0 c.requires.2 c.counters_of-at.ensures in
     omega (arith, l.fits)
 
 pub offset_bounds-counts-at : goal.offset_bounds-counts-at
-offset_bounds-counts-at c =    let a = c.args in
+offset_bounds-counts-at c = let a = c.args in
     let l = lent a.k a.wanted a.set c.counters_of-at.result c.requires.0 c.requires.2 c.counters_of-at.ensures in
     omega (arith, l.fits)
 
 pub slice_bounds-count_members-end : goal.slice_bounds-count_members-end
-slice_bounds-count_members-end c =    let a = c.args in
+slice_bounds-count_members-end c = let a = c.args in
     let l = lent a.k a.wanted a.set c.counters_of-at.result c.requires.0 c.requires.2 c.counters_of-at.ensures in
     omega (arith, l.fits, c.requires.3)
 
 pub count_members-requires : goal.count_members-requires
-count_members-requires c =    let a = c.args in
+count_members-requires c = let a = c.args in
     let at = c.counters_of-at.result in
     let counts = a.counts.now in
     let l = lent a.k a.wanted a.set c.counters_of-at.result c.requires.0 c.requires.2 c.counters_of-at.ensures in
@@ -42,7 +42,7 @@ count_members-requires c =    let a = c.args in
     )
 
 pub returns : goal.returns
-returns c =    let a = c.args in
+returns c = let a = c.args in
     let at = c.counters_of-at.result in
     let counts = a.counts.now in
     let l = lent a.k a.wanted a.set c.counters_of-at.result c.requires.0 c.requires.2

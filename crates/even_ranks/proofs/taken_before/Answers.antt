@@ -16,10 +16,10 @@ loop-j-init c = (
 )
 
 pub takers-requires : goal.takers-requires
-takers-requires c =    (omega arith, c.requires.3, c.requires.4)
+takers-requires c = (omega arith, c.requires.3, c.requires.4)
 
 pub overflow_mul-sum : goal.overflow_mul-sum
-overflow_mul-sum c =    let a = c.args in
+overflow_mul-sum c = let a = c.args in
     let j = c.loop-j.j in
     let share = share-small a.n a.wanted a.totals.now c.requires.1 c.requires.4 c.requires.5 a.p c.requires.3 j (omega arith) in
     let same : c.loop-j.rows * c.takers.result ≡ (a.n - 1) ^ j * takers a.wanted a.totals.now j a.p =
@@ -27,7 +27,7 @@ overflow_mul-sum c =    let a = c.args in
     omega arith
 
 pub overflow_add-sum : goal.overflow_add-sum
-overflow_add-sum c =    let a = c.args in
+overflow_add-sum c = let a = c.args in
     let j = c.loop-j.j in
     let share = share-small a.n a.wanted a.totals.now c.requires.1 c.requires.4 c.requires.5 a.p c.requires.3 j (omega arith) in
     let same : c.loop-j.rows * c.takers.result ≡ (a.n - 1) ^ j * takers a.wanted a.totals.now j a.p =
@@ -39,7 +39,7 @@ pub overflow_sub-rows : goal.overflow_sub-rows
 overflow_sub-rows c = omega arith
 
 pub overflow_mul-rows : goal.overflow_mul-rows
-overflow_mul-rows c =    let a = c.args in
+overflow_mul-rows c = let a = c.args in
     let j = c.loop-j.j in
     let high = rows-small a.n a.wanted a.totals.now c.requires.1 c.requires.4 c.requires.5 a.p c.requires.3 (suc j) (omega arith) in
     omega (arith, pow-suc (a.n - 1) j, ap (λ (x : ℕ). x * (a.n - 1)) c.loop-j.invariant.2)
@@ -51,7 +51,7 @@ pub loop-j-smaller : goal.loop-j-smaller
 loop-j-smaller c = omega arith
 
 pub loop-j-preserved : goal.loop-j-preserved
-loop-j-preserved c =    let a = c.args in
+loop-j-preserved c = let a = c.args in
     let j = c.loop-j.j in (
       omega arith,
       ap₂ (λ (x y : ℕ). x + y) c.loop-j.invariant.1 (ap₂ (λ (x y : ℕ). x * y) c.loop-j.invariant.2 c.takers.ensures)
@@ -60,6 +60,6 @@ loop-j-preserved c =    let a = c.args in
     )
 
 pub returns : goal.returns
-returns c =    let a = c.args in
+returns c = let a = c.args in
     let all : c.loop-j.j ≡ a.block = omega arith in
     c.loop-j.invariant.1 ∙ ap (λ (j : ℕ). taken a.n a.wanted a.totals.now j a.p) all

@@ -10,10 +10,10 @@ use Rattle.even_ranks.proofs.takers.Goals as goal
 
 pub returns-then-p-wanted : goal.returns-then-p-wanted
 unfolding takers counter bit
-returns-then-p-wanted c =    let at = c.args in
+returns-then-p-wanted c = let at = c.args in
     rw (eq-eqb at.p at.wanted c.if-p-wanted.true) (ap (λ (i : ℕ). get_or at.totals.now i 0) (omega arith))
 
 pub returns : goal.returns
 unfolding takers counter bit
-returns c =    let at = c.args in
+returns c = let at = c.args in
     rw (ne_eqb at.p at.wanted c.if-p-wanted.false) (ap (λ (i : ℕ). get_or at.totals.now i 0) (omega arith))

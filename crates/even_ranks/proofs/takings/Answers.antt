@@ -14,7 +14,7 @@ pub loop-i-init : goal.loop-i-init
 loop-i-init c = (omega arith, refl, table-start c.args.n c.args.wanted c.args.totals.now)
 
 pub taken_before-requires : goal.taken_before-requires
-taken_before-requires c =    let i = c.loop-i.i in
+taken_before-requires c = let i = c.loop-i.i in
     let block : i / 8 < 8 = (div-lt_iff_lt-mul {k = 8} (omega arith)).1 (omega arith) in
     let message = mod-lt i {m = 8} (omega arith) in
     (c.requires.0, c.requires.1, omega arith, omega arith, c.requires.2, c.requires.3)
@@ -32,7 +32,7 @@ pub loop-i-smaller : goal.loop-i-smaller
 loop-i-smaller c = omega arith
 
 pub loop-i-preserved : goal.loop-i-preserved
-loop-i-preserved c =    let a = c.args in
+loop-i-preserved c = let a = c.args in
     let i = c.loop-i.i in (
       omega arith,
       simp length-set c.loop-i.invariant.1,
@@ -42,7 +42,7 @@ loop-i-preserved c =    let a = c.args in
     )
 
 pub returns : goal.returns
-returns c =    let a = c.args in
+returns c = let a = c.args in
     let table = c.loop-i.table in
     let all : c.loop-i.i ≡ 64 = omega arith in
     sym (ap (λ (i : ℕ). take i table ++ taken_from a.n a.wanted a.totals.now i) all

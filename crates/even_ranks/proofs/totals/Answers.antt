@@ -26,7 +26,7 @@ pub slice_bounds-count_set-end : goal.slice_bounds-count_set-end
 slice_bounds-count_set-end c = sym c.loop-i.invariant.1
 
 pub count_set-requires : goal.count_set-requires
-count_set-requires c =    let a = c.args in
+count_set-requires c = let a = c.args in
     let few : length a.sets.now ≤ 255 =
     omega (arith, ap length c.requires.2, length-map (all_sets a.k) byte_of, all-length a.k, subsets-few a.k c.requires.0) in (
       c.requires.0,
@@ -43,7 +43,7 @@ pub loop-i-smaller : goal.loop-i-smaller
 loop-i-smaller c = omega arith
 
 pub loop-i-preserved : goal.loop-i-preserved
-loop-i-preserved c =    let a = c.args in
+loop-i-preserved c = let a = c.args in
     let i = c.loop-i.i in
     let A = set_in a.k (get_or a.sets.now i 0) in
     let here = stands_at a.k i a.sets.now (omega (arith, c.requires.1)) c.requires.0 c.requires.2 (omega arith) in
@@ -59,6 +59,6 @@ loop-i-preserved c =    let a = c.args in
 
 pub returns : goal.returns
 unfolding counted_all
-returns c =    let a = c.args in
+returns c = let a = c.args in
     let all : length (all_sets a.k) ≤ c.loop-i.i = omega (arith, ap length c.requires.2, length-map (all_sets a.k) byte_of) in
     rw (drop_of_length-le (all_sets a.k) all) at c.loop-i.invariant.3

@@ -14,21 +14,21 @@ use Rattle.lists.proofs.Assembled.{assemble-none, assemble-part}
 use Rattle.even_recover.proofs.from_group.Goals as goal
 
 pub loop-i-init : goal.loop-i-init
-loop-i-init c =    let at = c.args in (
-      omega arith,
-      refl,
-      omega (arith, zero-mul at.group.messages),
-      assemble-none lay (group_part (sum_of at.op) at.here at.group at.query.now at.answers.now) at.message.now,
-    )
+loop-i-init c = let at = c.args in (
+  omega arith,
+  refl,
+  omega (arith, zero-mul at.group.messages),
+  assemble-none lay (group_part (sum_of at.op) at.here at.group at.query.now at.answers.now) at.message.now,
+)
 
 pub bounds-query-cell : goal.bounds-query-cell
-bounds-query-cell c =    rw c.loop-i.invariant.2 (c.requires.named.cells c.loop-i.i (omega arith))
+bounds-query-cell c = rw c.loop-i.invariant.2 (c.requires.named.cells c.loop-i.i (omega arith))
 
 pub overflow_cast-number : goal.overflow_cast-number
 overflow_cast-number c = omega (arith, c.type_inv.query c.loop-i.cell)
 
 pub from_row-requires : goal.from_row-requires
-from_row-requires c =    let pre = c.requires in
+from_row-requires c = let pre = c.requires in
     record {
       held = c.requires.held;
       grouped = c.requires.grouped;
@@ -37,7 +37,7 @@ from_row-requires c =    let pre = c.requires in
     }
 
 pub overflow_add-cell : goal.overflow_add-cell
-overflow_add-cell c =    let group = c.args.group in
+overflow_add-cell c = let group = c.args.group in
     omega (arith, c.loop-i.invariant.2, c.requires.grouped.small, c.requires.named.cells c.loop-i.i (omega arith))
 
 pub overflow_add-i : goal.overflow_add-i
@@ -48,7 +48,7 @@ loop-i-smaller c = omega arith
 
 pub loop-i-preserved : goal.loop-i-preserved
 unfolding group_part
-loop-i-preserved c =    let at = c.args in
+loop-i-preserved c = let at = c.args in
     let part = group_part (sum_of at.op) at.here at.group at.query.now at.answers.now in
     let symbol = group_symbol (sum_of at.op) at.here at.group at.answers.now c.loop-i.i in (
       omega arith,
@@ -64,7 +64,7 @@ shape_of-message c = c.loop-i.invariant.1
 
 pub returns : goal.returns
 unfolding group_parts
-returns c =    let at = c.args in
+returns c = let at = c.args in
     let done : c.loop-i.i ≡ at.group.count = omega arith in
     let part = group_part (sum_of at.op) at.here at.group at.query.now at.answers.now in
     c.loop-i.invariant.3 ∙ ap (λ (i : ℕ). lay_all (map part (range 0 i)) at.message.now) done

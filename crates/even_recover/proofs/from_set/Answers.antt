@@ -12,7 +12,7 @@ pub group_of-requires : goal.group_of-requires
 group_of-requires c = (c.requires.ready c.if-set-here-eq1.true).given
 
 pub from_group-requires : goal.from_group-requires
-from_group-requires c =    let pre = c.requires in
+from_group-requires c = let pre = c.requires in
     let ready = c.requires.ready c.if-set-here-eq1.true in
     record {
       held = c.requires.held;
@@ -22,7 +22,7 @@ from_group-requires c =    let pre = c.requires in
 
 pub returns-then-set-here-eq1 : goal.returns-then-set-here-eq1
 unfolding set_parts
-returns-then-set-here-eq1 c =    let at = c.args in
+returns-then-set-here-eq1 c = let at = c.args in
     c.from_group.ensures
     ∙ ap (λ (g : Group). lay_all (group_parts (sum_of at.op) at.here g at.query.now at.answers.now) at.message.now)
     c.group_of.ensures
@@ -30,5 +30,5 @@ returns-then-set-here-eq1 c =    let at = c.args in
 
 pub returns-else-set-here-eq1 : goal.returns-else-set-here-eq1
 unfolding set_parts assemble_by
-returns-else-set-here-eq1 c =    let at = c.args in
+returns-else-set-here-eq1 c = let at = c.args in
     rw (ne_eqb (at.set / at.here.bit % 2) 1 c.if-set-here-eq1.false)

@@ -10,12 +10,12 @@ pub overflow_cast-result : goal.overflow_cast-result
 overflow_cast-result c = omega (arith, ones-le 8 c.args.set (omega arith))
 
 pub overflow_cast-result-4 : goal.overflow_cast-result-4
-overflow_cast-result-4 c =    let at = c.args in
+overflow_cast-result-4 c = let at = c.args in
     let low = mod-le at.set at.here.bit in
     omega (arith, ones-le 8 (at.set % at.here.bit) (omega arith))
 
 pub overflow_add-result : goal.overflow_add-result
-overflow_add-result c =    let at = c.args in
+overflow_add-result c = let at = c.args in
     let low = mod-le at.set at.here.bit in
     omega (arith, ones-le 8 (at.set % at.here.bit) (omega arith), c.requires.near)
 

@@ -6,31 +6,31 @@ use Rattle.even_recover.proofs.Sized.{sized}
 use Rattle.even_recover.proofs.server_rows_of.Goals as goal
 
 pub power-whole-requires : goal.power-whole-requires
-power-whole-requires c =    let small = sized (even-bounds c.args.n c.args.k c.args.s c.requires.s_value) c.requires.wanted_lt_k in
+power-whole-requires c = let small = sized (even-bounds c.args.n c.args.k c.args.s c.requires.s_value) c.requires.wanted_lt_k in
     omega (arith, small.whole-high)
 
 pub overflow_sub-result : goal.overflow_sub-result
-overflow_sub-result c =    let small = sized (even-bounds c.args.n c.args.k c.args.s c.requires.s_value) c.requires.wanted_lt_k in
+overflow_sub-result c = let small = sized (even-bounds c.args.n c.args.k c.args.s c.requires.s_value) c.requires.wanted_lt_k in
     omega (arith, small.whole-low, c.power-whole.ensures)
 
 pub overflow_sub-result-2 : goal.overflow_sub-result-2
-overflow_sub-result-2 c =    let bounds = even-bounds c.args.n c.args.k c.args.s c.requires.s_value in
+overflow_sub-result-2 c = let bounds = even-bounds c.args.n c.args.k c.args.s c.requires.s_value in
     omega (arith, bounds.servers-low)
 
 pub nonzero_div-result : goal.nonzero_div-result
-nonzero_div-result c =    let bounds = even-bounds c.args.n c.args.k c.args.s c.requires.s_value in
+nonzero_div-result c = let bounds = even-bounds c.args.n c.args.k c.args.s c.requires.s_value in
     omega (arith, bounds.servers-low)
 
 pub overflow_add-result : goal.overflow_add-result
-overflow_add-result c =    let small = sized (even-bounds c.args.n c.args.k c.args.s c.requires.s_value) c.requires.wanted_lt_k in
+overflow_add-result c = let small = sized (even-bounds c.args.n c.args.k c.args.s c.requires.s_value) c.requires.wanted_lt_k in
     rw c.power-whole.ensures (omega (arith, small.whole-high, small.rest-high))
 
 pub power-requires : goal.power-requires
-power-requires c =    let small = sized (even-bounds c.args.n c.args.k c.args.s c.requires.s_value) c.requires.wanted_lt_k in
+power-requires c = let small = sized (even-bounds c.args.n c.args.k c.args.s c.requires.s_value) c.requires.wanted_lt_k in
     omega (arith, small.bit_high)
 
 pub overflow_cast-result : goal.overflow_cast-result
-overflow_cast-result c =    let small = sized (even-bounds c.args.n c.args.k c.args.s c.requires.s_value)
+overflow_cast-result c = let small = sized (even-bounds c.args.n c.args.k c.args.s c.requires.s_value)
     c.requires.wanted_lt_k in
     omega (arith, small.bit_high, c.power.ensures)
 

@@ -22,25 +22,25 @@ pub overflow_sub-count : goal.overflow_sub-count
 overflow_sub-count c = omega (arith, c.power-first.ensures, all-length c.args.k)
 
 pub loop-i-init : goal.loop-i-init
-loop-i-init c =    let k = c.args.k in
+loop-i-init c = let k = c.args.k in
     let room : 0 + length (map byte_of (all_sets k)) ≤ length (replicate {A = ℕ} 256 0) =
     omega (arith, length-map (all_sets k) byte_of, all-length k, subsets-few k c.requires) in
     (omega arith, pending-start room)
 
 pub overflow_add-place : goal.overflow_add-place
-overflow_add-place c =    omega (arith, c.power-first.ensures, subsets-few c.args.k c.requires)
+overflow_add-place c = omega (arith, c.power-first.ensures, subsets-few c.args.k c.requires)
 
 pub offset_bounds-table-place : goal.offset_bounds-table-place
-offset_bounds-table-place c =    omega (arith, c.power-first.ensures, subsets-few c.args.k c.requires)
+offset_bounds-table-place c = omega (arith, c.power-first.ensures, subsets-few c.args.k c.requires)
 
 pub bounds-table-place : goal.bounds-table-place
-bounds-table-place c =    omega (arith, c.power-first.ensures, subsets-few c.args.k c.requires)
+bounds-table-place c = omega (arith, c.power-first.ensures, subsets-few c.args.k c.requires)
 
 pub bounds-table-place-in-loop-i : goal.bounds-table-place-in-loop-i
 bounds-table-place-in-loop-i c = omega arith
 
 pub bounds-sets-i : goal.bounds-sets-i
-bounds-sets-i c =    omega (arith, c.power-first.ensures, subsets-few c.args.k c.requires)
+bounds-sets-i c = omega (arith, c.power-first.ensures, subsets-few c.args.k c.requires)
 
 pub overflow_add-i : goal.overflow_add-i
 overflow_add-i c = omega arith
@@ -49,8 +49,8 @@ pub loop-i-smaller : goal.loop-i-smaller
 loop-i-smaller c = omega arith
 
 pub loop-i-preserved : goal.loop-i-preserved
-loop-i-preserved c =    let first = c.power-first in 
-    let table = c.listed_sets-table in 
+loop-i-preserved c = let first = c.power-first in
+    let table = c.listed_sets-table in
     let k = c.args.k in
     let i = c.loop-i.i in
     let bytes = map byte_of (all_sets k) in
@@ -62,7 +62,7 @@ loop-i-preserved c =    let first = c.power-first in
     (omega arith, pending-as refl refl (ap (set c.loop-i.sets i) read) (pending-byte (rw next at c.loop-i.invariant.1)))
 
 pub returns : goal.returns
-returns c =    let k = c.args.k in
+returns c = let k = c.args.k in
     let bytes = map byte_of (all_sets k) in
     let none = drop_of_length-le bytes {i = c.loop-i.i} (omega (arith, c.power-first.ensures, all-length k, length-map (all_sets k) byte_of)) in
     pending_done (rw none at c.loop-i.invariant.1) ∙ put-padded bytes 256

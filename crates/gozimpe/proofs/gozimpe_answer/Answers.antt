@@ -7,8 +7,8 @@ use Rattle.gozimpe.proofs.Outcomes.{answer-small, text-refused, text-answered}
 use Rattle.gozimpe.proofs.gozimpe_answer.Goals as goal
 
 pub returns-in-Refused : goal.returns-in-Refused
-returns-in-Refused c =    let a = c.args in
-    let from = c.read-reading in 
+returns-in-Refused c = let a = c.args in
+    let from = c.read-reading in
     let did = text-refused a.catalogue.now c.read-reading.result c.read-reading.ensures (day_of a.year a.month a.day)
     a.mirror a.store.now a.request.now a.answer.now c.in-Refused.fault c.in-Refused.is in
     record {
@@ -17,16 +17,16 @@ returns-in-Refused c =    let a = c.args in
     }
 
 pub plus-requires : goal.plus-requires
-plus-requires c =    let a = c.args in
-    let asked = c.answer-outcome in 
+plus-requires c = let a = c.args in
+    let asked = c.answer-outcome in
     let value = c.read-reading.result.catalogue in
     answer-small value (day_of a.year a.month a.day) a.mirror a.store.now a.request.now a.answer.now
     c.answer-outcome.result c.in-Value.length c.answer-outcome.ensures.outcome c.in-Value.is
 
 pub returns-in-Value : goal.returns-in-Value
-returns-in-Value c =    let a = c.args in
-    let from = c.read-reading in 
-    let asked = c.answer-outcome in 
+returns-in-Value c = let a = c.args in
+    let from = c.read-reading in
+    let asked = c.answer-outcome in
     let did = text-answered a.catalogue.now c.read-reading.result c.read-reading.ensures (day_of a.year a.month a.day)
     a.mirror a.store.now a.request.now a.answer.now
     c.in_default.is c.answer-outcome.result _ c.answer-outcome.ensures in
@@ -36,9 +36,9 @@ returns-in-Value c =    let a = c.args in
     }
 
 pub returns-in-Refused-outcome : goal.returns-in-Refused-outcome
-returns-in-Refused-outcome c =    let a = c.args in
-    let from = c.read-reading in 
-    let asked = c.answer-outcome in 
+returns-in-Refused-outcome c = let a = c.args in
+    let from = c.read-reading in
+    let asked = c.answer-outcome in
     let did = text-answered a.catalogue.now c.read-reading.result c.read-reading.ensures (day_of a.year a.month a.day)
     a.mirror a.store.now a.request.now a.answer.now
     c.in_default.is c.answer-outcome.result _ c.answer-outcome.ensures in

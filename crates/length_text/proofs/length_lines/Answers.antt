@@ -10,26 +10,26 @@ returns-then-not-line_begins c = rw (sym c.line_begins.ensures ∙ not-true _ c.
 
 pub returns-then-not-found : goal.returns-then-not-found
 unfolding length_lines
-returns-then-not-found c =    rw (
-      sym c.line_begins.ensures ∙ not-false _ c.if-not-line_begins.false-raw,
-      sym c.counted-found.ensures,
-      not-true c.counted-found.result.formed c.if-not-found.true,
-    )
+returns-then-not-found c = rw (
+  sym c.line_begins.ensures ∙ not-false _ c.if-not-line_begins.false-raw,
+  sym c.counted-found.ensures,
+  not-true c.counted-found.result.formed c.if-not-found.true,
+)
 
 pub returns-then-line_begins : goal.returns-then-line_begins
 unfolding length_lines
-returns-then-line_begins c =    rw (
-      sym c.line_begins.ensures ∙ not-false _ c.if-not-line_begins.false-raw,
-      sym c.counted-found.ensures,
-      not-false c.counted-found.result.formed c.if-not-found.false,
-      sym c.line_begins-2.ensures ∙ c.if-line_begins.true,
-    ) c.out_of_form.ensures
+returns-then-line_begins c = rw (
+  sym c.line_begins.ensures ∙ not-false _ c.if-not-line_begins.false-raw,
+  sym c.counted-found.ensures,
+  not-false c.counted-found.result.formed c.if-not-found.false,
+  sym c.line_begins-2.ensures ∙ c.if-line_begins.true,
+) c.out_of_form.ensures
 
 pub returns : goal.returns
 unfolding length_lines
-returns c =    rw (
-      sym c.line_begins.ensures ∙ not-false _ c.if-not-line_begins.false-raw,
-      sym c.counted-found.ensures,
-      not-false c.counted-found.result.formed c.if-not-found.false,
-      sym c.line_begins-2.ensures ∙ c.if-line_begins.false,
-    )
+returns c = rw (
+  sym c.line_begins.ensures ∙ not-false _ c.if-not-line_begins.false-raw,
+  sym c.counted-found.ensures,
+  not-false c.counted-found.result.formed c.if-not-found.false,
+  sym c.line_begins-2.ensures ∙ c.if-line_begins.false,
+)

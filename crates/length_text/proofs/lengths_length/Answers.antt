@@ -22,24 +22,24 @@ pub bounds-places-i : goal.bounds-places-i
 bounds-places-i c = omega arith
 
 pub overflow_add-total : goal.overflow_add-total
-overflow_add-total c =    let line-most : c.line_length-total.result ≤ 18 =
-        let n = get_or c.args.l.places c.loop-i.i 0 in
-        let word : Fits w32 n = search rules in
-        omega (arith, c.line_length-total.ensures, number-text-most length_name 9 n (omega (arith, word))) in
+overflow_add-total c = let line-most : c.line_length-total.result ≤ 18 =
+    let n = get_or c.args.l.places c.loop-i.i 0 in
+    let word : Fits w32 n = search rules in
+    omega (arith, c.line_length-total.ensures, number-text-most length_name 9 n (omega (arith, word))) in
     let most = line-most in omega arith
 
 pub loop-i-preserved : goal.loop-i-preserved
-loop-i-preserved c =    let line-most : c.line_length-total.result ≤ 18 =
-        let n = get_or c.args.l.places c.loop-i.i 0 in
-        let word : Fits w32 n = search rules in
-        omega (arith, c.line_length-total.ensures, number-text-most length_name 9 n (omega (arith, word))) in
+loop-i-preserved c = let line-most : c.line_length-total.result ≤ 18 =
+    let n = get_or c.args.l.places c.loop-i.i 0 in
+    let word : Fits w32 n = search rules in
+    omega (arith, c.line_length-total.ensures, number-text-most length_name 9 n (omega (arith, word))) in
     let most = line-most in
     let l = c.args.l in
     let more = length_more l.places c.loop-i.i (omega (arith, places-long l _ c.well_formed.0)) in
     (omega arith, c.loop-i.invariant.1, omega (arith, more, c.line_length-total.ensures), omega arith)
 
 pub returns : goal.returns
-returns c =    let a = c.args in
+returns c = let a = c.args in
     let counted = c.line_count-lines.ensures.value in
     let all : take c.loop-i.i a.l.places ≡ numbers_of a.k a.l =
     ap (λ (n : ℕ). take n a.l.places) (let e : c.loop-i.i ≡ length (numbers_of a.k a.l) = omega arith in e)

@@ -9,7 +9,7 @@ use Rattle.length_text.proofs.RoundTrip.{nothing-begins}
 use Rattle.length_text.proofs.line_begins.Goals as goal
 
 pub returns-then-text-at : goal.returns-then-text-at
-returns-then-text-at c =    let a = c.args in
+returns-then-text-at c = let a = c.args in
     sym (ap (begins length_name) (drop_of_length-le a.text.now {i = a.at} (omega arith)) ∙ nothing-begins)
 
 pub returns : goal.returns

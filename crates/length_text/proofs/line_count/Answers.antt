@@ -11,9 +11,9 @@ use Rattle.length_text.proofs.line_count.Goals as goal
 pub returns-then-not-l : goal.returns-then-not-l
 unfolding numbers_of
 returns-then-not-l c = record {
-      value = rw (not-true c.args.l.given c.if-not-l.true) refl;
-      upper_bound = omega arith;
-    }
+  value = rw (not-true c.args.l.given c.if-not-l.true) refl;
+  upper_bound = omega arith;
+}
 
 pub returns-then-k-gt32 : goal.returns-then-k-gt32
 unfolding numbers_of

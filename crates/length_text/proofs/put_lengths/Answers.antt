@@ -15,16 +15,16 @@ use Rattle.length_text.proofs.put_lengths.Goals as goal
 
 pub loop-i-init : goal.loop-i-init
 unfolding length_text
-loop-i-init c =    let a = c.args in
+loop-i-init c = let a = c.args in
     (omega arith, c.line_count-lines.ensures.upper_bound, omega arith, sym (put-nil a.at a.out.now))
 
 pub bounds-places-i : goal.bounds-places-i
 bounds-places-i c = omega arith
 
 pub put_line-next-requires : goal.put_line-next-requires
-put_line-next-requires c =    let listed : let a = c.args in take c.line_count-lines.result a.l.places ≡ numbers_of a.k a.l =
-        let a = c.args in
-        ap (λ (n : ℕ). take n a.l.places) c.line_count-lines.ensures.value ∙ sym (numbers-front a.k a.l) in
+put_line-next-requires c = let listed : let a = c.args in take c.line_count-lines.result a.l.places ≡ numbers_of a.k a.l =
+    let a = c.args in
+    ap (λ (n : ℕ). take n a.l.places) c.line_count-lines.ensures.value ∙ sym (numbers-front a.k a.l) in
     let a = c.args in
     let i = c.loop-i.i in
     let more = length_more a.l.places i (omega (arith, places-long a.l _ c.well_formed.1.1.0)) in
@@ -34,7 +34,7 @@ put_line-next-requires c =    let listed : let a = c.args in take c.line_count-l
     omega (arith, c.loop-i.invariant.2, ap length c.loop-i.invariant.3, put-length a.at (length_text (take i a.l.places)) a.out.now (omega arith))
 
 pub loop-i-preserved : goal.loop-i-preserved
-loop-i-preserved c =    let a = c.args in
+loop-i-preserved c = let a = c.args in
     let i = c.loop-i.i in
     let inside = let long = places-long a.l _ c.well_formed.1.1.0 in let h : i < length a.l.places = omega arith in h in
     let line = number_text length_name (get_or a.l.places i 0) in
@@ -49,9 +49,9 @@ loop-i-preserved c =    let a = c.args in
     )
 
 pub shape_of-out : goal.shape_of-out
-shape_of-out c =    let listed : let a = c.args in take c.line_count-lines.result a.l.places ≡ numbers_of a.k a.l =
-        let a = c.args in
-        ap (λ (n : ℕ). take n a.l.places) c.line_count-lines.ensures.value ∙ sym (numbers-front a.k a.l) in
+shape_of-out c = let listed : let a = c.args in take c.line_count-lines.result a.l.places ≡ numbers_of a.k a.l =
+    let a = c.args in
+    ap (λ (n : ℕ). take n a.l.places) c.line_count-lines.ensures.value ∙ sym (numbers-front a.k a.l) in
     let a = c.args in
     let first = length_text (take c.loop-i.i a.l.places) in
     let within = length-within a.l.places c.loop-i.i c.line_count-lines.result c.loop-i.invariant.0 in
@@ -60,9 +60,9 @@ shape_of-out c =    let listed : let a = c.args in take c.line_count-lines.resul
     ap length c.loop-i.invariant.3 ∙ put-length a.at first a.out.now (omega arith)
 
 pub returns : goal.returns
-returns c =    let listed : let a = c.args in take c.line_count-lines.result a.l.places ≡ numbers_of a.k a.l =
-        let a = c.args in
-        ap (λ (n : ℕ). take n a.l.places) c.line_count-lines.ensures.value ∙ sym (numbers-front a.k a.l) in
+returns c = let listed : let a = c.args in take c.line_count-lines.result a.l.places ≡ numbers_of a.k a.l =
+    let a = c.args in
+    ap (λ (n : ℕ). take n a.l.places) c.line_count-lines.ensures.value ∙ sym (numbers-front a.k a.l) in
     let a = c.args in
     let last : c.loop-i.i ≡ c.line_count-lines.result = omega arith in
     let all : take c.loop-i.i a.l.places ≡ numbers_of a.k a.l = ap (λ (n : ℕ). take n a.l.places) last ∙ listed in

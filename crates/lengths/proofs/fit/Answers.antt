@@ -16,15 +16,15 @@ loop-i-init c = (omega arith, every-none _)
 
 pub returns-then-not-place_fits : goal.returns-then-not-place_fits
 unfolding lengths_fit
-returns-then-not-place_fits c =    sym
+returns-then-not-place_fits c = sym
     (ap (λ (t : Bool). eqb (length c.args.l.places) 32 && t)
     (every-false 32 _ c.loop-i.i (omega arith) (sym c.place_fits.ensures ∙ not-true _ c.if-not-place_fits.true-raw))
     ∙ and-false (eqb (length c.args.l.places) 32))
 
 pub loop-i-preserved : goal.loop-i-preserved
-loop-i-preserved c =    (omega arith, every_more c.loop-i.i _ c.loop-i.invariant.1 (sym c.place_fits.ensures ∙ not-false _ c.if-not-place_fits.false-raw))
+loop-i-preserved c = (omega arith, every_more c.loop-i.i _ c.loop-i.invariant.1 (sym c.place_fits.ensures ∙ not-false _ c.if-not-place_fits.false-raw))
 
 pub returns : goal.returns
 unfolding lengths_fit
-returns c =    let e : c.loop-i.i ≡ 32 = omega arith in
+returns c = let e : c.loop-i.i ≡ 32 = omega arith in
     sym (rw (eq-eqb (length c.args.l.places) 32 (places-long c.args.l _ c.well_formed.0)) (rw e at c.loop-i.invariant.1))

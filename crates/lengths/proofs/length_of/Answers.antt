@@ -14,7 +14,7 @@ returns-then-not-l c = rw (not-true c.args.l.given c.if-not-l.true)
 
 pub returns-then-k-ge32 : goal.returns-then-k-ge32
 unfolding length_of
-returns-then-k-ge32 c =    let l = c.args.l in
+returns-then-k-ge32 c = let l = c.args.l in
     let past : length l.places ≤ c.args.k = omega (arith, places-long l _ c.well_formed.0, c.if-k-ge32.true) in
     rw (not-false l.given c.if-not-l.false) (sym (get_or-eq_default l.places 0 past))
 

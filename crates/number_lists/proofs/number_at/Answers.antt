@@ -10,5 +10,5 @@ pub returns-then-text-at : goal.returns-then-text-at
 returns-then-text-at c = sym (numeral-past c.args.text.now c.args.at (omega arith))
 
 pub returns : goal.returns
-returns c =    let a = c.args in
+returns c = let a = c.args in
     c.numeral.ensures ∙ ap (numeral_from a.at) (to_end a.text.now a.at)

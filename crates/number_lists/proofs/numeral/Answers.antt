@@ -21,7 +21,7 @@ slice_bounds-value-end c = simp length-take (omega arith)
 
 pub value-value-requires : goal.value-value-requires
 unfolding is_numeral
-value-value-requires c =    let d = c.digits-count in 
+value-value-requires c = let d = c.digits-count in
     let text = c.args.text.now in
     let long : length (take c.digits-count.result text) ≡ c.digits-count.result = length-take-le c.digits-count.result text c.digits-count.ensures.upper_bound in
     let rule = sym c.is_numeral.ensures ∙ not-false _ c.if-not-is_numeral.false-raw in
@@ -33,5 +33,5 @@ value-value-requires c =    let d = c.digits-count in
 
 pub returns : goal.returns
 unfolding numeral_from
-returns c =    let rule = sym c.is_numeral.ensures ∙ not-false _ c.if-not-is_numeral.false-raw in
+returns c = let rule = sym c.is_numeral.ensures ∙ not-false _ c.if-not-is_numeral.false-raw in
     simp (sym c.digits-count.ensures.value, rule, c.value-value.ensures)

@@ -8,16 +8,16 @@ use Rattle.number_lists.proofs.Spaced.{byte-length}
 use Rattle.number_lists.proofs.put_after_space.Goals as goal
 
 pub put_decimal-requires : goal.put_decimal-requires
-put_decimal-requires c =    let n = c.args.n in
+put_decimal-requires c = let n = c.args.n in
     let s = byte-length n (omega arith) in
     let k = c.put_bytes-digits.auto.out in
     let e = c.put_bytes-digits.ensures.value in
     omega arith
 
 pub returns : goal.returns
-returns c =    let a = c.args in
-    let first = c.put_bytes-digits in 
-    let second = c.put_decimal in 
+returns c = let a = c.args in
+    let first = c.put_bytes-digits in
+    let second = c.put_decimal in
     let e = c.put_bytes-digits.ensures.value in
     let f = c.put_decimal.ensures.value in record {
       value = omega arith;

@@ -12,28 +12,28 @@ use Rattle.number_lists.proofs.Spaced.{byte-length, after_none, after_more}
 use Rattle.number_lists.proofs.put_after_spaces.Goals as goal
 
 pub loop-i-init : goal.loop-i-init
-loop-i-init c =    let a = c.args in
+loop-i-init c = let a = c.args in
     let none = after_none a.numbers.now in
     let l = ap length none in
     (omega arith, omega arith, omega arith, sym (ap (λ (t : List ℕ). put a.start t a.out.now) none ∙ put-nil a.start a.out.now), refl)
 
 pub bounds-numbers-i : goal.bounds-numbers-i
-bounds-numbers-i c =    omega arith
+bounds-numbers-i c = omega arith
 
 pub put_after_space-at-requires : goal.put_after_space-at-requires
-put_after_space-at-requires c =    omega arith
+put_after_space-at-requires c = omega arith
 
 pub overflow_add-i : goal.overflow_add-i
-overflow_add-i c =    omega arith
+overflow_add-i c = omega arith
 
 pub loop-i-smaller : goal.loop-i-smaller
-loop-i-smaller c =    omega arith
+loop-i-smaller c = omega arith
 
 pub loop-i-preserved : goal.loop-i-preserved
-loop-i-preserved c =    let at = c.loop-i in 
+loop-i-preserved c = let at = c.loop-i in
     let a = c.args in
     let numbers = a.numbers.now in
-    let put-it = c.put_after_space-at in 
+    let put-it = c.put_after_space-at in
     let n = get_or numbers c.loop-i.i 0 in
     let b = byte-length n (omega (arith, c.shared_slice_known-in-loop-i-1.given c.loop-i.i)) in
     let more = after_more numbers c.loop-i.i (omega arith) in
@@ -51,10 +51,10 @@ loop-i-preserved c =    let at = c.loop-i in
     )
 
 pub shape_of-out : goal.shape_of-out
-shape_of-out c =    c.loop-i.invariant.4
+shape_of-out c = c.loop-i.invariant.4
 
 pub returns : goal.returns
-returns c =    let at = c.loop-i in 
+returns c = let at = c.loop-i in
     let a = c.args in
     let numbers = a.numbers.now in
     let all : take c.loop-i.i numbers ≡ numbers = take_all c.loop-i.i numbers (omega arith) in

@@ -19,7 +19,7 @@ filled numbers first i h k =
     ap₂ (λ (s t : List ℕ). s ++ t) (take_all i numbers h) (drop_of_length-le first k) ∙ append-nil numbers
 
 pub loop-i-init : goal.loop-i-init
-loop-i-init c =    let a = c.args in
+loop-i-init c = let a = c.args in
     let scanned = scanned-list (numbers_at a.text.now a.start) (length a.out.now) true c.requires in
     record {
       many = scanned.0;
@@ -31,17 +31,17 @@ loop-i-init c =    let a = c.args in
     }
 
 pub shape_of-out-in_default : goal.shape_of-out-in_default
-shape_of-out-in_default c =    c.loop-i.invariant.same
+shape_of-out-in_default c = c.loop-i.invariant.same
 
 pub returns-in_default : goal.returns-in_default
-returns-in_default c =    let at = c.loop-i in 
+returns-in_default c = let at = c.loop-i in
     let a = c.args in
     let numbers = list_of (numbers_at a.text.now a.start) in
     let inv = c.loop-i.invariant in
     next-there a.text.now numbers c.loop-i.at c.loop-i.i inv.left (omega arith) (sym c.number_at.ensures ∙ c.in_default.is)
 
 pub overflow_cast-out : goal.overflow_cast-out
-overflow_cast-out c =    let at = c.loop-i in 
+overflow_cast-out c = let at = c.loop-i in
     let a = c.args in
     let numbers = list_of (numbers_at a.text.now a.start) in
     let inv = c.loop-i.invariant in
@@ -51,23 +51,23 @@ overflow_cast-out c =    let at = c.loop-i in
     omega arith
 
 pub bounds-out-i : goal.bounds-out-i
-bounds-out-i c =    let same = c.loop-i.invariant.same in omega arith
+bounds-out-i c = let same = c.loop-i.invariant.same in omega arith
 
 pub overflow_add-at : goal.overflow_add-at
-overflow_add-at c =    let at = c.loop-i in 
+overflow_add-at c = let at = c.loop-i in
     let a = c.args in
     let here = sym c.number_at.ensures ∙ c.in-Value.is in
     let w = numeral-within a.text.now c.loop-i.at _ _ here in
     omega arith
 
 pub overflow_add-i : goal.overflow_add-i
-overflow_add-i c =    omega arith
+overflow_add-i c = omega arith
 
 pub loop-i-smaller : goal.loop-i-smaller
-loop-i-smaller c =    let same = c.loop-i.invariant.same in omega arith
+loop-i-smaller c = let same = c.loop-i.invariant.same in omega arith
 
 pub loop-i-preserved : goal.loop-i-preserved
-loop-i-preserved c =    let at = c.loop-i in 
+loop-i-preserved c = let at = c.loop-i in
     let a = c.args in
     let numbers = list_of (numbers_at a.text.now a.start) in
     let inv = c.loop-i.invariant in
@@ -86,10 +86,10 @@ loop-i-preserved c =    let at = c.loop-i in
     }
 
 pub shape_of-out : goal.shape_of-out
-shape_of-out c =    c.loop-i.invariant.same
+shape_of-out c = c.loop-i.invariant.same
 
 pub returns : goal.returns
-returns c =    let at = c.loop-i in 
+returns c = let at = c.loop-i in
     let a = c.args in
     let numbers = list_of (numbers_at a.text.now a.start) in
     let inv = c.loop-i.invariant in

@@ -13,7 +13,7 @@ use Rattle.number_lists.proofs.Spaced.{byte-length, spaced-none, spaced-some}
 use Rattle.number_lists.proofs.put_spaced.Goals as goal
 
 pub returns-then-numbers-eq0 : goal.returns-then-numbers-eq0
-returns-then-numbers-eq0 c =    let a = c.args in
+returns-then-numbers-eq0 c = let a = c.args in
     let none : spaced a.numbers.now ≡ [] = spaced-none a.numbers.now (omega arith) in
     let l = ap length none in
     record {
@@ -26,22 +26,22 @@ pub overflow_cast-first : goal.overflow_cast-first
 overflow_cast-first c = omega (arith, c.shared_slice_known-2-1.given 0)
 
 pub put_decimal-rest-requires : goal.put_decimal-rest-requires
-put_decimal-rest-requires c =    let a = c.args in
+put_decimal-rest-requires c = let a = c.args in
     let b = byte-length (get_or a.numbers.now 0 0) (omega (arith, c.shared_slice_known-2-1.given 0)) in
     omega arith
 
 pub put_after_spaces-requires : goal.put_after_spaces-requires
-put_after_spaces-requires c =    let a = c.args in
+put_after_spaces-requires c = let a = c.args in
     let b = byte-length (get_or a.numbers.now 0 0) (omega (arith, c.shared_slice_known-2-1.given 0)) in
     let e = c.put_decimal-rest.ensures.value in
     let k = c.put_decimal-rest.auto.out in
     simp (length-take, length-drop) (omega arith)
 
 pub returns : goal.returns
-returns c =    let a = c.args in
+returns c = let a = c.args in
     let numbers = a.numbers.now in
-    let first = c.put_decimal-rest in 
-    let rest = c.put_after_spaces in 
+    let first = c.put_decimal-rest in
+    let rest = c.put_after_spaces in
     let byte = c.shared_slice_known-2-1.given 0 in
     let b = byte-length (get_or numbers 0 0) (omega (arith, byte)) in
     let others = after_spaces (drop 1 numbers) in
@@ -58,7 +58,7 @@ returns c =    let a = c.args in
       value = omega arith;
       upper_bound = omega arith;
       out_after = c.put_after_spaces.ensures.out_after
-            ∙ ap (λ (t : List ℕ). put c.put_decimal-rest.result (after_spaces t) c.put_decimal-rest.new.out) end
-            ∙ put_next a.at c.put_decimal-rest.result (decimal (get_or numbers 0 0)) others a.out.now c.put_decimal-rest.new.out (omega arith) e c.put_decimal-rest.ensures.out_after
-            ∙ ap (λ (t : List ℕ). put a.at t a.out.now) (sym whole);
+          ∙ ap (λ (t : List ℕ). put c.put_decimal-rest.result (after_spaces t) c.put_decimal-rest.new.out) end
+          ∙ put_next a.at c.put_decimal-rest.result (decimal (get_or numbers 0 0)) others a.out.now c.put_decimal-rest.new.out (omega arith) e c.put_decimal-rest.ensures.out_after
+          ∙ ap (λ (t : List ℕ). put a.at t a.out.now) (sym whole);
     }

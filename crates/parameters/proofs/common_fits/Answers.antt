@@ -15,5 +15,5 @@ pub returns-then-s-lt1 : goal.returns-then-s-lt1
 returns-then-s-lt1 c = simp (lt-leb _ _ c.if-s-lt1.true, and-false)
 
 pub returns : goal.returns
-returns c =    let some : 2 ≤ c.args.n = omega (arith, c.if-n-lt2.false) in
+returns c = let some : 2 ≤ c.args.n = omega (arith, c.if-n-lt2.false) in
     simp (le-leb _ _ some, le-leb _ _ c.if-n-gt16.false, le-leb _ _ c.if-s-lt1.false)

@@ -21,13 +21,13 @@ pub overflow_cast-entry : goal.overflow_cast-entry
 overflow_cast-entry c = omega (arith, c.shared_slice_known-1.given c.loop-i.i)
 
 pub returns-then-size-entry : goal.returns-then-size-entry
-returns-then-size-entry c =    sym (c.loop-i.invariant.2 ∙ passes-high c.args.size c.loop-i.seen c.args.bytes.now c.loop-i.i (omega arith) (omega arith))
+returns-then-size-entry c = sym (c.loop-i.invariant.2 ∙ passes-high c.args.size c.loop-i.seen c.args.bytes.now c.loop-i.i (omega arith) (omega arith))
 
 pub bounds-seen-entry : goal.bounds-seen-entry
 bounds-seen-entry c = omega (arith, c.shared_slice_known-1.given c.loop-i.i)
 
 pub returns-then-seen-entry : goal.returns-then-seen-entry
-returns-then-seen-entry c =    sym (c.loop-i.invariant.2 ∙ passes-seen c.args.size c.loop-i.seen c.args.bytes.now c.loop-i.i (omega arith) c.if-seen-entry.true)
+returns-then-seen-entry c = sym (c.loop-i.invariant.2 ∙ passes-seen c.args.size c.loop-i.seen c.args.bytes.now c.loop-i.i (omega arith) c.if-seen-entry.true)
 
 pub bounds-seen-entry-in-loop-i : goal.bounds-seen-entry-in-loop-i
 bounds-seen-entry-in-loop-i c = omega (arith, c.shared_slice_known-1.given c.loop-i.i)
@@ -39,13 +39,13 @@ pub loop-i-smaller : goal.loop-i-smaller
 loop-i-smaller c = omega arith
 
 pub loop-i-preserved : goal.loop-i-preserved
-loop-i-preserved c =    (
-      omega arith,
-      simp length-set c.loop-i.invariant.1,
-      c.loop-i.invariant.2
-          ∙ passes-more c.args.size c.loop-i.seen c.args.bytes.now c.loop-i.i (omega arith) (omega arith)
-          (omega (arith, c.shared_slice_known-1.given c.loop-i.i)) c.if-seen-entry.false,
-    )
+loop-i-preserved c = (
+  omega arith,
+  simp length-set c.loop-i.invariant.1,
+  c.loop-i.invariant.2
+      ∙ passes-more c.args.size c.loop-i.seen c.args.bytes.now c.loop-i.i (omega arith) (omega arith)
+      (omega (arith, c.shared_slice_known-1.given c.loop-i.i)) c.if-seen-entry.false,
+)
 
 pub returns : goal.returns
-returns c =    sym (c.loop-i.invariant.2 ∙ passes-end c.args.size c.loop-i.seen c.args.bytes.now c.loop-i.i (omega arith))
+returns c = sym (c.loop-i.invariant.2 ∙ passes-end c.args.size c.loop-i.seen c.args.bytes.now c.loop-i.i (omega arith))

@@ -5,4 +5,4 @@ use Rattle.printing.proofs.blank_bytes.Goals as goal
 
 pub returns : goal.returns
 unfolding blank
-returns c =    refl
+returns c = refl

@@ -21,9 +21,9 @@ page-fits text before after e k =
     let l = ap length e ∙ length-append text (drop (length text) before) in omega arith
 
 pub returns : goal.returns
-returns c =    let text = printed scheme_of c.args.input.now in
-    let page = c.put_page-length in 
-    let zeros = c.blank_bytes-bytes in 
+returns c = let text = printed scheme_of c.args.input.now in
+    let page = c.put_page-length in
+    let zeros = c.blank_bytes-bytes in
     let same = c.put_page-length.auto.out in
     let fits = page-fits text c.blank_bytes-bytes.result c.put_page-length.new.out c.put_page-length.ensures.out_after same in
     let is = c.put_page-length.ensures.value in

@@ -8,7 +8,7 @@ use Rattle.number_lists.proofs.Scanning.{scanned-list}
 use Rattle.printing.proofs.put_asked.Goals as goal
 
 pub put_checked-requires : goal.put_checked-requires
-put_checked-requires c =    let a = c.args in
+put_checked-requires c = let a = c.args in
     let given = value-given _ _ _ (sym c.check-outcome.ensures ∙ c.in-Value.is) in
     let bytes = (check-passed scheme_of a.c a.wanted a.count a.bytes given.0).1 in
     record {
@@ -18,7 +18,7 @@ put_checked-requires c =    let a = c.args in
     }
 
 pub returns-in-Refused : goal.returns-in-Refused
-returns-in-Refused c =    let a = c.args in
+returns-in-Refused c = let a = c.args in
     let numbers = numbers_at a.text.now a.at in
     let refused = value-refused _ _ _ (sym c.check-outcome.ensures ∙ c.in-Refused.is) in
     let found = scanned-list numbers a.count a.bytes c.requires.at_value in

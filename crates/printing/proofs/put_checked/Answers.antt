@@ -48,26 +48,26 @@ pub slice_bounds-places-end : goal.slice_bounds-places-end
 slice_bounds-places-end c = fits c.args.c c.args.wanted c.args.count c.requires.true_value c.zeros-places.result c.zeros-places.ensures
 
 pub slice_bounds-put_numbers-end : goal.slice_bounds-put_numbers-end
-slice_bounds-put_numbers-end c = let zeros = c.zeros-places in  sym (part_length c.args.c c.args.wanted c.args.count c.requires.true_value c.zeros-places.result c.zeros-places.ensures)
+slice_bounds-put_numbers-end c = let zeros = c.zeros-places in sym (part_length c.args.c c.args.wanted c.args.count c.requires.true_value c.zeros-places.result c.zeros-places.ensures)
 
 pub put_numbers-requires : goal.put_numbers-requires
-put_numbers-requires c =    let zeros = c.zeros-places in 
+put_numbers-requires c = let zeros = c.zeros-places in
     c.requires.at_value ∙ ap (λ (n : ℕ). Of n true) (sym (part_length c.args.c c.args.wanted c.args.count c.requires.true_value c.zeros-places.result c.zeros-places.ensures))
 
 pub slice_bounds-places-end-2 : goal.slice_bounds-places-end-2
-slice_bounds-places-end-2 c =    let zeros = c.zeros-places in 
+slice_bounds-places-end-2 c = let zeros = c.zeros-places in
     let l = ap length c.put_numbers.ensures ∙ (found c.args.text.now c.args.at c.args.count c.requires.at_value).0 in
     simp length-append (omega arith)
 
 pub slice_bounds-put_keyed-end : goal.slice_bounds-put_keyed-end
-slice_bounds-put_keyed-end c =    let read = c.put_numbers in 
-    let zeros = c.zeros-places in 
+slice_bounds-put_keyed-end c = let read = c.put_numbers in
+    let zeros = c.zeros-places in
     let part = part-is c.args.text.now c.args.at c.args.count c.requires.at_value c.zeros-places.result c.put_numbers.new.out c.put_numbers.ensures in
     sym (ap length part ∙ (found c.args.text.now c.args.at c.args.count c.requires.at_value).0)
 
 pub put_keyed-requires : goal.put_keyed-requires
-put_keyed-requires c =    let read = c.put_numbers in 
-    let zeros = c.zeros-places in 
+put_keyed-requires c = let read = c.put_numbers in
+    let zeros = c.zeros-places in
     let is = found c.args.text.now c.args.at c.args.count c.requires.at_value in
     let k = checked c.args.c c.args.wanted c.args.count c.requires.true_value in
     let part = part-is c.args.text.now c.args.at c.args.count c.requires.at_value c.zeros-places.result c.put_numbers.new.out c.put_numbers.ensures in
@@ -78,10 +78,10 @@ put_keyed-requires c =    let read = c.put_numbers in
     }
 
 pub returns : goal.returns
-returns c =    let a = c.args in
-    let read = c.put_numbers in 
-    let zeros = c.zeros-places in 
-    let done = c.put_keyed in 
+returns c = let a = c.args in
+    let read = c.put_numbers in
+    let zeros = c.zeros-places in
+    let done = c.put_keyed in
     let part = part-is c.args.text.now c.args.at c.args.count c.requires.at_value c.zeros-places.result c.put_numbers.new.out c.put_numbers.ensures in record {
       value = c.put_keyed.ensures.value ∙ ap (λ (key : List ℕ). length (answer_to scheme_of (asked a.c a.wanted key))) part;
       out_after = c.put_keyed.ensures.out_after ∙ ap (λ (key : List ℕ). put 0 (answer_to scheme_of (asked a.c a.wanted key)) a.out.now) part;

@@ -8,13 +8,13 @@ use Rattle.printing.proofs.Writing.{head-length}
 use Rattle.printing.proofs.put_head.Goals as goal
 
 pub put_decimal-name-requires : goal.put_decimal-name-requires
-put_decimal-name-requires c =    let s = length_most 1 c.args.server (omega arith) in
+put_decimal-name-requires c = let s = length_most 1 c.args.server (omega arith) in
     let k = c.put_bytes-number.auto.out in
     let e = c.put_bytes-number.ensures.value in
     omega arith
 
 pub put_bytes-requires : goal.put_bytes-requires
-put_bytes-requires c =    let s = length_most 1 c.args.server (omega arith) in
+put_bytes-requires c = let s = length_most 1 c.args.server (omega arith) in
     let k = c.put_bytes-number.auto.out in
     let e = c.put_bytes-number.ensures.value in
     let l = c.put_decimal-name.auto.out in
@@ -22,10 +22,10 @@ put_bytes-requires c =    let s = length_most 1 c.args.server (omega arith) in
     omega arith
 
 pub returns : goal.returns
-returns c =    let a = c.args in
-    let first = c.put_bytes-number in 
-    let second = c.put_decimal-name in 
-    let third = c.put_bytes in 
+returns c = let a = c.args in
+    let first = c.put_bytes-number in
+    let second = c.put_decimal-name in
+    let third = c.put_bytes in
     let e = c.put_bytes-number.ensures.value in
     let f = c.put_decimal-name.ensures.value in
     let g = c.put_bytes.ensures.value in

@@ -12,7 +12,7 @@ use Rattle.printing.proofs.Parts.{written_as}
 use Rattle.printing.proofs.put_keyed.Goals as goal
 
 pub returns-then-not-key_good : goal.returns-then-not-key_good
-returns-then-not-key_good c =    let a = c.args in
+returns-then-not-key_good c = let a = c.args in
     let bad = sym c.key_good.ensures ∙ not-true _ c.if-not-key_good.true-raw in
     let checked : Checked scheme_of a.c a.wanted (length a.key.now) =
     record { admitted = c.requires.admitted.0; inside = c.requires.admitted.1; long = c.requires.key_len.0 } in
@@ -20,10 +20,10 @@ returns-then-not-key_good c =    let a = c.args in
     record { value = w.0; out_after = w.1 }
 
 pub put_queries-requires : goal.put_queries-requires
-put_queries-requires c =    let accepted : (scheme_of c.args.c).key_good c.args.key.now ≡ true
+put_queries-requires c = let accepted : (scheme_of c.args.c).key_good c.args.key.now ≡ true
     → begin_verdict scheme_of c.args.c c.args.wanted c.args.key.now ≡ Accepted =
-        λ good. begin-accepted scheme_of c.args.c c.args.wanted c.args.key.now
-        (record { admitted = c.requires.admitted.0; inside = c.requires.admitted.1; valid = record { long = c.requires.key_len.0; good = good } }) in
+    λ good. begin-accepted scheme_of c.args.c c.args.wanted c.args.key.now
+    (record { admitted = c.requires.admitted.0; inside = c.requires.admitted.1; valid = record { long = c.requires.key_len.0; good = good } }) in
     let good = sym c.key_good.ensures ∙ not-false _ c.if-not-key_good.false-raw in
     record {
       key_value = accepted good;
@@ -31,10 +31,10 @@ put_queries-requires c =    let accepted : (scheme_of c.args.c).key_good c.args.
     }
 
 pub returns : goal.returns
-returns c =    let accepted : (scheme_of c.args.c).key_good c.args.key.now ≡ true
+returns c = let accepted : (scheme_of c.args.c).key_good c.args.key.now ≡ true
     → begin_verdict scheme_of c.args.c c.args.wanted c.args.key.now ≡ Accepted =
-        λ good. begin-accepted scheme_of c.args.c c.args.wanted c.args.key.now
-        (record { admitted = c.requires.admitted.0; inside = c.requires.admitted.1; valid = record { long = c.requires.key_len.0; good = good } }) in
+    λ good. begin-accepted scheme_of c.args.c c.args.wanted c.args.key.now
+    (record { admitted = c.requires.admitted.0; inside = c.requires.admitted.1; valid = record { long = c.requires.key_len.0; good = good } }) in
     let a = c.args in
     let good = sym c.key_good.ensures ∙ not-false _ c.if-not-key_good.false-raw in
     let e = answer-queries scheme_of a.c a.wanted a.key.now (accepted good) c.requires.key_len.1 in

@@ -11,14 +11,14 @@ use Rattle.printing.proofs.Writing.{head-length}
 use Rattle.printing.proofs.put_line.Goals as goal
 
 pub put_spaced-end-requires : goal.put_spaced-end-requires
-put_spaced-end-requires c =    let s = length_most 1 c.args.server (omega arith) in
+put_spaced-end-requires c = let s = length_most 1 c.args.server (omega arith) in
     let l = head-length c.args.server in
     let e = c.put_head-first.ensures.value in
     let k = c.put_head-first.auto.out in
     omega arith
 
 pub put_bytes-requires : goal.put_bytes-requires
-put_bytes-requires c =    let s = length_most 1 c.args.server (omega arith) in
+put_bytes-requires c = let s = length_most 1 c.args.server (omega arith) in
     let l = head-length c.args.server in
     let e = c.put_head-first.ensures.value in
     let k = c.put_head-first.auto.out in
@@ -28,11 +28,11 @@ put_bytes-requires c =    let s = length_most 1 c.args.server (omega arith) in
 
 pub returns : goal.returns
 unfolding query_line
-returns c =    let a = c.args in
+returns c = let a = c.args in
     let query = a.query.now in
-    let first = c.put_head-first in 
-    let second = c.put_spaced-end in 
-    let third = c.put_bytes in 
+    let first = c.put_head-first in
+    let second = c.put_spaced-end in
+    let third = c.put_bytes in
     let s = length_most 1 a.server (omega arith) in
     let l = head-length a.server in
     let e = c.put_head-first.ensures.value in

@@ -17,7 +17,7 @@ use Rattle.printing.proofs.put_page.Goals as goal
 
 pub returns-then-input-gt65536 : goal.returns-then-input-gt65536
 unfolding printed input_asks lines_ask
-returns-then-input-gt65536 c =    let a = c.args in
+returns-then-input-gt65536 c = let a = c.args in
     let long : 65536 < length a.input.now = omega (arith, c.if-input-gt65536.true) in
     let e : printed scheme_of a.input.now ≡ refusal_line Text = simp (lt-ltb _ _ long) in
     let w = written_as _ _ a.out.now _ _ e (c.put_refusal.ensures.value, c.put_refusal.ensures.out_after) in
@@ -25,7 +25,7 @@ returns-then-input-gt65536 c =    let a = c.args in
 
 pub returns-in_default : goal.returns-in_default
 unfolding printed input_asks lines_ask
-returns-in_default c =    let a = c.args in
+returns-in_default c = let a = c.args in
     let e : printed scheme_of a.input.now ≡ refusal_line Text =
     simp (le-ltb _ _ c.if-input-gt65536.false, sym c.catalogue_lines-found.ensures, c.in_default.is) in
     let w = written_as _ _ a.out.now _ _ e (c.put_refusal-in_default.ensures.value, c.put_refusal-in_default.ensures.out_after) in
@@ -33,7 +33,7 @@ returns-in_default c =    let a = c.args in
 
 pub returns-in_default-number_line : goal.returns-in_default-number_line
 unfolding printed input_asks lines_ask
-returns-in_default-number_line c =    let a = c.args in
+returns-in_default-number_line c = let a = c.args in
     let wanted = sym c.number_line.ensures ∙ c.in_default-number_line.is in
     let e : printed scheme_of a.input.now ≡ refusal_line Text =
     simp (le-ltb _ _ c.if-input-gt65536.false, sym c.catalogue_lines-found.ensures, c.in-Accepted.is, wanted) in
@@ -42,7 +42,7 @@ returns-in_default-number_line c =    let a = c.args in
 
 pub returns-in_default-scan_key : goal.returns-in_default-scan_key
 unfolding printed input_asks lines_ask
-returns-in_default-scan_key c =    let a = c.args in
+returns-in_default-scan_key c = let a = c.args in
     let text = a.input.now in
     let wanted = sym c.number_line.ensures ∙ c.in-Value.is in
     let none = sym c.scan_key.ensures ∙ c.in_default-scan_key.is in
@@ -53,11 +53,11 @@ returns-in_default-scan_key c =    let a = c.args in
     record { value = w.0; out_after = w.1 }
 
 pub overflow_add-at : goal.overflow_add-at
-overflow_add-at c =    let w = key-line-read _ _ _ _ (sym c.scan_key.ensures ∙ c.in-Of.is) in
+overflow_add-at c = let w = key-line-read _ _ _ _ (sym c.scan_key.ensures ∙ c.in-Of.is) in
     omega arith
 
 pub put_asked-requires : goal.put_asked-requires
-put_asked-requires c =    let told = sym c.scan_key.ensures ∙ c.in-Of.is in
+put_asked-requires c = let told = sym c.scan_key.ensures ∙ c.in-Of.is in
     record {
       at_value = ap scan_of (sym (key-line-read _ _ _ _ told).1) ∙ told;
       page_bytes_in_bounds = c.requires;
@@ -65,7 +65,7 @@ put_asked-requires c =    let told = sym c.scan_key.ensures ∙ c.in-Of.is in
 
 pub returns : goal.returns
 unfolding printed input_asks lines_ask
-returns c =    let a = c.args in
+returns c = let a = c.args in
     let text = a.input.now in
     let told = sym c.scan_key.ensures ∙ c.in-Of.is in
     let numbers = (key-line-read _ _ _ _ told).1 in

@@ -29,7 +29,7 @@ next_fits c size at server admitted e below most =
     omega arith
 
 pub loop-server-init : goal.loop-server-init
-loop-server-init c =    let a = c.args in
+loop-server-init c = let a = c.args in
     let none = lines_none scheme_of (asked a.c a.wanted a.key.now) in
     let l = ap length none in
     record {
@@ -41,8 +41,8 @@ loop-server-init c =    let a = c.args in
     }
 
 pub put_query-at-requires : goal.put_query-at-requires
-put_query-at-requires c =    let a = c.args in
-    let at = c.loop-server in 
+put_query-at-requires c = let a = c.args in
+    let at = c.loop-server in
     let admitted = (begin-passed scheme_of a.c a.wanted a.key.now c.requires.key_value).admitted in
     let fits = next_fits a.c a.size c.loop-server.at c.loop-server.server admitted c.requires.size_value.0 (omega arith) c.loop-server.invariant.most in
     let same = c.loop-server.invariant.same in
@@ -53,15 +53,15 @@ put_query-at-requires c =    let a = c.args in
     }
 
 pub overflow_add-server : goal.overflow_add-server
-overflow_add-server c =    omega arith
+overflow_add-server c = omega arith
 
 pub loop-server-smaller : goal.loop-server-smaller
-loop-server-smaller c =    omega arith
+loop-server-smaller c = omega arith
 
 pub loop-server-preserved : goal.loop-server-preserved
-loop-server-preserved c =    let a = c.args in
-    let at = c.loop-server in 
-    let put-it = c.put_query-at in 
+loop-server-preserved c = let a = c.args in
+    let at = c.loop-server in
+    let put-it = c.put_query-at in
     let ask = asked a.c a.wanted a.key.now in
     let line = query_line c.loop-server.server (asked_query scheme_of ask c.loop-server.server) in
     let more = lines_more scheme_of ask c.loop-server.server in
@@ -84,10 +84,10 @@ loop-server-preserved c =    let a = c.args in
     }
 
 pub shape_of-out : goal.shape_of-out
-shape_of-out c =    c.loop-server.invariant.same
+shape_of-out c = c.loop-server.invariant.same
 
 pub returns : goal.returns
-returns c =    let a = c.args in
+returns c = let a = c.args in
     let i = c.loop-server.invariant in
     let few = i.few in
     let ask = asked a.c a.wanted a.key.now in

@@ -59,10 +59,10 @@ pub slice_bounds-query-end : goal.slice_bounds-query-end
 slice_bounds-query-end c = fits c.args.c c.args.wanted c.args.server c.args.size c.args.key.now c.zeros-query.result c.requires.key_value c.requires.server_lt_servers c.zeros-query.ensures
 
 pub slice_bounds-query-end-2 : goal.slice_bounds-query-end-2
-slice_bounds-query-end-2 c = let zeros = c.zeros-query in  sym (part_length c.args.c c.args.wanted c.args.server c.args.size c.args.key.now c.zeros-query.result c.requires.key_value c.requires.server_lt_servers c.zeros-query.ensures)
+slice_bounds-query-end-2 c = let zeros = c.zeros-query in sym (part_length c.args.c c.args.wanted c.args.server c.args.size c.args.key.now c.zeros-query.result c.requires.key_value c.requires.server_lt_servers c.zeros-query.ensures)
 
 pub query-requires : goal.query-requires
-query-requires c =    let zeros = c.zeros-query in 
+query-requires c = let zeros = c.zeros-query in
     let b = begun c.args.c c.args.wanted c.args.server c.args.size c.args.key.now c.zeros-query.result c.requires.key_value c.requires.server_lt_servers c.zeros-query.ensures in
     let l = part_length c.args.c c.args.wanted c.args.server c.args.size c.args.key.now c.zeros-query.result c.requires.key_value c.requires.server_lt_servers c.zeros-query.ensures in
     let due = c.requires.server_lt_servers.1 in
@@ -74,19 +74,19 @@ query-requires c =    let zeros = c.zeros-query in
     }
 
 pub slice_bounds-query-end-3 : goal.slice_bounds-query-end-3
-slice_bounds-query-end-3 c =    let made = c.query in 
-    let zeros = c.zeros-query in 
+slice_bounds-query-end-3 c = let made = c.query in
+    let zeros = c.zeros-query in
     let l = lent_length c.args.c c.args.wanted c.args.server c.args.size c.args.key.now c.zeros-query.result c.requires.key_value c.requires.server_lt_servers c.zeros-query.ensures c.query.new.out c.query.ensures in
     simp length-append (omega arith)
 
 pub slice_bounds-put_line-end : goal.slice_bounds-put_line-end
-slice_bounds-put_line-end c =    let made = c.query in 
-    let zeros = c.zeros-query in 
+slice_bounds-put_line-end c = let made = c.query in
+    let zeros = c.zeros-query in
     sym (filled-length c.args.c c.args.wanted c.args.server c.args.size c.args.key.now c.zeros-query.result c.requires.key_value c.requires.server_lt_servers c.zeros-query.ensures c.query.new.out c.query.ensures)
 
 pub put_line-requires : goal.put_line-requires
-put_line-requires c =    let made = c.query in 
-    let zeros = c.zeros-query in 
+put_line-requires c = let made = c.query in
+    let zeros = c.zeros-query in
     let l = filled-length c.args.c c.args.wanted c.args.server c.args.size c.args.key.now c.zeros-query.result c.requires.key_value c.requires.server_lt_servers c.zeros-query.ensures c.query.new.out c.query.ensures in
     let n = admitted-numbers c.args.c (begun c.args.c c.args.wanted c.args.server c.args.size c.args.key.now c.zeros-query.result c.requires.key_value c.requires.server_lt_servers c.zeros-query.ensures).admitted in
     let below = c.requires.server_lt_servers.0 in
@@ -94,10 +94,10 @@ put_line-requires c =    let made = c.query in
     (omega arith, omega arith)
 
 pub returns : goal.returns
-returns c =    let a = c.args in
-    let made = c.query in 
-    let zeros = c.zeros-query in 
-    let line = c.put_line in 
+returns c = let a = c.args in
+    let made = c.query in
+    let zeros = c.zeros-query in
+    let line = c.put_line in
     let part = part-is c.args.c c.args.wanted c.args.server c.args.size c.args.key.now c.zeros-query.result c.requires.key_value c.requires.server_lt_servers c.zeros-query.ensures c.query.new.out c.query.ensures in
     let l = filled-length c.args.c c.args.wanted c.args.server c.args.size c.args.key.now c.zeros-query.result c.requires.key_value c.requires.server_lt_servers c.zeros-query.ensures c.query.new.out c.query.ensures in
     let most = c.put_line.ensures.upper_bound in record {

@@ -13,17 +13,17 @@ pub power-v-requires : goal.power-v-requires
 power-v-requires c = blocks-fit c.args.n c.args.k c.requires
 
 pub overflow_mul-v : goal.overflow_mul-v
-overflow_mul-v c =    let a = c.args in
+overflow_mul-v c = let a = c.args in
     record { fits = omega (arith, rows-small a.n a.k c.requires c.power-v.result (omega (arith, c.power-v.ensures))) }
 
 pub returns-then-query-v : goal.returns-then-query-v
-returns-then-query-v c =    let a = c.args in
+returns-then-query-v c = let a = c.args in
     sym (length-refused a.n a.k a.server a.query.now
     (λ e. c.if-query-v.true (e ∙ ap (λ (v : ℕ). v * a.k) (sym c.power-v.ensures))))
 
 pub rows_fresh-requires : goal.rows_fresh-requires
 rows_fresh-requires c = record {
-      round_numbers = c.requires;
-      v_value = c.power-v.ensures;
-      query_len = c.if-query-v.false;
-    }
+  round_numbers = c.requires;
+  v_value = c.power-v.ensures;
+  query_len = c.if-query-v.false;
+}

@@ -40,25 +40,25 @@ digits-inside N K i query b long low = (omega (arith, slot-end i (blocks N K) K 
 pub overflow_sub-k : goal.overflow_sub-k
 overflow_sub-k c =
     let numbers : RoundNumbers c.args.n c.args.k =
-        fits-numbers c.args.n c.args.k c.args.s c.requires.s_value in
+    fits-numbers c.args.n c.args.k c.args.s c.requires.s_value in
     omega (arith, numbers.messages-low)
 
 pub power-v-requires : goal.power-v-requires
 power-v-requires c =
     let numbers : RoundNumbers c.args.n c.args.k =
-        fits-numbers c.args.n c.args.k c.args.s c.requires.s_value in
+    fits-numbers c.args.n c.args.k c.args.s c.requires.s_value in
     blocks-fit c.args.n c.args.k numbers
 
 pub overflow_sub-stride : goal.overflow_sub-stride
 overflow_sub-stride c =
     let numbers : RoundNumbers c.args.n c.args.k =
-        fits-numbers c.args.n c.args.k c.args.s c.requires.s_value in
+    fits-numbers c.args.n c.args.k c.args.s c.requires.s_value in
     omega (arith, numbers.servers-low)
 
 pub overflow_mul-stride : goal.overflow_mul-stride
 overflow_mul-stride c =
     let numbers : RoundNumbers c.args.n c.args.k =
-        fits-numbers c.args.n c.args.k c.args.s c.requires.s_value in
+    fits-numbers c.args.n c.args.k c.args.s c.requires.s_value in
     let all : c.power-v.result ≤ blocks c.args.n c.args.k = omega (arith, c.power-v.ensures) in
     omega (arith, symbols-small c.args.n c.args.k c.power-v.result numbers all)
 
@@ -70,20 +70,20 @@ loop-i-init c =
 pub overflow_sub-first : goal.overflow_sub-first
 overflow_sub-first c =
     let numbers : RoundNumbers c.args.n c.args.k =
-        fits-numbers c.args.n c.args.k c.args.s c.requires.s_value in
+    fits-numbers c.args.n c.args.k c.args.s c.requires.s_value in
     omega (arith, numbers.servers-low)
 
 pub overflow_mul-first : goal.overflow_mul-first
 overflow_mul-first c =
     let numbers : RoundNumbers c.args.n c.args.k =
-        fits-numbers c.args.n c.args.k c.args.s c.requires.s_value in
+    fits-numbers c.args.n c.args.k c.args.s c.requires.s_value in
     let low : c.loop-i.i < blocks c.args.n c.args.k = omega (arith, c.power-v.ensures) in
     omega (arith, symbols-small c.args.n c.args.k c.loop-i.i numbers (omega (arith, low)))
 
 pub overflow_mul-from : goal.overflow_mul-from
 overflow_mul-from c =
     let numbers : RoundNumbers c.args.n c.args.k =
-        fits-numbers c.args.n c.args.k c.args.s c.requires.s_value in
+    fits-numbers c.args.n c.args.k c.args.s c.requires.s_value in
     let low : c.loop-i.i < blocks c.args.n c.args.k = omega (arith, c.power-v.ensures) in
     let inside = digits-inside c.args.n c.args.k c.loop-i.i c.args.query.now numbers c.requires.digit_rows.long low in
     omega (arith, inside.1)
@@ -91,7 +91,7 @@ overflow_mul-from c =
 pub overflow_add-end : goal.overflow_add-end
 overflow_add-end c =
     let numbers : RoundNumbers c.args.n c.args.k =
-        fits-numbers c.args.n c.args.k c.args.s c.requires.s_value in
+    fits-numbers c.args.n c.args.k c.args.s c.requires.s_value in
     let low : c.loop-i.i < blocks c.args.n c.args.k = omega (arith, c.power-v.ensures) in
     let inside = digits-inside c.args.n c.args.k c.loop-i.i c.args.query.now numbers c.requires.digit_rows.long low in
     omega (arith, inside.1, numbers.messages-high)
@@ -105,7 +105,7 @@ slice_bounds-answer_row-start c = omega arith
 pub slice_bounds-answer_row-end : goal.slice_bounds-answer_row-end
 slice_bounds-answer_row-end c =
     let numbers : RoundNumbers c.args.n c.args.k =
-        fits-numbers c.args.n c.args.k c.args.s c.requires.s_value in
+    fits-numbers c.args.n c.args.k c.args.s c.requires.s_value in
     let low : c.loop-i.i < blocks c.args.n c.args.k = omega (arith, c.power-v.ensures) in
     let inside = digits-inside c.args.n c.args.k c.loop-i.i c.args.query.now numbers c.requires.digit_rows.long low in
     omega (arith, inside.0)

@@ -23,15 +23,15 @@ small N K S key fits all i h =
 pub overflow_sub-result : goal.overflow_sub-result
 overflow_sub-result c =
     let numbers : RoundNumbers c.args.n c.args.k =
-        fits-numbers c.args.n c.args.k c.args.s c.requires.s_value in
+    fits-numbers c.args.n c.args.k c.args.s c.requires.s_value in
     let all : Permutation (blocks c.args.n c.args.k) c.args.key.now =
-        permutation-facts (blocks c.args.n c.args.k) c.args.key.now c.requires.key_value in
+    permutation-facts (blocks c.args.n c.args.k) c.args.key.now c.requires.key_value in
     omega (arith, all.long, blocks-some c.args.n c.args.k numbers)
 
 pub overflow_mul-result : goal.overflow_mul-result
 overflow_mul-result c =
     let all : Permutation (blocks c.args.n c.args.k) c.args.key.now =
-        permutation-facts (blocks c.args.n c.args.k) c.args.key.now c.requires.key_value in
+    permutation-facts (blocks c.args.n c.args.k) c.args.key.now c.requires.key_value in
     record {
       fits = omega (arith, small c.args.n c.args.k c.args.s c.args.key.now c.requires.s_value all (length c.args.key.now - 1) (omega arith));
     }
@@ -39,9 +39,9 @@ overflow_mul-result c =
 pub returns-then-server-eq0 : goal.returns-then-server-eq0
 returns-then-server-eq0 c =
     let numbers : RoundNumbers c.args.n c.args.k =
-        fits-numbers c.args.n c.args.k c.args.s c.requires.s_value in
+    fits-numbers c.args.n c.args.k c.args.s c.requires.s_value in
     let all : Permutation (blocks c.args.n c.args.k) c.args.key.now =
-        permutation-facts (blocks c.args.n c.args.k) c.args.key.now c.requires.key_value in
+    permutation-facts (blocks c.args.n c.args.k) c.args.key.now c.requires.key_value in
     let a = c.args in
     let key = a.key.now in
     let some : 0 < a.n = omega (arith, numbers.servers-low) in
@@ -52,7 +52,7 @@ returns-then-server-eq0 c =
 pub overflow_mul-result-2 : goal.overflow_mul-result-2
 overflow_mul-result-2 c =
     let all : Permutation (blocks c.args.n c.args.k) c.args.key.now =
-        permutation-facts (blocks c.args.n c.args.k) c.args.key.now c.requires.key_value in
+    permutation-facts (blocks c.args.n c.args.k) c.args.key.now c.requires.key_value in
     record {
       fits = omega (arith, small c.args.n c.args.k c.args.s c.args.key.now c.requires.s_value all (length c.args.key.now) (omega arith));
     }
@@ -60,9 +60,9 @@ overflow_mul-result-2 c =
 pub returns : goal.returns
 returns c =
     let numbers : RoundNumbers c.args.n c.args.k =
-        fits-numbers c.args.n c.args.k c.args.s c.requires.s_value in
+    fits-numbers c.args.n c.args.k c.args.s c.requires.s_value in
     let all : Permutation (blocks c.args.n c.args.k) c.args.key.now =
-        permutation-facts (blocks c.args.n c.args.k) c.args.key.now c.requires.key_value in
+    permutation-facts (blocks c.args.n c.args.k) c.args.key.now c.requires.key_value in
     let a = c.args in
     let key = a.key.now in
     let some : 0 < a.n = omega (arith, numbers.servers-low) in

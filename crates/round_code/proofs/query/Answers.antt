@@ -24,25 +24,25 @@ unfolding range flat_map
 loop-i-init c = (omega arith, refl, refl)
 
 pub overflow_mul-at : goal.overflow_mul-at
-overflow_mul-at c =    let all : Permutation (blocks c.args.n c.args.k) c.args.key.now =
-        permutation-facts (blocks c.args.n c.args.k) c.args.key.now c.requires.key_value in
+overflow_mul-at c = let all : Permutation (blocks c.args.n c.args.k) c.args.key.now =
+    permutation-facts (blocks c.args.n c.args.k) c.args.key.now c.requires.key_value in
     let inside : let a = c.args in
     (c.loop-i.i * a.k + a.k ≤ length a.out.now) × (c.loop-i.i * a.k ≤ 64 * 7) =
-        let a = c.args in
-        let i = c.loop-i.i in
-        let low : i < blocks a.n a.k = omega (arith, (all).long) in
-        (omega (arith, slot-end i (blocks a.n a.k) a.k low, c.requires.k_in_bounds), rows-small a.n a.k c.requires.round_numbers i (omega arith)) in
+    let a = c.args in
+    let i = c.loop-i.i in
+    let low : i < blocks a.n a.k = omega (arith, (all).long) in
+    (omega (arith, slot-end i (blocks a.n a.k) a.k low, c.requires.k_in_bounds), rows-small a.n a.k c.requires.round_numbers i (omega arith)) in
     omega (arith, (inside).1)
 
 pub overflow_add-end : goal.overflow_add-end
-overflow_add-end c =    let all : Permutation (blocks c.args.n c.args.k) c.args.key.now =
-        permutation-facts (blocks c.args.n c.args.k) c.args.key.now c.requires.key_value in
+overflow_add-end c = let all : Permutation (blocks c.args.n c.args.k) c.args.key.now =
+    permutation-facts (blocks c.args.n c.args.k) c.args.key.now c.requires.key_value in
     let inside : let a = c.args in
     (c.loop-i.i * a.k + a.k ≤ length a.out.now) × (c.loop-i.i * a.k ≤ 64 * 7) =
-        let a = c.args in
-        let i = c.loop-i.i in
-        let low : i < blocks a.n a.k = omega (arith, (all).long) in
-        (omega (arith, slot-end i (blocks a.n a.k) a.k low, c.requires.k_in_bounds), rows-small a.n a.k c.requires.round_numbers i (omega arith)) in
+    let a = c.args in
+    let i = c.loop-i.i in
+    let low : i < blocks a.n a.k = omega (arith, (all).long) in
+    (omega (arith, slot-end i (blocks a.n a.k) a.k low, c.requires.k_in_bounds), rows-small a.n a.k c.requires.round_numbers i (omega arith)) in
     omega (arith, (inside).1, c.requires.round_numbers.messages-high)
 
 pub bounds-key-i : goal.bounds-key-i
@@ -58,25 +58,25 @@ pub slice_bounds-write_row-start : goal.slice_bounds-write_row-start
 slice_bounds-write_row-start c = omega arith
 
 pub slice_bounds-write_row-end : goal.slice_bounds-write_row-end
-slice_bounds-write_row-end c =    let all : Permutation (blocks c.args.n c.args.k) c.args.key.now =
-        permutation-facts (blocks c.args.n c.args.k) c.args.key.now c.requires.key_value in
+slice_bounds-write_row-end c = let all : Permutation (blocks c.args.n c.args.k) c.args.key.now =
+    permutation-facts (blocks c.args.n c.args.k) c.args.key.now c.requires.key_value in
     let inside : let a = c.args in
     (c.loop-i.i * a.k + a.k ≤ length a.out.now) × (c.loop-i.i * a.k ≤ 64 * 7) =
-        let a = c.args in
-        let i = c.loop-i.i in
-        let low : i < blocks a.n a.k = omega (arith, (all).long) in
-        (omega (arith, slot-end i (blocks a.n a.k) a.k low, c.requires.k_in_bounds), rows-small a.n a.k c.requires.round_numbers i (omega arith)) in
+    let a = c.args in
+    let i = c.loop-i.i in
+    let low : i < blocks a.n a.k = omega (arith, (all).long) in
+    (omega (arith, slot-end i (blocks a.n a.k) a.k low, c.requires.k_in_bounds), rows-small a.n a.k c.requires.round_numbers i (omega arith)) in
     omega (arith, (inside).0, c.loop-i.invariant.1)
 
 pub write_row-requires : goal.write_row-requires
-write_row-requires c =    let all : Permutation (blocks c.args.n c.args.k) c.args.key.now =
-        permutation-facts (blocks c.args.n c.args.k) c.args.key.now c.requires.key_value in
+write_row-requires c = let all : Permutation (blocks c.args.n c.args.k) c.args.key.now =
+    permutation-facts (blocks c.args.n c.args.k) c.args.key.now c.requires.key_value in
     let inside : let a = c.args in
     (c.loop-i.i * a.k + a.k ≤ length a.out.now) × (c.loop-i.i * a.k ≤ 64 * 7) =
-        let a = c.args in
-        let i = c.loop-i.i in
-        let low : i < blocks a.n a.k = omega (arith, (all).long) in
-        (omega (arith, slot-end i (blocks a.n a.k) a.k low, c.requires.k_in_bounds), rows-small a.n a.k c.requires.round_numbers i (omega arith)) in
+    let a = c.args in
+    let i = c.loop-i.i in
+    let low : i < blocks a.n a.k = omega (arith, (all).long) in
+    (omega (arith, slot-end i (blocks a.n a.k) a.k low, c.requires.k_in_bounds), rows-small a.n a.k c.requires.round_numbers i (omega arith)) in
     let a = c.args in
     let i = c.loop-i.i in
     let long = (all).long in record {
@@ -84,7 +84,7 @@ write_row-requires c =    let all : Permutation (blocks c.args.n c.args.k) c.arg
       wanted_lt_k = c.requires.wanted_lt_k;
       bound = (all).low i (omega arith);
       out_len = ap (λ (n : ℕ). length (take n (drop (i * a.k) c.loop-i.out))) (add-sub_cancel_left (i * a.k) a.k)
-              ∙ cut-length (i * a.k) a.k c.loop-i.out (omega (arith, (inside).0, c.loop-i.invariant.1));
+          ∙ cut-length (i * a.k) a.k c.loop-i.out (omega (arith, (inside).0, c.loop-i.invariant.1));
     }
 
 pub overflow_add-i : goal.overflow_add-i
@@ -95,14 +95,14 @@ loop-i-smaller c = omega arith
 
 pub loop-i-preserved : goal.loop-i-preserved
 unfolding short_key
-loop-i-preserved c =    let all : Permutation (blocks c.args.n c.args.k) c.args.key.now =
-        permutation-facts (blocks c.args.n c.args.k) c.args.key.now c.requires.key_value in
+loop-i-preserved c = let all : Permutation (blocks c.args.n c.args.k) c.args.key.now =
+    permutation-facts (blocks c.args.n c.args.k) c.args.key.now c.requires.key_value in
     let inside : let a = c.args in
     (c.loop-i.i * a.k + a.k ≤ length a.out.now) × (c.loop-i.i * a.k ≤ 64 * 7) =
-        let a = c.args in
-        let i = c.loop-i.i in
-        let low : i < blocks a.n a.k = omega (arith, (all).long) in
-        (omega (arith, slot-end i (blocks a.n a.k) a.k low, c.requires.k_in_bounds), rows-small a.n a.k c.requires.round_numbers i (omega arith)) in
+    let a = c.args in
+    let i = c.loop-i.i in
+    let low : i < blocks a.n a.k = omega (arith, (all).long) in
+    (omega (arith, slot-end i (blocks a.n a.k) a.k low, c.requires.k_in_bounds), rows-small a.n a.k c.requires.round_numbers i (omega arith)) in
     let a = c.args in
     let i = c.loop-i.i in
     let out = c.loop-i.out in
@@ -128,8 +128,8 @@ shape_of-out c = c.loop-i.invariant.1
 
 pub returns : goal.returns
 unfolding round_query
-returns c =    let all : Permutation (blocks c.args.n c.args.k) c.args.key.now =
-        permutation-facts (blocks c.args.n c.args.k) c.args.key.now c.requires.key_value in
+returns c = let all : Permutation (blocks c.args.n c.args.k) c.args.key.now =
+    permutation-facts (blocks c.args.n c.args.k) c.args.key.now c.requires.key_value in
     let a = c.args in
     let last : c.loop-i.i ≡ blocks a.n a.k = omega (arith, (all).long) in
     c.loop-i.invariant.2

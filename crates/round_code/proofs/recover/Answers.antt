@@ -27,23 +27,23 @@ use Rattle.round_code.proofs.recover.Goals as goal
 pub overflow_mul-slot : goal.overflow_mul-slot
 overflow_mul-slot c =
     let given : Given (sum_of c.args.op) c.args.n c.args.k c.args.s c.args.wanted c.args.key.now c.args.answers.now =
-        record { fits = c.requires.s_value; known = c.requires.wanted_lt_k; valid = c.requires.valid; room = c.requires.s_in_bounds } in
+    record { fits = c.requires.s_value; known = c.requires.wanted_lt_k; valid = c.requires.valid; room = c.requires.s_in_bounds } in
     let slot_is : length c.args.key.now * c.args.s ≡ blocks c.args.n c.args.k * c.args.s =
-        ap (λ (v : ℕ). v * c.args.s) (all given).long in
+    ap (λ (v : ℕ). v * c.args.s) (all given).long in
     let slot-low : length c.args.key.now * c.args.s ≤ 64 * 4096 =
-        omega (arith, slot_is, symbols-low given (blocks c.args.n c.args.k) (omega arith)) in
+    omega (arith, slot_is, symbols-low given (blocks c.args.n c.args.k) (omega arith)) in
     omega (arith, slot-low)
 
 pub overflow_sub-block : goal.overflow_sub-block
 overflow_sub-block c =
     let given : Given (sum_of c.args.op) c.args.n c.args.k c.args.s c.args.wanted c.args.key.now c.args.answers.now =
-        record { fits = c.requires.s_value; known = c.requires.wanted_lt_k; valid = c.requires.valid; room = c.requires.s_in_bounds } in
+    record { fits = c.requires.s_value; known = c.requires.wanted_lt_k; valid = c.requires.valid; room = c.requires.s_in_bounds } in
     omega (arith, wide given)
 
 pub overflow_mul-block : goal.overflow_mul-block
 overflow_mul-block c =
     let given : Given (sum_of c.args.op) c.args.n c.args.k c.args.s c.args.wanted c.args.key.now c.args.answers.now =
-        record { fits = c.requires.s_value; known = c.requires.wanted_lt_k; valid = c.requires.valid; room = c.requires.s_in_bounds } in
+    record { fits = c.requires.s_value; known = c.requires.wanted_lt_k; valid = c.requires.valid; room = c.requires.s_in_bounds } in
     omega (arith, block-low given)
 
 pub loop-i-init : goal.loop-i-init
@@ -64,7 +64,7 @@ overflow_cast-entry c = omega (arith, c.shared_slice_known-in-loop-i-1.given c.l
 pub overflow_mul-at : goal.overflow_mul-at
 overflow_mul-at c =
     let given : Given (sum_of c.args.op) c.args.n c.args.k c.args.s c.args.wanted c.args.key.now c.args.answers.now =
-        record { fits = c.requires.s_value; known = c.requires.wanted_lt_k; valid = c.requires.valid; room = c.requires.s_in_bounds } in
+    record { fits = c.requires.s_value; known = c.requires.wanted_lt_k; valid = c.requires.valid; room = c.requires.s_in_bounds } in
     let low : c.loop-i.i < blocks c.args.n c.args.k = omega (arith, (all given).long) in
     let few : c.loop-i.i ≤ 64 = omega (arith, low, (bounds given).blocks-high) in
     omega (arith, mul-le-mul few (block-low given))
@@ -72,7 +72,7 @@ overflow_mul-at c =
 pub overflow_mul-i : goal.overflow_mul-i
 overflow_mul-i c =
     let given : Given (sum_of c.args.op) c.args.n c.args.k c.args.s c.args.wanted c.args.key.now c.args.answers.now =
-        record { fits = c.requires.s_value; known = c.requires.wanted_lt_k; valid = c.requires.valid; room = c.requires.s_in_bounds } in
+    record { fits = c.requires.s_value; known = c.requires.wanted_lt_k; valid = c.requires.valid; room = c.requires.s_in_bounds } in
     let low : c.loop-i.i < blocks c.args.n c.args.k = omega (arith, (all given).long) in
     omega (arith, symbols-low given c.loop-i.i (omega (arith, low)))
 
@@ -80,11 +80,11 @@ pub recover_block-requires : goal.recover_block-requires
 unfolding round_sizes
 recover_block-requires c =
     let given : Given (sum_of c.args.op) c.args.n c.args.k c.args.s c.args.wanted c.args.key.now c.args.answers.now =
-        record { fits = c.requires.s_value; known = c.requires.wanted_lt_k; valid = c.requires.valid; room = c.requires.s_in_bounds } in
+    record { fits = c.requires.s_value; known = c.requires.wanted_lt_k; valid = c.requires.valid; room = c.requires.s_in_bounds } in
     let slot_is : length c.args.key.now * c.args.s ≡ blocks c.args.n c.args.k * c.args.s =
-        ap (λ (v : ℕ). v * c.args.s) (all given).long in
+    ap (λ (v : ℕ). v * c.args.s) (all given).long in
     let slot-low : length c.args.key.now * c.args.s ≤ 64 * 4096 =
-        omega (arith, slot_is, symbols-low given (blocks c.args.n c.args.k) (omega arith)) in
+    omega (arith, slot_is, symbols-low given (blocks c.args.n c.args.k) (omega arith)) in
     let low : c.loop-i.i < blocks c.args.n c.args.k = omega (arith, (all given).long) in
     let a = c.args in
     let g = given in
@@ -99,10 +99,10 @@ recover_block-requires c =
 pub overflow_add-before : goal.overflow_add-before
 overflow_add-before c =
     let given : Given (sum_of c.args.op) c.args.n c.args.k c.args.s c.args.wanted c.args.key.now c.args.answers.now =
-        record { fits = c.requires.s_value; known = c.requires.wanted_lt_k; valid = c.requires.valid; room = c.requires.s_in_bounds } in
+    record { fits = c.requires.s_value; known = c.requires.wanted_lt_k; valid = c.requires.valid; room = c.requires.s_in_bounds } in
     let low : c.loop-i.i < blocks c.args.n c.args.k = omega (arith, (all given).long) in
     let row-added : c.loop-i.before + c.first_length-before.result ≡ first_before c.args.n c.args.k c.args.s c.args.wanted c.args.key.now (c.loop-i.i + 1) =
-        ap₂ (λ (m r : ℕ). m + r) c.loop-i.invariant.1 c.first_length-before.ensures ∙ first_next given c.loop-i.i low in
+    ap₂ (λ (m r : ℕ). m + r) c.loop-i.invariant.1 c.first_length-before.ensures ∙ first_next given c.loop-i.i low in
     let a = c.args in
     let next = before-short a.k a.s (round_query a.n a.k a.wanted 0 a.key.now) (c.loop-i.i + 1) in
     let few = symbols-low given (c.loop-i.i + 1) (omega (arith, low)) in
@@ -117,10 +117,10 @@ loop-i-smaller c = omega arith
 pub loop-i-preserved : goal.loop-i-preserved
 loop-i-preserved c =
     let given : Given (sum_of c.args.op) c.args.n c.args.k c.args.s c.args.wanted c.args.key.now c.args.answers.now =
-        record { fits = c.requires.s_value; known = c.requires.wanted_lt_k; valid = c.requires.valid; room = c.requires.s_in_bounds } in
+    record { fits = c.requires.s_value; known = c.requires.wanted_lt_k; valid = c.requires.valid; room = c.requires.s_in_bounds } in
     let low : c.loop-i.i < blocks c.args.n c.args.k = omega (arith, (all given).long) in
     let row-added : c.loop-i.before + c.first_length-before.result ≡ first_before c.args.n c.args.k c.args.s c.args.wanted c.args.key.now (c.loop-i.i + 1) =
-        ap₂ (λ (m r : ℕ). m + r) c.loop-i.invariant.1 c.first_length-before.ensures ∙ first_next given c.loop-i.i low in
+    ap₂ (λ (m r : ℕ). m + r) c.loop-i.invariant.1 c.first_length-before.ensures ∙ first_next given c.loop-i.i low in
     let a = c.args in
     let j = c.loop-i.i in
     let message = c.loop-i.message in
@@ -149,9 +149,9 @@ shape_of-message c =
 pub returns : goal.returns
 returns c =
     let given : Given (sum_of c.args.op) c.args.n c.args.k c.args.s c.args.wanted c.args.key.now c.args.answers.now =
-        record { fits = c.requires.s_value; known = c.requires.wanted_lt_k; valid = c.requires.valid; room = c.requires.s_in_bounds } in
+    record { fits = c.requires.s_value; known = c.requires.wanted_lt_k; valid = c.requires.valid; room = c.requires.s_in_bounds } in
     let bytes : Below 256 c.args.answers.now =
-        λ i h. omega (arith, c.shared_slice_known-2-1.given i) in
+    λ i h. omega (arith, c.shared_slice_known-2-1.given i) in
     let a = c.args in
     let last : c.loop-i.i ≡ blocks a.n a.k = omega (arith, (all given).long) in
     c.loop-i.invariant.2

@@ -60,7 +60,7 @@ turn : (N K server v : ℕ) (query : List ℕ) (i x : ℕ) → RoundNumbers N K 
 turn N K server v query i x b e long h own made =
     let low : i < blocks N K = omega (arith, e, h) in
     let rest-number : x ≡ number N (remove_at 0 (row K query i)) =
-        made ∙ ap (number N) (rest-lent K query i (known N K server b (row K query i) own) (inside N K i v query b e long h).0) in
+    made ∙ ap (number N) (rest-lent K query i (known N K server b (row K query i) own) (inside N K i v query b e long h).0) in
     record {
       low = low;
       own = own;
@@ -116,7 +116,7 @@ pub returns-then-not-admits : goal.returns-then-not-admits
 returns-then-not-admits c =
     let a = c.args in
     let tested : c.admits.result ≡ short_admits a.n a.k a.server (row a.k a.query.now c.loop-i.i) =
-        c.admits.ensures ∙ ap (short_admits a.n a.k a.server) (row-lent a.k a.query.now c.loop-i.i) in
+    c.admits.ensures ∙ ap (short_admits a.n a.k a.server) (row-lent a.k a.query.now c.loop-i.i) in
     sym (row-refused a.n a.k a.server a.query.now c.loop-i.i (omega (arith, c.requires.v_value))
     (sym tested ∙ not-true c.admits.result c.if-not-admits.true-raw))
 
@@ -150,9 +150,9 @@ number_of-number-requires c =
     let r = c.requires in
     let inside = inside a.n a.k c.loop-i.i a.v a.query.now r.round_numbers r.v_value r.query_len (omega arith) in
     let tested : c.admits.result ≡ short_admits a.n a.k a.server (row a.k a.query.now c.loop-i.i) =
-        c.admits.ensures ∙ ap (short_admits a.n a.k a.server) (row-lent a.k a.query.now c.loop-i.i) in
+    c.admits.ensures ∙ ap (short_admits a.n a.k a.server) (row-lent a.k a.query.now c.loop-i.i) in
     let own : short_admits a.n a.k a.server (row a.k a.query.now c.loop-i.i) ≡ true =
-        sym tested ∙ not-false c.admits.result c.if-not-admits.false-raw in
+    sym tested ∙ not-false c.admits.result c.if-not-admits.false-raw in
     let b = r.round_numbers in
     let here = row a.k a.query.now c.loop-i.i in
     let known = known a.n a.k a.server b here own in
@@ -169,9 +169,9 @@ bounds-seen-number c =
     let a = c.args in
     let r = c.requires in
     let tested : c.admits.result ≡ short_admits a.n a.k a.server (row a.k a.query.now c.loop-i.i) =
-        c.admits.ensures ∙ ap (short_admits a.n a.k a.server) (row-lent a.k a.query.now c.loop-i.i) in
+    c.admits.ensures ∙ ap (short_admits a.n a.k a.server) (row-lent a.k a.query.now c.loop-i.i) in
     let own : short_admits a.n a.k a.server (row a.k a.query.now c.loop-i.i) ≡ true =
-        sym tested ∙ not-false c.admits.result c.if-not-admits.false-raw in
+    sym tested ∙ not-false c.admits.result c.if-not-admits.false-raw in
     let made = c.number_of-number in
     let t = turn a.n a.k a.server a.v a.query.now c.loop-i.i made.result r.round_numbers r.v_value r.query_len (omega arith) own made.ensures in
     omega (arith, t.mark-low, r.v_value, r.round_numbers.blocks-high)
@@ -181,17 +181,17 @@ returns-then-seen-number c =
     let a = c.args in
     let r = c.requires in
     let tested : c.admits.result ≡ short_admits a.n a.k a.server (row a.k a.query.now c.loop-i.i) =
-        c.admits.ensures ∙ ap (short_admits a.n a.k a.server) (row-lent a.k a.query.now c.loop-i.i) in
+    c.admits.ensures ∙ ap (short_admits a.n a.k a.server) (row-lent a.k a.query.now c.loop-i.i) in
     let own : short_admits a.n a.k a.server (row a.k a.query.now c.loop-i.i) ≡ true =
-        sym tested ∙ not-false c.admits.result c.if-not-admits.false-raw in
+    sym tested ∙ not-false c.admits.result c.if-not-admits.false-raw in
     let made = c.number_of-number in
     let t = turn a.n a.k a.server a.v a.query.now c.loop-i.i made.result r.round_numbers r.v_value r.query_len (omega arith) own made.ensures in
     let here = row a.k a.query.now c.loop-i.i in
     let keys = round_key a.n a.k 0 a.query.now in
     let again : is_permutation a.v keys ≡ false =
-        c.loop-i.invariant.3
-        ∙ passes-seen a.v c.loop-i.seen keys c.loop-i.i t.numbers-left
-        (ap (λ (m : ℕ). get_or c.loop-i.seen m false) (sym t.marked) ∙ c.if-seen-number.true) in
+    c.loop-i.invariant.3
+    ∙ passes-seen a.v c.loop-i.seen keys c.loop-i.i t.numbers-left
+    (ap (λ (m : ℕ). get_or c.loop-i.seen m false) (sym t.marked) ∙ c.if-seen-number.true) in
     sym (repeat-refused a.n a.k a.server a.query.now (known a.n a.k a.server r.round_numbers here own) (there a.n a.k a.server r.round_numbers here own)
     (ap (λ (v : ℕ). is_permutation v keys) (sym r.v_value) ∙ again))
 
@@ -200,9 +200,9 @@ bounds-seen-number-in-loop-i c =
     let a = c.args in
     let r = c.requires in
     let tested : c.admits.result ≡ short_admits a.n a.k a.server (row a.k a.query.now c.loop-i.i) =
-        c.admits.ensures ∙ ap (short_admits a.n a.k a.server) (row-lent a.k a.query.now c.loop-i.i) in
+    c.admits.ensures ∙ ap (short_admits a.n a.k a.server) (row-lent a.k a.query.now c.loop-i.i) in
     let own : short_admits a.n a.k a.server (row a.k a.query.now c.loop-i.i) ≡ true =
-        sym tested ∙ not-false c.admits.result c.if-not-admits.false-raw in
+    sym tested ∙ not-false c.admits.result c.if-not-admits.false-raw in
     let made = c.number_of-number in
     let t = turn a.n a.k a.server a.v a.query.now c.loop-i.i made.result r.round_numbers r.v_value r.query_len (omega arith) own made.ensures in
     omega (arith, t.mark-low, r.v_value, r.round_numbers.blocks-high)
@@ -218,9 +218,9 @@ loop-i-preserved c =
     let a = c.args in
     let r = c.requires in
     let tested : c.admits.result ≡ short_admits a.n a.k a.server (row a.k a.query.now c.loop-i.i) =
-        c.admits.ensures ∙ ap (short_admits a.n a.k a.server) (row-lent a.k a.query.now c.loop-i.i) in
+    c.admits.ensures ∙ ap (short_admits a.n a.k a.server) (row-lent a.k a.query.now c.loop-i.i) in
     let own : short_admits a.n a.k a.server (row a.k a.query.now c.loop-i.i) ≡ true =
-        sym tested ∙ not-false c.admits.result c.if-not-admits.false-raw in
+    sym tested ∙ not-false c.admits.result c.if-not-admits.false-raw in
     let made = c.number_of-number in
     let t = turn a.n a.k a.server a.v a.query.now c.loop-i.i made.result r.round_numbers r.v_value r.query_len (omega arith) own made.ensures in
     let keys = round_key a.n a.k 0 a.query.now in

@@ -6,7 +6,7 @@ use Rattle.season_text.proofs.day_in.Goals as goal
 
 pub returns : goal.returns
 unfolding day_in
-returns c =    let text = c.args.text.now in
+returns c = let text = c.args.text.now in
     simp (
       c.pair_in.ensures.value,
       c.pair_in-2.ensures.value,

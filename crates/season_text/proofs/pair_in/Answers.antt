@@ -10,7 +10,7 @@ pub overflow_add-result : goal.overflow_add-result
 overflow_add-result c = let d = c.digit_value.ensures.upper_bound in let e = c.digit_value-2.ensures.upper_bound in omega arith
 
 pub returns : goal.returns
-returns c =    let first = c.digit_value.ensures in
+returns c = let first = c.digit_value.ensures in
     let last = c.digit_value-2.ensures in
     let a = c.args in
     let v = pair-value 0 a.text.now a.i (omega arith) in

@@ -10,13 +10,13 @@ use Rattle.season_text.specs.DayLines.{day_text}
 use Rattle.season_text.proofs.put_day_line.Goals as goal
 
 pub put_bytes-start-requires : goal.put_bytes-start-requires
-put_bytes-start-requires c =    let l = length-append c.args.name.now (day_text c.args.d) in
+put_bytes-start-requires c = let l = length-append c.args.name.now (day_text c.args.d) in
     let p = c.requires in
     omega arith
 
 pub put_bytes-requires : goal.put_bytes-requires
-put_bytes-requires c =    let name = c.put_bytes-start in 
-    let day = c.day_text-text in 
+put_bytes-requires c = let name = c.put_bytes-start in
+    let day = c.day_text-text in
     let l = length-append c.args.name.now (day_text c.args.d) in
     let d = ap length c.day_text-text.ensures in
     let p = c.requires in
@@ -25,9 +25,9 @@ put_bytes-requires c =    let name = c.put_bytes-start in
     omega arith
 
 pub returns : goal.returns
-returns c =    let last = c.put_bytes in 
-    let name = c.put_bytes-start in 
-    let day = c.day_text-text in 
+returns c = let last = c.put_bytes in
+    let name = c.put_bytes-start in
+    let day = c.day_text-text in
     let a = c.args in
     let written = a.name.now in
     let l = length-append written (day_text a.d) in

@@ -12,7 +12,7 @@ use Rattle.season_text.proofs.SeasonLines.{text-none, text-lines, parts-length}
 use Rattle.season_text.proofs.put_season.Goals as goal
 
 pub returns-then-are_none : goal.returns-then-are_none
-returns-then-are_none c =    let a = c.args in
+returns-then-are_none c = let a = c.args in
     let none = text-none a.opening a.closing (sym c.are_none.ensures ∙ c.if-are_none.true) in
     record {
       value = rw none (omega arith);
@@ -20,13 +20,13 @@ returns-then-are_none c =    let a = c.args in
     }
 
 pub put_day_line-next-requires : goal.put_day_line-next-requires
-put_day_line-next-requires c =    let a = c.args in
+put_day_line-next-requires c = let a = c.args in
     let l = parts-length a.opening a.closing (sym c.are_none.ensures ∙ c.if-are_none.false) in
     let p = c.requires in
     omega arith
 
 pub put_day_line-requires : goal.put_day_line-requires
-put_day_line-requires c =    let first = c.put_day_line-next in 
+put_day_line-requires c = let first = c.put_day_line-next in
     let a = c.args in
     let l = parts-length a.opening a.closing (sym c.are_none.ensures ∙ c.if-are_none.false) in
     let p = c.requires in
@@ -35,8 +35,8 @@ put_day_line-requires c =    let first = c.put_day_line-next in
     omega arith
 
 pub returns : goal.returns
-returns c =    let last = c.put_day_line in 
-    let first = c.put_day_line-next in 
+returns c = let last = c.put_day_line in
+    let first = c.put_day_line-next in
     let a = c.args in
     let x = day_line_text open_name a.opening in
     let y = day_line_text close_name a.closing in

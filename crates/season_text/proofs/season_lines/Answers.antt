@@ -10,21 +10,21 @@ use Rattle.season_text.proofs.season_lines.Goals as goal
 
 pub returns-then-text-at : goal.returns-then-text-at
 unfolding season_lines
-returns-then-text-at c =    let a = c.args in
+returns-then-text-at c = let a = c.args in
     simp (c.none-none.ensures, drop_of_length-le a.text.now {i = a.at} (omega arith), nothing-begins)
 
 pub returns-then-not-date_begins : goal.returns-then-not-date_begins
 unfolding season_lines
-returns-then-not-date_begins c =    let begun : let a = c.args in c.date_begins.result ≡ date_begins (drop a.at a.text.now) =
-        let a = c.args in
-        c.date_begins.ensures ∙ ap date_begins (to_end a.text.now a.at) in
+returns-then-not-date_begins c = let begun : let a = c.args in c.date_begins.result ≡ date_begins (drop a.at a.text.now) =
+    let a = c.args in
+    c.date_begins.ensures ∙ ap date_begins (to_end a.text.now a.at) in
     simp (c.none-none.ensures, sym (begun) ∙ not-true _ c.if-not-date_begins.true-raw)
 
 pub returns-in_default : goal.returns-in_default
 unfolding season_lines
-returns-in_default c =    let begun : let a = c.args in c.date_begins.result ≡ date_begins (drop a.at a.text.now) =
-        let a = c.args in
-        c.date_begins.ensures ∙ ap date_begins (to_end a.text.now a.at) in
+returns-in_default c = let begun : let a = c.args in c.date_begins.result ≡ date_begins (drop a.at a.text.now) =
+    let a = c.args in
+    c.date_begins.ensures ∙ ap date_begins (to_end a.text.now a.at) in
     simp (
       sym (begun) ∙ not-false _ c.if-not-date_begins.false-raw,
       sym c.day_line.ensures ∙ c.in_default.is,
@@ -32,9 +32,9 @@ returns-in_default c =    let begun : let a = c.args in c.date_begins.result ≡
 
 pub returns-in_default-day_line : goal.returns-in_default-day_line
 unfolding season_lines
-returns-in_default-day_line c =    let begun : let a = c.args in c.date_begins.result ≡ date_begins (drop a.at a.text.now) =
-        let a = c.args in
-        c.date_begins.ensures ∙ ap date_begins (to_end a.text.now a.at) in
+returns-in_default-day_line c = let begun : let a = c.args in c.date_begins.result ≡ date_begins (drop a.at a.text.now) =
+    let a = c.args in
+    c.date_begins.ensures ∙ ap date_begins (to_end a.text.now a.at) in
     simp (
       sym (begun) ∙ not-false _ c.if-not-date_begins.false-raw,
       sym c.day_line.ensures ∙ c.in-Value.is,
@@ -43,9 +43,9 @@ returns-in_default-day_line c =    let begun : let a = c.args in c.date_begins.r
 
 pub returns : goal.returns
 unfolding season_lines
-returns c =    let begun : let a = c.args in c.date_begins.result ≡ date_begins (drop a.at a.text.now) =
-        let a = c.args in
-        c.date_begins.ensures ∙ ap date_begins (to_end a.text.now a.at) in
+returns c = let begun : let a = c.args in c.date_begins.result ≡ date_begins (drop a.at a.text.now) =
+    let a = c.args in
+    c.date_begins.ensures ∙ ap date_begins (to_end a.text.now a.at) in
     simp (
       sym (begun) ∙ not-false _ c.if-not-date_begins.false-raw,
       sym c.day_line.ensures ∙ c.in-Value.is,

@@ -6,16 +6,16 @@ use Rattle.server.proofs.Laws.{Answers, answer-passed, answer-refused, answer-do
 use Rattle.server.proofs.answer.Goals as goal
 
 pub returns-in-Refused : goal.returns-in-Refused
-returns-in-Refused c =    let a = c.args in
-    let asked = c.verdict in 
+returns-in-Refused c = let a = c.args in
+    let asked = c.verdict in
     answer-refused scheme_of a.c a.today a.server a.store.now a.query.now a.out.now c.verdict.result c.in-Refused.refusal c.verdict.ensures c.in-Refused.is
 
 pub answer-requires : goal.answer-requires
-answer-requires c =    let passed : let a = c.args in
+answer-requires c = let passed : let a = c.args in
     Answers scheme_of a.c a.today a.server (length a.store.now) a.query.now (length a.out.now) =
-        let a = c.args in
-        answer-passed scheme_of a.c a.today a.server (length a.store.now) a.query.now (length a.out.now)
-        (sym c.verdict.ensures ∙ c.in_default.is) in
+    let a = c.args in
+    answer-passed scheme_of a.c a.today a.server (length a.store.now) a.query.now (length a.out.now)
+    (sym c.verdict.ensures ∙ c.in_default.is) in
     let p = passed in record {
       admitted = p.admitted;
       query_value = p.admits;
@@ -24,15 +24,15 @@ answer-requires c =    let passed : let a = c.args in
     }
 
 pub answer_length-requires : goal.answer_length-requires
-answer_length-requires c =    let passed : let a = c.args in
+answer_length-requires c = let passed : let a = c.args in
     Answers scheme_of a.c a.today a.server (length a.store.now) a.query.now (length a.out.now) =
-        let a = c.args in
-        answer-passed scheme_of a.c a.today a.server (length a.store.now) a.query.now (length a.out.now)
-        (sym c.verdict.ensures ∙ c.in_default.is) in
+    let a = c.args in
+    answer-passed scheme_of a.c a.today a.server (length a.store.now) a.query.now (length a.out.now)
+    (sym c.verdict.ensures ∙ c.in_default.is) in
     (passed).admitted
 
 pub returns : goal.returns
-returns c =    let a = c.args in
-    let asked = c.verdict in 
+returns c = let a = c.args in
+    let asked = c.verdict in
     answer-done scheme_of a.c a.today a.server a.store.now a.query.now a.out.now c.verdict.result c.answer_length.result _
     c.verdict.ensures c.in_default.is c.answer_length.ensures c.answer.ensures

@@ -15,85 +15,85 @@ use Rattle.server.proofs.verdict.Goals as goal
 
 pub returns-in_default : goal.returns-in_default
 unfolding answer_verdict
-returns-in_default c =    let value = c.args.c in
+returns-in_default c = let value = c.args.c in
     let refused = unmeasured value c.sizes.result c.in_default.field-0 c.sizes.ensures c.in_default.is in
     after-catalogue value _ refl c.verdict.result _ c.verdict.ensures (rw (c.verdict.ensures, refused))
 
 pub returns-in-Refused : goal.returns-in-Refused
-returns-in-Refused c =    let admitted : Admitted c.args.c =
-        (measured c.args.c c.sizes.result c.in-Of.sizes c.sizes.ensures c.in-Of.is).0 in
+returns-in-Refused c = let admitted : Admitted c.args.c =
+    (measured c.args.c c.sizes.result c.in-Of.sizes c.sizes.ensures c.in-Of.is).0 in
     let a = c.args in
-    let asked = c.day_verdict in 
+    let asked = c.day_verdict in
     day-refused scheme_of a.c a.today a.server a.stored a.query.now a.room (admitted)
     c.in-Refused.refusal (sym c.day_verdict.ensures ∙ c.in-Refused.is)
 
 pub returns-then-c-server : goal.returns-then-c-server
-returns-then-c-server c =    let admitted : Admitted c.args.c =
-        (measured c.args.c c.sizes.result c.in-Of.sizes c.sizes.ensures c.in-Of.is).0 in
+returns-then-c-server c = let admitted : Admitted c.args.c =
+    (measured c.args.c c.sizes.result c.in-Of.sizes c.sizes.ensures c.in-Of.is).0 in
     let served : let a = c.args in Served a.c a.today =
-        sym c.day_verdict.ensures ∙ c.in_default-day_verdict.is in
+    sym c.day_verdict.ensures ∙ c.in_default-day_verdict.is in
     let a = c.args in
     server-refused scheme_of a.c a.today a.server a.stored a.query.now a.room (admitted) (served) c.if-c-server.true
 
 pub admits-requires : goal.admits-requires
-admits-requires c =    let admitted : Admitted c.args.c =
-        (measured c.args.c c.sizes.result c.in-Of.sizes c.sizes.ensures c.in-Of.is).0 in
+admits-requires c = let admitted : Admitted c.args.c =
+    (measured c.args.c c.sizes.result c.in-Of.sizes c.sizes.ensures c.in-Of.is).0 in
     admitted
 
 pub returns-then-not-admits : goal.returns-then-not-admits
-returns-then-not-admits c =    let admitted : Admitted c.args.c =
-        (measured c.args.c c.sizes.result c.in-Of.sizes c.sizes.ensures c.in-Of.is).0 in
+returns-then-not-admits c = let admitted : Admitted c.args.c =
+    (measured c.args.c c.sizes.result c.in-Of.sizes c.sizes.ensures c.in-Of.is).0 in
     let served : let a = c.args in Served a.c a.today =
-        sym c.day_verdict.ensures ∙ c.in_default-day_verdict.is in
+    sym c.day_verdict.ensures ∙ c.in_default-day_verdict.is in
     let a = c.args in
-    let asked = c.admits in 
+    let asked = c.admits in
     query-refused scheme_of a.c a.today a.server a.stored a.query.now a.room (admitted) (served)
     c.if-c-server.false (sym c.admits.ensures ∙ not-true c.admits.result c.if-not-admits.true-raw)
 
 pub returns-then-stored-sizes : goal.returns-then-stored-sizes
-returns-then-stored-sizes c =    let admitted : Admitted c.args.c =
-        (measured c.args.c c.sizes.result c.in-Of.sizes c.sizes.ensures c.in-Of.is).0 in
+returns-then-stored-sizes c = let admitted : Admitted c.args.c =
+    (measured c.args.c c.sizes.result c.in-Of.sizes c.sizes.ensures c.in-Of.is).0 in
     let store-size : c.in-Of.sizes.store ≡ (scheme_of c.args.c).sizes.store =
-        ap (λ (s : Sizes). s.store) (measured c.args.c c.sizes.result c.in-Of.sizes c.sizes.ensures c.in-Of.is).1 in
+    ap (λ (s : Sizes). s.store) (measured c.args.c c.sizes.result c.in-Of.sizes c.sizes.ensures c.in-Of.is).1 in
     let served : let a = c.args in Served a.c a.today =
-        sym c.day_verdict.ensures ∙ c.in_default-day_verdict.is in
+    sym c.day_verdict.ensures ∙ c.in_default-day_verdict.is in
     let good : let a = c.args in
     (scheme_of a.c).admits a.server a.query.now ≡ true =
-        sym c.admits.ensures ∙ not-false c.admits.result c.if-not-admits.false-raw in
+    sym c.admits.ensures ∙ not-false c.admits.result c.if-not-admits.false-raw in
     let a = c.args in
     store-refused scheme_of a.c a.today a.server a.stored a.query.now a.room (admitted) (served)
     c.if-c-server.false (good) (λ e. c.if-stored-sizes.true (e ∙ sym (store-size)))
 
 pub answer_length-requires : goal.answer_length-requires
-answer_length-requires c =    let admitted : Admitted c.args.c =
-        (measured c.args.c c.sizes.result c.in-Of.sizes c.sizes.ensures c.in-Of.is).0 in
+answer_length-requires c = let admitted : Admitted c.args.c =
+    (measured c.args.c c.sizes.result c.in-Of.sizes c.sizes.ensures c.in-Of.is).0 in
     admitted
 
 pub returns-then-room-answer_length : goal.returns-then-room-answer_length
-returns-then-room-answer_length c =    let admitted : Admitted c.args.c =
-        (measured c.args.c c.sizes.result c.in-Of.sizes c.sizes.ensures c.in-Of.is).0 in
+returns-then-room-answer_length c = let admitted : Admitted c.args.c =
+    (measured c.args.c c.sizes.result c.in-Of.sizes c.sizes.ensures c.in-Of.is).0 in
     let store-size : c.in-Of.sizes.store ≡ (scheme_of c.args.c).sizes.store =
-        ap (λ (s : Sizes). s.store) (measured c.args.c c.sizes.result c.in-Of.sizes c.sizes.ensures c.in-Of.is).1 in
+    ap (λ (s : Sizes). s.store) (measured c.args.c c.sizes.result c.in-Of.sizes c.sizes.ensures c.in-Of.is).1 in
     let served : let a = c.args in Served a.c a.today =
-        sym c.day_verdict.ensures ∙ c.in_default-day_verdict.is in
+    sym c.day_verdict.ensures ∙ c.in_default-day_verdict.is in
     let good : let a = c.args in
     (scheme_of a.c).admits a.server a.query.now ≡ true =
-        sym c.admits.ensures ∙ not-false c.admits.result c.if-not-admits.false-raw in
+    sym c.admits.ensures ∙ not-false c.admits.result c.if-not-admits.false-raw in
     let a = c.args in
     room-refused scheme_of a.c a.today a.server a.stored a.query.now a.room (admitted) (served)
     c.if-c-server.false (good) (c.if-stored-sizes.false ∙ store-size)
     (rw c.answer_length.ensures at c.if-room-answer_length.true)
 
 pub returns : goal.returns
-returns c =    let admitted : Admitted c.args.c =
-        (measured c.args.c c.sizes.result c.in-Of.sizes c.sizes.ensures c.in-Of.is).0 in
+returns c = let admitted : Admitted c.args.c =
+    (measured c.args.c c.sizes.result c.in-Of.sizes c.sizes.ensures c.in-Of.is).0 in
     let store-size : c.in-Of.sizes.store ≡ (scheme_of c.args.c).sizes.store =
-        ap (λ (s : Sizes). s.store) (measured c.args.c c.sizes.result c.in-Of.sizes c.sizes.ensures c.in-Of.is).1 in
+    ap (λ (s : Sizes). s.store) (measured c.args.c c.sizes.result c.in-Of.sizes c.sizes.ensures c.in-Of.is).1 in
     let served : let a = c.args in Served a.c a.today =
-        sym c.day_verdict.ensures ∙ c.in_default-day_verdict.is in
+    sym c.day_verdict.ensures ∙ c.in_default-day_verdict.is in
     let good : let a = c.args in
     (scheme_of a.c).admits a.server a.query.now ≡ true =
-        sym c.admits.ensures ∙ not-false c.admits.result c.if-not-admits.false-raw in
+    sym c.admits.ensures ∙ not-false c.admits.result c.if-not-admits.false-raw in
     let a = c.args in
     sym (answer-accepted scheme_of a.c a.today a.server a.stored a.query.now a.room (record {
       admitted = admitted;

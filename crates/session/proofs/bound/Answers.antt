@@ -10,18 +10,18 @@ use Rattle.session.proofs.ByteBound.{bound-done, bound-refused}
 use Rattle.session.proofs.bound.Goals as goal
 
 pub returns-in-Refused : goal.returns-in-Refused
-returns-in-Refused c =    let v = c.verdict in 
+returns-in-Refused c = let v = c.verdict in
     sym (bound-refused scheme_of c.args.catalogue c.verdict.result _ c.verdict.ensures c.in-Refused.is)
 
 pub sizes_of-sizes-requires : goal.sizes_of-sizes-requires
 sizes_of-sizes-requires c = sym c.verdict.ensures ∙ c.in_default.is
 
 pub overflow_mul-result : goal.overflow_mul-result
-overflow_mul-result c =    let admitted = sym c.verdict.ensures ∙ c.in_default.is in
+overflow_mul-result c = let admitted = sym c.verdict.ensures ∙ c.in_default.is in
     omega (arith, (sizes-small c.args.catalogue c.sizes_of-sizes.result admitted c.sizes_of-sizes.ensures).slots)
 
 pub returns : goal.returns
-returns c =    let catalogue = c.args.catalogue in
-    let v = c.verdict in 
+returns c = let catalogue = c.args.catalogue in
+    let v = c.verdict in
     ap (λ (sizes : Sizes). Value (catalogue.servers * sizes.slot)) c.sizes_of-sizes.ensures
     ∙ sym (bound-done scheme_of catalogue c.verdict.result c.verdict.ensures c.in_default.is)

@@ -7,7 +7,7 @@ pub returns-then-not-marks_good : goal.returns-then-not-marks_good
 returns-then-not-marks_good c = rw (sym c.marks_good.ensures ∙ not-true _ c.if-not-marks_good.true-raw)
 
 pub meters_good-requires : goal.meters_good-requires
-meters_good-requires c =    let pre = c.requires in
+meters_good-requires c = let pre = c.requires in
     record {
       admitted = c.requires.admitted;
       query_value = c.requires.query_value;
@@ -17,7 +17,7 @@ meters_good-requires c =    let pre = c.requires in
     }
 
 pub returns-then-not-meters_good : goal.returns-then-not-meters_good
-returns-then-not-meters_good c =    rw (sym c.marks_good.ensures ∙ not-false _ c.if-not-marks_good.false-raw, sym c.meters_good.ensures ∙ not-true _ c.if-not-meters_good.true-raw)
+returns-then-not-meters_good c = rw (sym c.marks_good.ensures ∙ not-false _ c.if-not-marks_good.false-raw, sym c.meters_good.ensures ∙ not-true _ c.if-not-meters_good.true-raw)
 
 pub returns : goal.returns
-returns c =    rw (sym c.marks_good.ensures ∙ not-false _ c.if-not-marks_good.false-raw, sym c.meters_good.ensures ∙ not-false _ c.if-not-meters_good.false-raw)
+returns c = rw (sym c.marks_good.ensures ∙ not-false _ c.if-not-marks_good.false-raw, sym c.meters_good.ensures ∙ not-false _ c.if-not-meters_good.false-raw)

@@ -15,7 +15,7 @@ bounds-taken-i c = omega arith
 
 pub returns-then-not-taken-i : goal.returns-then-not-taken-i
 unfolding all_taken
-returns-then-not-taken-i c =    sym (every-false c.args.servers _ c.loop-i.i (omega arith) (not-true _ c.if-not-taken-i.true-raw))
+returns-then-not-taken-i c = sym (every-false c.args.servers _ c.loop-i.i (omega arith) (not-true _ c.if-not-taken-i.true-raw))
 
 pub overflow_add-i : goal.overflow_add-i
 overflow_add-i c = omega arith
@@ -24,9 +24,9 @@ pub loop-i-smaller : goal.loop-i-smaller
 loop-i-smaller c = omega arith
 
 pub loop-i-preserved : goal.loop-i-preserved
-loop-i-preserved c =    (omega arith, every_more c.loop-i.i _ c.loop-i.invariant.1 (not-false _ c.if-not-taken-i.false-raw))
+loop-i-preserved c = (omega arith, every_more c.loop-i.i _ c.loop-i.invariant.1 (not-false _ c.if-not-taken-i.false-raw))
 
 pub returns : goal.returns
 unfolding all_taken
-returns c =    let e : c.loop-i.i ≡ c.args.servers = omega arith in
+returns c = let e : c.loop-i.i ≡ c.args.servers = omega arith in
     sym (rw e at c.loop-i.invariant.1)

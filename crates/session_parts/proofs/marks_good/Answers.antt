@@ -12,12 +12,12 @@ loop-i-init c = (omega arith, every-none _)
 
 pub returns-then-not-mark_good : goal.returns-then-not-mark_good
 unfolding marks_good
-returns-then-not-mark_good c =    sym (every-false 16 _ c.loop-i.i (omega arith) (sym c.mark_good.ensures ∙ not-true _ c.if-not-mark_good.true-raw))
+returns-then-not-mark_good c = sym (every-false 16 _ c.loop-i.i (omega arith) (sym c.mark_good.ensures ∙ not-true _ c.if-not-mark_good.true-raw))
 
 pub loop-i-preserved : goal.loop-i-preserved
-loop-i-preserved c =    (omega arith, every_more c.loop-i.i _ c.loop-i.invariant.1 (sym c.mark_good.ensures ∙ not-false _ c.if-not-mark_good.false-raw))
+loop-i-preserved c = (omega arith, every_more c.loop-i.i _ c.loop-i.invariant.1 (sym c.mark_good.ensures ∙ not-false _ c.if-not-mark_good.false-raw))
 
 pub returns : goal.returns
 unfolding marks_good
-returns c =    let e : c.loop-i.i ≡ 16 = omega arith in
+returns c = let e : c.loop-i.i ≡ 16 = omega arith in
     sym (rw e at c.loop-i.invariant.1)

@@ -24,7 +24,7 @@ pub loop-i-smaller : goal.loop-i-smaller
 loop-i-smaller c = omega arith
 
 pub loop-i-preserved : goal.loop-i-preserved
-loop-i-preserved c =    let key = c.args.key.now in
+loop-i-preserved c = let key = c.args.key.now in
     let i = c.loop-i.i in
     (omega arith, ap (λ (l : List ℕ). set l i (get_or key i 0)) c.loop-i.invariant.1 ∙ copy_more key _ i (omega arith) (omega arith))
 

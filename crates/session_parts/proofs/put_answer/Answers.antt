@@ -7,7 +7,7 @@ use Rattle.lists.proofs.Puts.{put-part}
 use Rattle.session_parts.proofs.put_answer.Goals as goal
 
 pub returns : goal.returns
-returns c =    let buffer = c.args.buffer.now in
+returns c = let buffer = c.args.buffer.now in
     let answer = c.args.answer.now in
     let at = c.args.at in
     ap (λ (l : List ℕ). take at buffer ++ (l ++ drop (at + length answer - at) (drop at buffer))) c.copy.ensures

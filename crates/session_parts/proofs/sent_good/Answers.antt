@@ -11,5 +11,5 @@ pub returns-then-bytes-query : goal.returns-then-bytes-query
 returns-then-bytes-query c = let args = c.args in rw (not-false args.issued c.if-not-issued.false-raw) (one-query args.query args.bytes c.if-bytes-query.true)
 
 pub returns : goal.returns
-returns c =    let args = c.args in
+returns c = let args = c.args in
     rw (not-false args.issued c.if-not-issued.false-raw, le-leb args.query args.bytes (omega (arith, c.if-bytes-query.false)))

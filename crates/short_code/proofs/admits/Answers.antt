@@ -15,7 +15,7 @@ returns-then-query-k c = let a = c.args in rw (ne_eqb (length a.query.now) a.k c
 
 pub returns-then-not-all_below : goal.returns-then-not-all_below
 unfolding short_admits
-returns-then-not-all_below c =    let a = c.args in
+returns-then-not-all_below c = let a = c.args in
     let below : all_below a.n a.query.now ≡ false = sym c.all_below.ensures ∙ not-true c.all_below.result c.if-not-all_below.true-raw in
     rw (eq-eqb (length a.query.now) a.k c.if-query-k.false, below)
 
@@ -24,7 +24,7 @@ digit_sum-requires c = sym c.all_below.ensures ∙ not-false c.all_below.result 
 
 pub returns : goal.returns
 unfolding short_admits
-returns c =    let a = c.args in
+returns c = let a = c.args in
     let below : all_below a.n a.query.now ≡ true = sym c.all_below.ensures ∙ not-false c.all_below.result c.if-not-all_below.false-raw in
     rw (eq-eqb (length a.query.now) a.k c.if-query-k.false, below)
     (ap (λ (x : ℕ). eqb x a.server) c.digit_sum.ensures.value)

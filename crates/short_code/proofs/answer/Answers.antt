@@ -7,12 +7,12 @@ use Rattle.short_scheme.proofs.Named.{query-stored}
 use Rattle.short_code.proofs.answer.Goals as goal
 
 pub overflow_sub-n : goal.overflow_sub-n
-overflow_sub-n c =    let b = short-bounds c.args.n c.args.k c.args.s c.requires.s_value in
+overflow_sub-n c = let b = short-bounds c.args.n c.args.k c.args.s c.requires.s_value in
     omega arith
 
 pub answer-requires : goal.answer-requires
 unfolding short_sizes
-answer-requires c =    let a = c.args in
+answer-requires c = let a = c.args in
     let b = short-bounds a.n a.k a.s c.requires.s_value in
     record {
       s_nonzero = b.symbol_low;

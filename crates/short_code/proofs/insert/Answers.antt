@@ -26,7 +26,7 @@ pub loop-p-smaller : goal.loop-p-smaller
 loop-p-smaller c = omega arith
 
 pub loop-p-preserved : goal.loop-p-preserved
-loop-p-preserved c =    let a = c.args in
+loop-p-preserved c = let a = c.args in
     let q = insert_at a.wanted a.digit a.key.now in
     let l = insert-length a.wanted a.digit a.key.now in
     let p = c.loop-p.p in (
@@ -40,7 +40,7 @@ pub shape_of-out : goal.shape_of-out
 shape_of-out c = c.loop-p.invariant.1
 
 pub returns : goal.returns
-returns c =    let a = c.args in
+returns c = let a = c.args in
     let q = insert_at a.wanted a.digit a.key.now in
     let l = insert-length a.wanted a.digit a.key.now in
     let e : c.loop-p.p ≡ length q = omega arith in

@@ -9,13 +9,13 @@ use Rattle.short_scheme.proofs.Digits.{balance-below}
 use Rattle.short_code.proofs.query.Goals as goal
 
 pub overflow_cast-digit : goal.overflow_cast-digit
-overflow_cast-digit c =    let a = c.args in
+overflow_cast-digit c = let a = c.args in
     let b : balancing a.n a.server a.key.now < a.n = balance-below a.n a.server a.key.now (omega arith) in
     let e : c.balancing_digit-digit.result ≡ balancing a.n a.server a.key.now = c.balancing_digit-digit.ensures in
     omega arith
 
 pub returns : goal.returns
 unfolding short_query
-returns c =    let a = c.args in
+returns c = let a = c.args in
     c.insert.ensures
     ∙ ap (λ (d : ℕ). put 0 (insert_at a.wanted d a.key.now) a.out.now) c.balancing_digit-digit.ensures

@@ -22,10 +22,10 @@ digit_sum-t-requires c = c.requires.valid.good
 
 pub recover_slots-requires : goal.recover_slots-requires
 unfolding short_sizes
-recover_slots-requires c =    let bounds : ShortBounds c.args.n c.args.k c.args.s =
-        short-bounds c.args.n c.args.k c.args.s c.requires.s_value in
+recover_slots-requires c = let bounds : ShortBounds c.args.n c.args.k c.args.s =
+    short-bounds c.args.n c.args.k c.args.s c.requires.s_value in
     let slotted : Slotted c.args.n c.args.s c.args.answers.now =
-        fits-slotted c.args.n c.args.k c.args.s c.args.answers.now c.requires.s_value c.requires.s_in_bounds in
+    fits-slotted c.args.n c.args.k c.args.s c.args.answers.now c.requires.s_value c.requires.s_in_bounds in
     let a = c.args in
     let b = bounds in
     let m : digit_sum a.key.now % a.n < a.n = mod-lt (digit_sum a.key.now) (omega arith) in
@@ -36,12 +36,12 @@ recover_slots-requires c =    let bounds : ShortBounds c.args.n c.args.k c.args.
 
 pub returns : goal.returns
 unfolding short_sizes
-returns c =    let bounds : ShortBounds c.args.n c.args.k c.args.s =
-        short-bounds c.args.n c.args.k c.args.s c.requires.s_value in
+returns c = let bounds : ShortBounds c.args.n c.args.k c.args.s =
+    short-bounds c.args.n c.args.k c.args.s c.requires.s_value in
     let slotted : Slotted c.args.n c.args.s c.args.answers.now =
-        fits-slotted c.args.n c.args.k c.args.s c.args.answers.now c.requires.s_value c.requires.s_in_bounds in
+    fits-slotted c.args.n c.args.k c.args.s c.args.answers.now c.requires.s_value c.requires.s_in_bounds in
     let bytes : Below 256 c.args.answers.now =
-        λ i h. omega (arith, c.shared_slice_known-2-1.given i) in
+    λ i h. omega (arith, c.shared_slice_known-2-1.given i) in
     let a = c.args in
     let f : ℕ → ℕ → List ℕ = λ t. from_places (sum_of a.op) a.n a.s t (all_zero a.key.now) (slot_starts a.s) a.answers.now in
     c.recover_slots.ensures

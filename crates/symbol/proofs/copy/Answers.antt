@@ -24,7 +24,7 @@ pub loop-i-smaller : goal.loop-i-smaller
 loop-i-smaller c = omega arith
 
 pub loop-i-preserved : goal.loop-i-preserved
-loop-i-preserved c =    let d = c.args.dst.now in
+loop-i-preserved c = let d = c.args.dst.now in
     let s = c.args.src.now in
     let i = c.loop-i.i in (
       omega arith,
@@ -34,7 +34,7 @@ loop-i-preserved c =    let d = c.args.dst.now in
     )
 
 pub returns : goal.returns
-returns c =    let d = c.args.dst.now in
+returns c = let d = c.args.dst.now in
     let s = c.args.src.now in
     let e : c.loop-i.i ≡ length d = omega arith in
     c.loop-i.invariant.2 ∙ ap₂ (λ (a b : List ℕ). a ++ b) (take_all c.loop-i.i s (omega arith)) (ap (λ (n : ℕ). drop n d) e ∙ drop-length d) ∙ append-nil _

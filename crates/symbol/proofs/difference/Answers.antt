@@ -9,12 +9,12 @@ use Rattle.symbol.proofs.difference.Goals as goal
 
 pub returns-then-alone : goal.returns-then-alone
 unfolding less
-returns-then-alone c =    let a = c.args in
+returns-then-alone c = let a = c.args in
     c.copy.ensures ∙ ap (λ (t : Bool). less (sum_of a.op) t a.first.now a.other.now) (sym c.if-alone.true)
 
 pub returns : goal.returns
 unfolding less
-returns c =    let a = c.args in
+returns c = let a = c.args in
     c.subtract.ensures
     ∙ ap (λ (l : List ℕ). (sum_of a.op).minus l a.other.now) c.copy.ensures
     ∙ ap (λ (t : Bool). less (sum_of a.op) t a.first.now a.other.now) (sym c.if-alone.false)

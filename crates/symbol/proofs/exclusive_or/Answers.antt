@@ -30,7 +30,7 @@ pub loop-i-smaller : goal.loop-i-smaller
 loop-i-smaller c = omega arith
 
 pub loop-i-preserved : goal.loop-i-preserved
-loop-i-preserved c =    let d = c.args.dst.now in
+loop-i-preserved c = let d = c.args.dst.now in
     let s = c.args.src.now in
     let i = c.loop-i.i in (
       omega arith,
@@ -40,4 +40,4 @@ loop-i-preserved c =    let d = c.args.dst.now in
     )
 
 pub returns : goal.returns
-returns c =    c.loop-i.invariant.2 ∙ ap (xor_bytes _) (take_all c.loop-i.i c.args.src.now (omega arith))
+returns c = c.loop-i.invariant.2 ∙ ap (xor_bytes _) (take_all c.loop-i.i c.args.src.now (omega arith))

@@ -16,23 +16,23 @@ use Rattle.symbol.proofs.Less.{less-length, less-take}
 use Rattle.symbol.proofs.write_difference.Goals as goal
 
 pub returns-then-message-at : goal.returns-then-message-at
-returns-then-message-at c =    let a = c.args in
+returns-then-message-at c = let a = c.args in
     sym (lay-past a.at (less (sum_of a.op) a.alone a.first.now a.other.now) a.message.now c.if-message-at.true)
 
 pub overflow_add-end : goal.overflow_add-end
-overflow_add-end c =    let roomy : let a = c.args in a.at + c.smaller-size.result ≤ length a.message.now =
-        omega (arith, c.smaller-size.ensures, c.if-message-at.false) in
+overflow_add-end c = let roomy : let a = c.args in a.at + c.smaller-size.result ≤ length a.message.now =
+    omega (arith, c.smaller-size.ensures, c.if-message-at.false) in
     omega (arith, roomy)
 
 pub slice_bounds-difference-end : goal.slice_bounds-difference-end
-slice_bounds-difference-end c =    let inside : let a = c.args in c.smaller-size.result ≤ length a.first.now =
-        omega (arith, c.smaller-size.ensures) in
+slice_bounds-difference-end c = let inside : let a = c.args in c.smaller-size.result ≤ length a.first.now =
+    omega (arith, c.smaller-size.ensures) in
     let a = c.args in
     sym (length-take-le c.smaller-size.result a.first.now (inside))
 
 pub slice_bounds-difference-end-2 : goal.slice_bounds-difference-end-2
-slice_bounds-difference-end-2 c =    let inside : let a = c.args in c.smaller-size.result ≤ length a.first.now =
-        omega (arith, c.smaller-size.ensures) in
+slice_bounds-difference-end-2 c = let inside : let a = c.args in c.smaller-size.result ≤ length a.first.now =
+    omega (arith, c.smaller-size.ensures) in
     sym (length-take-le c.smaller-size.result c.args.other.now (omega (arith, inside, c.requires)))
 
 pub slice_bounds-difference-count : goal.slice_bounds-difference-count
@@ -42,15 +42,15 @@ pub slice_bounds-difference-start : goal.slice_bounds-difference-start
 slice_bounds-difference-start c = omega arith
 
 pub slice_bounds-difference-end-3 : goal.slice_bounds-difference-end-3
-slice_bounds-difference-end-3 c =    let roomy : let a = c.args in a.at + c.smaller-size.result ≤ length a.message.now =
-        omega (arith, c.smaller-size.ensures, c.if-message-at.false) in
+slice_bounds-difference-end-3 c = let roomy : let a = c.args in a.at + c.smaller-size.result ≤ length a.message.now =
+    omega (arith, c.smaller-size.ensures, c.if-message-at.false) in
     omega (arith, roomy)
 
 pub difference-requires : goal.difference-requires
-difference-requires c =    let inside : let a = c.args in c.smaller-size.result ≤ length a.first.now =
-        omega (arith, c.smaller-size.ensures) in
+difference-requires c = let inside : let a = c.args in c.smaller-size.result ≤ length a.first.now =
+    omega (arith, c.smaller-size.ensures) in
     let roomy : let a = c.args in a.at + c.smaller-size.result ≤ length a.message.now =
-        omega (arith, c.smaller-size.ensures, c.if-message-at.false) in
+    omega (arith, c.smaller-size.ensures, c.if-message-at.false) in
     let size = c.smaller-size.result in
     let a = c.args in
     let part : length (take (a.at + size - a.at) (drop a.at a.message.now)) ≡ size =
@@ -61,7 +61,7 @@ difference-requires c =    let inside : let a = c.args in c.smaller-size.result 
     }
 
 pub returns : goal.returns
-returns c =    let size = c.smaller-size.result in
+returns c = let size = c.smaller-size.result in
     let a = c.args in
     let whole = less (sum_of a.op) a.alone a.first.now a.other.now in
     let long : length whole ≡ length a.first.now =

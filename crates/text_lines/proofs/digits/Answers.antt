@@ -30,7 +30,7 @@ pub loop-i-smaller : goal.loop-i-smaller
 loop-i-smaller c = omega arith
 
 pub loop-i-preserved : goal.loop-i-preserved
-loop-i-preserved c =    let e = count-more c.args.text.now c.loop-i.i (omega arith) (is_digit_lem _ c.if-byte-lt48.false c.if-byte-gt57.false) in
+loop-i-preserved c = let e = count-more c.args.text.now c.loop-i.i (omega arith) (is_digit_lem _ c.if-byte-lt48.false c.if-byte-gt57.false) in
     omega arith
 
 pub returns : goal.returns

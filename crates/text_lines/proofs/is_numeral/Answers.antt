@@ -12,22 +12,22 @@ returns-then-count-lt1 c = simp (lt-leb _ _ c.if-count-lt1.true)
 
 pub returns-then-most-count : goal.returns-then-most-count
 unfolding is_numeral
-returns-then-most-count c =    let many : c.args.most < c.args.count = omega (arith, c.if-most-count.true) in
+returns-then-most-count c = let many : c.args.most < c.args.count = omega (arith, c.if-most-count.true) in
     simp (le-leb _ _ c.if-count-lt1.false, lt-leb _ _ many)
 
 pub returns-then-count-le1 : goal.returns-then-count-le1
 unfolding is_numeral
-returns-then-count-le1 c =    let few : c.args.count ≤ c.args.most = omega (arith, c.if-count-le1.true) in
+returns-then-count-le1 c = let few : c.args.count ≤ c.args.most = omega (arith, c.if-count-le1.true) in
     simp (le-leb _ _ c.if-count-lt1.false, le-leb _ _ few, le-ltb _ _ c.if-count-le1.true)
 
 pub returns-then-text-lt1 : goal.returns-then-text-lt1
 unfolding is_numeral
-returns-then-text-lt1 c =    let text = c.args.text.now in
+returns-then-text-lt1 c = let text = c.args.text.now in
     let none = get_or-eq_default text 0 {n = 0} (omega arith) in
     let few : c.args.count ≤ c.args.most = omega (arith, c.if-most-count.false) in
     simp (le-leb _ _ c.if-count-lt1.false, le-leb _ _ few, lt-ltb _ _ c.if-count-le1.false, none)
 
 pub returns : goal.returns
 unfolding is_numeral
-returns c =    let few : c.args.count ≤ c.args.most = omega (arith, c.if-most-count.false) in
+returns c = let few : c.args.count ≤ c.args.most = omega (arith, c.if-most-count.false) in
     simp (le-leb _ _ c.if-count-lt1.false, le-leb _ _ few, lt-ltb _ _ c.if-count-le1.false)

@@ -13,17 +13,17 @@ use Rattle.text_lines.proofs.number.Goals as goal
 
 pub returns-then-not-is_numeral : goal.returns-then-not-is_numeral
 unfolding number_at
-returns-then-not-is_numeral c =    simp (sym c.digits-count.ensures.value, sym c.is_numeral.ensures ∙ not-true _ c.if-not-is_numeral.true-raw)
+returns-then-not-is_numeral c = simp (sym c.digits-count.ensures.value, sym c.is_numeral.ensures ∙ not-true _ c.if-not-is_numeral.true-raw)
 
 pub returns-then-text-count : goal.returns-then-text-count
 unfolding number_at
-returns-then-text-count c =    let text = c.args.text.now in
+returns-then-text-count c = let text = c.args.text.now in
     let rule = sym c.is_numeral.ensures ∙ not-false _ c.if-not-is_numeral.false-raw in
     simp (sym c.digits-count.ensures.value, rule, get_or-eq_default text 0 {n = c.digits-count.result} (omega arith))
 
 pub returns-then-text-count-ne10 : goal.returns-then-text-count-ne10
 unfolding number_at
-returns-then-text-count-ne10 c =    let rule = sym c.is_numeral.ensures ∙ not-false _ c.if-not-is_numeral.false-raw in
+returns-then-text-count-ne10 c = let rule = sym c.is_numeral.ensures ∙ not-false _ c.if-not-is_numeral.false-raw in
     simp (sym c.digits-count.ensures.value, rule, ne_eqb _ _ c.if-text-count-ne10.true)
 
 pub slice_bounds-value-end : goal.slice_bounds-value-end
@@ -31,7 +31,7 @@ slice_bounds-value-end c = simp length-take (omega arith)
 
 pub value-n-requires : goal.value-n-requires
 unfolding is_numeral
-value-n-requires c =    let d = c.digits-count in 
+value-n-requires c = let d = c.digits-count in
     let text = c.args.text.now in
     let long : length (take c.digits-count.result text) ≡ c.digits-count.result = length-take-le c.digits-count.result text c.digits-count.ensures.upper_bound in
     let rule = sym c.is_numeral.ensures ∙ not-false _ c.if-not-is_numeral.false-raw in
@@ -44,5 +44,5 @@ value-n-requires c =    let d = c.digits-count in
 
 pub returns : goal.returns
 unfolding number_at
-returns c =    let rule = sym c.is_numeral.ensures ∙ not-false _ c.if-not-is_numeral.false-raw in
+returns c = let rule = sym c.is_numeral.ensures ∙ not-false _ c.if-not-is_numeral.false-raw in
     simp (sym c.digits-count.ensures.value, rule, eq-eqb _ _ c.if-text-count-ne10.false, c.value-n.ensures)

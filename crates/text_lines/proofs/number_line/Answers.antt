@@ -15,42 +15,42 @@ returns-then-text-at c = let a = c.args in sym (past_end a.most a.name.now a.tex
 
 pub returns-then-not-starts : goal.returns-then-not-starts
 unfolding number_line
-returns-then-not-starts c =    let tested : let a = c.args in c.starts.result ≡ begins a.name.now (drop a.at a.text.now) =
-        let a = c.args in
-        c.starts.ensures ∙ ap (begins a.name.now) (to_end a.text.now a.at) in
+returns-then-not-starts c = let tested : let a = c.args in c.starts.result ≡ begins a.name.now (drop a.at a.text.now) =
+    let a = c.args in
+    c.starts.ensures ∙ ap (begins a.name.now) (to_end a.text.now a.at) in
     simp (sym (tested) ∙ not-true _ c.if-not-starts.true-raw)
 
 pub slice_bounds-number-count : goal.slice_bounds-number-count
-slice_bounds-number-count c =    let tested : let a = c.args in c.starts.result ≡ begins a.name.now (drop a.at a.text.now) =
-        let a = c.args in
-        c.starts.ensures ∙ ap (begins a.name.now) (to_end a.text.now a.at) in
+slice_bounds-number-count c = let tested : let a = c.args in c.starts.result ≡ begins a.name.now (drop a.at a.text.now) =
+    let a = c.args in
+    c.starts.ensures ∙ ap (begins a.name.now) (to_end a.text.now a.at) in
     let found : let a = c.args in begins a.name.now (drop a.at a.text.now) ≡ true =
-        sym (tested) ∙ not-false _ c.if-not-starts.false-raw in
+    sym (tested) ∙ not-false _ c.if-not-starts.false-raw in
     let within : let a = c.args in a.at + length a.name.now ≤ length a.text.now =
-        let a = c.args in
-        name-within a.name.now a.text.now a.at c.if-text-at.false (found) in
+    let a = c.args in
+    name-within a.name.now a.text.now a.at c.if-text-at.false (found) in
     within
 
 pub slice_bounds-number-start : goal.slice_bounds-number-start
-slice_bounds-number-start c =    let tested : let a = c.args in c.starts.result ≡ begins a.name.now (drop a.at a.text.now) =
-        let a = c.args in
-        c.starts.ensures ∙ ap (begins a.name.now) (to_end a.text.now a.at) in
+slice_bounds-number-start c = let tested : let a = c.args in c.starts.result ≡ begins a.name.now (drop a.at a.text.now) =
+    let a = c.args in
+    c.starts.ensures ∙ ap (begins a.name.now) (to_end a.text.now a.at) in
     let found : let a = c.args in begins a.name.now (drop a.at a.text.now) ≡ true =
-        sym (tested) ∙ not-false _ c.if-not-starts.false-raw in
+    sym (tested) ∙ not-false _ c.if-not-starts.false-raw in
     let within : let a = c.args in a.at + length a.name.now ≤ length a.text.now =
-        let a = c.args in
-        name-within a.name.now a.text.now a.at c.if-text-at.false (found) in
+    let a = c.args in
+    name-within a.name.now a.text.now a.at c.if-text-at.false (found) in
     within
 
 pub number-requires : goal.number-requires
 number-requires c = let tested : let a = c.args in c.starts.result ≡ begins a.name.now (drop a.at a.text.now) =
-        let a = c.args in
-        c.starts.ensures ∙ ap (begins a.name.now) (to_end a.text.now a.at) in
+    let a = c.args in
+    c.starts.ensures ∙ ap (begins a.name.now) (to_end a.text.now a.at) in
     let found : let a = c.args in begins a.name.now (drop a.at a.text.now) ≡ true =
-        sym (tested) ∙ not-false _ c.if-not-starts.false-raw in
+    sym (tested) ∙ not-false _ c.if-not-starts.false-raw in
     let within : let a = c.args in a.at + length a.name.now ≤ length a.text.now =
-        let a = c.args in
-        name-within a.name.now a.text.now a.at c.if-text-at.false (found) in
+    let a = c.args in
+    name-within a.name.now a.text.now a.at c.if-text-at.false (found) in
     let w = within in
     record {
       most_bound = omega arith;
@@ -59,11 +59,11 @@ number-requires c = let tested : let a = c.args in c.starts.result ≡ begins a.
 
 pub returns : goal.returns
 unfolding number_line
-returns c =    let tested : let a = c.args in c.starts.result ≡ begins a.name.now (drop a.at a.text.now) =
-        let a = c.args in
-        c.starts.ensures ∙ ap (begins a.name.now) (to_end a.text.now a.at) in
+returns c = let tested : let a = c.args in c.starts.result ≡ begins a.name.now (drop a.at a.text.now) =
+    let a = c.args in
+    c.starts.ensures ∙ ap (begins a.name.now) (to_end a.text.now a.at) in
     let found : let a = c.args in begins a.name.now (drop a.at a.text.now) ≡ true =
-        sym (tested) ∙ not-false _ c.if-not-starts.false-raw in
+    sym (tested) ∙ not-false _ c.if-not-starts.false-raw in
     let a = c.args in
     let start = a.at + length a.name.now in
     c.number.ensures ∙ ap (number_at a.most start) (to_end a.text.now start) ∙ simp (found)

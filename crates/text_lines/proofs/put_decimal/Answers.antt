@@ -30,7 +30,7 @@ pub overflow_add-end : goal.overflow_add-end
 overflow_add-end c = let e = c.width.ensures in let p = c.requires in omega arith
 
 pub loop-front-init : goal.loop-front-init
-loop-front-init c =    let a = c.args in
+loop-front-init c = let a = c.args in
     record {
       written = [];
       whole = sym (append-nil (decimal a.n));
@@ -39,7 +39,7 @@ loop-front-init c =    let a = c.args in
     }
 
 pub overflow_sub-i : goal.overflow_sub-i
-overflow_sub-i c =    let p = c.loop-front.invariant.place in let s = some-digits c.loop-front.front in omega arith
+overflow_sub-i c = let p = c.loop-front.invariant.place in let s = some-digits c.loop-front.front in omega arith
 
 pub overflow_cast-out : goal.overflow_cast-out
 overflow_cast-out c = omega arith
@@ -48,7 +48,7 @@ pub overflow_add-out : goal.overflow_add-out
 overflow_add-out c = omega arith
 
 pub bounds-out-i : goal.bounds-out-i
-bounds-out-i c =    let s = same c.args.at c.args.n c.args.out.now c.loop-front.i c.loop-front.front c.loop-front.out c.loop-front.invariant c.requires in
+bounds-out-i c = let s = same c.args.at c.args.n c.args.out.now c.loop-front.i c.loop-front.front c.loop-front.out c.loop-front.invariant c.requires in
     let f = fits c.args.at c.args.n c.args.out.now c.loop-front.i c.loop-front.front c.loop-front.out c.loop-front.invariant c.requires in
     let p = c.loop-front.invariant.place in
     let d = some-digits c.loop-front.front in
@@ -58,7 +58,7 @@ pub loop-front-smaller : goal.loop-front-smaller
 loop-front-smaller c = omega arith
 
 pub loop-front-preserved : goal.loop-front-preserved
-loop-front-preserved c =    let a = c.args in
+loop-front-preserved c = let a = c.args in
     let w = c.loop-front.invariant in
     let front = c.loop-front.front in
     let p = w.place in
@@ -80,17 +80,17 @@ pub overflow_add-out-2 : goal.overflow_add-out-2
 overflow_add-out-2 c = omega arith
 
 pub bounds-out-at : goal.bounds-out-at
-bounds-out-at c =    let s = same c.args.at c.args.n c.args.out.now c.loop-front.i c.loop-front.front c.loop-front.out c.loop-front.invariant c.requires in
+bounds-out-at c = let s = same c.args.at c.args.n c.args.out.now c.loop-front.i c.loop-front.front c.loop-front.out c.loop-front.invariant c.requires in
     let d = some-digits c.args.n in
     let r = c.requires in
     omega arith
 
 pub shape_of-out : goal.shape_of-out
-shape_of-out c =    length-set c.loop-front.out c.args.at _
+shape_of-out c = length-set c.loop-front.out c.args.at _
     ∙ same c.args.at c.args.n c.args.out.now c.loop-front.i c.loop-front.front c.loop-front.out c.loop-front.invariant c.requires
 
 pub returns : goal.returns
-returns c =    let w = c.loop-front.invariant in
+returns c = let w = c.loop-front.invariant in
     let front = c.loop-front.front in
     let p = w.place in
     let one = length-small front c.loop-front-test.false in

@@ -11,12 +11,12 @@ use Rattle.text_lines.proofs.NumberLines.{number-text-length}
 use Rattle.text_lines.proofs.put_line.Goals as goal
 
 pub put_bytes-digits-requires : goal.put_bytes-digits-requires
-put_bytes-digits-requires c =    let l = number-text-length c.args.name.now c.args.n in
+put_bytes-digits-requires c = let l = number-text-length c.args.name.now c.args.n in
     let p = c.requires in
     omega arith
 
 pub put_decimal-end-requires : goal.put_decimal-end-requires
-put_decimal-end-requires c =    let name = c.put_bytes-digits in 
+put_decimal-end-requires c = let name = c.put_bytes-digits in
     let l = number-text-length c.args.name.now c.args.n in
     let p = c.requires in
     let e = c.put_bytes-digits.ensures.value in
@@ -24,8 +24,8 @@ put_decimal-end-requires c =    let name = c.put_bytes-digits in
     omega arith
 
 pub put_bytes-requires : goal.put_bytes-requires
-put_bytes-requires c =    let digits = c.put_decimal-end in 
-    let name = c.put_bytes-digits in 
+put_bytes-requires c = let digits = c.put_decimal-end in
+    let name = c.put_bytes-digits in
     let l = number-text-length c.args.name.now c.args.n in
     let p = c.requires in
     let e = c.put_bytes-digits.ensures.value in
@@ -35,9 +35,9 @@ put_bytes-requires c =    let digits = c.put_decimal-end in
     omega arith
 
 pub returns : goal.returns
-returns c =    let last = c.put_bytes in 
-    let digits = c.put_decimal-end in 
-    let name = c.put_bytes-digits in 
+returns c = let last = c.put_bytes in
+    let digits = c.put_decimal-end in
+    let name = c.put_bytes-digits in
     let a = c.args in
     let written = a.name.now in
     let l = number-text-length written a.n in

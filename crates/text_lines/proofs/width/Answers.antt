@@ -7,7 +7,7 @@ pub loop-front-init : goal.loop-front-init
 loop-front-init c = omega arith
 
 pub overflow_add-count : goal.overflow_add-count
-overflow_add-count c =    let n = c.args.n in
+overflow_add-count c = let n = c.args.n in
     let few = length_most 19 n (omega arith) in
     let some = some-digits c.loop-front.front in
     omega arith

@@ -10,5 +10,5 @@ returns-then-query-k c = let a = c.args in rw (ne_eqb (length a.query.now) a.k c
 
 pub returns : goal.returns
 unfolding turn_admits
-returns c =    let a = c.args in
+returns c = let a = c.args in
     rw (eq-eqb (length a.query.now) a.k c.if-query-k.false) c.all_below.ensures

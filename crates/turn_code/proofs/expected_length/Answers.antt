@@ -12,11 +12,11 @@ pub slice_bounds-expected_length-end : goal.slice_bounds-expected_length-end
 slice_bounds-expected_length-end c = sym (others-length c.args.key.now)
 
 pub expected_length-requires : goal.expected_length-requires
-expected_length-requires c =    let a = c.args in
+expected_length-requires c = let a = c.args in
     omega (arith, c.part-played.ensures, part-below a.n a.key.now (omega arith) a.server)
 
 pub returns : goal.returns
 unfolding turn_query
-returns c =    let a = c.args in
+returns c = let a = c.args in
     c.expected_length.ensures
     ∙ ap (λ (n : ℕ). short_answer_length a.s (short_query a.n a.wanted n (other_digits a.key.now))) c.part-played.ensures

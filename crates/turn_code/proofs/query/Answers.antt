@@ -13,7 +13,7 @@ pub slice_bounds-query-end : goal.slice_bounds-query-end
 slice_bounds-query-end c = sym (others-length c.args.key.now)
 
 pub query-requires : goal.query-requires
-query-requires c =    let a = c.args in
+query-requires c = let a = c.args in
     let key = a.key.now in
     let low : c.part-played.result < a.n = omega (arith, c.part-played.ensures, part-below a.n key (omega arith) a.server) in
     record {
@@ -24,6 +24,6 @@ query-requires c =    let a = c.args in
 
 pub returns : goal.returns
 unfolding turn_query
-returns c =    let a = c.args in
+returns c = let a = c.args in
     c.query.ensures
     ∙ ap (λ (n : ℕ). put 0 (short_query a.n a.wanted n (other_digits a.key.now)) a.out.now) c.part-played.ensures

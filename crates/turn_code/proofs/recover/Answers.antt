@@ -23,18 +23,18 @@ use Rattle.turn_code.proofs.recover.Goals as goal
 
 pub overflow_sub-last : goal.overflow_sub-last
 unfolding turn_sizes
-overflow_sub-last c =    let bounds : ShortBounds c.args.n c.args.k c.args.s =
-        short-bounds c.args.n c.args.k c.args.s c.requires.s_value in
+overflow_sub-last c = let bounds : ShortBounds c.args.n c.args.k c.args.s =
+    short-bounds c.args.n c.args.k c.args.s c.requires.s_value in
     let some : 0 < length c.args.key.now =
-        omega (arith, c.requires.valid.long, (bounds).messages-low) in
+    omega (arith, c.requires.valid.long, (bounds).messages-low) in
     some
 
 pub bounds-key-last : goal.bounds-key-last
 unfolding turn_sizes
-bounds-key-last c =    let bounds : ShortBounds c.args.n c.args.k c.args.s =
-        short-bounds c.args.n c.args.k c.args.s c.requires.s_value in
+bounds-key-last c = let bounds : ShortBounds c.args.n c.args.k c.args.s =
+    short-bounds c.args.n c.args.k c.args.s c.requires.s_value in
     let some : 0 < length c.args.key.now =
-        omega (arith, c.requires.valid.long, (bounds).messages-low) in
+    omega (arith, c.requires.valid.long, (bounds).messages-low) in
     let h = some in omega arith
 
 pub overflow_cast-turn : goal.overflow_cast-turn
@@ -44,16 +44,16 @@ pub slice_bounds-digit_sum-end : goal.slice_bounds-digit_sum-end
 slice_bounds-digit_sum-end c = sym (others-length c.args.key.now)
 
 pub digit_sum-t-requires : goal.digit_sum-t-requires
-digit_sum-t-requires c =    others-good c.args.n c.args.key.now c.requires.valid.good
+digit_sum-t-requires c = others-good c.args.n c.args.key.now c.requires.valid.good
 
 pub subtract_modulo-player-requires : goal.subtract_modulo-player-requires
 unfolding turn_sizes
-subtract_modulo-player-requires c =    let bounds : ShortBounds c.args.n c.args.k c.args.s =
-        short-bounds c.args.n c.args.k c.args.s c.requires.s_value in
+subtract_modulo-player-requires c = let bounds : ShortBounds c.args.n c.args.k c.args.s =
+    short-bounds c.args.n c.args.k c.args.s c.requires.s_value in
     let some : 0 < length c.args.key.now =
-        omega (arith, c.requires.valid.long, (bounds).messages-low) in
+    omega (arith, c.requires.valid.long, (bounds).messages-low) in
     let low : turn_of c.args.key.now < c.args.n =
-        turn_below c.args.n c.args.key.now c.requires.valid.good (some) in
+    turn_below c.args.n c.args.key.now c.requires.valid.good (some) in
     let a = c.args in
     let m : digit_sum (other_digits a.key.now) % a.n < a.n = mod-lt (digit_sum (other_digits a.key.now)) (omega (arith, (bounds).servers-low)) in
     (omega (arith, c.digit_sum-t.ensures.value), low)
@@ -63,10 +63,10 @@ slice_bounds-recover_slots-end c = sym (others-length c.args.key.now)
 
 pub recover_slots-requires : goal.recover_slots-requires
 unfolding short_sizes turn_sizes
-recover_slots-requires c =    let bounds : ShortBounds c.args.n c.args.k c.args.s =
-        short-bounds c.args.n c.args.k c.args.s c.requires.s_value in
+recover_slots-requires c = let bounds : ShortBounds c.args.n c.args.k c.args.s =
+    short-bounds c.args.n c.args.k c.args.s c.requires.s_value in
     let slotted : Slotted c.args.n c.args.s c.args.answers.now =
-        fits-slotted c.args.n c.args.k c.args.s c.args.answers.now c.requires.s_value c.requires.s_in_bounds in
+    fits-slotted c.args.n c.args.k c.args.s c.args.answers.now c.requires.s_value c.requires.s_in_bounds in
     let a = c.args in
     let m = mod-lt (c.digit_sum-t.result + (a.n - turn_of a.key.now)) {m = a.n} (omega (arith, (bounds).servers-low)) in
     record {
@@ -76,16 +76,16 @@ recover_slots-requires c =    let bounds : ShortBounds c.args.n c.args.k c.args.
 
 pub returns : goal.returns
 unfolding short_sizes turn_sizes
-returns c =    let bounds : ShortBounds c.args.n c.args.k c.args.s =
-        short-bounds c.args.n c.args.k c.args.s c.requires.s_value in
+returns c = let bounds : ShortBounds c.args.n c.args.k c.args.s =
+    short-bounds c.args.n c.args.k c.args.s c.requires.s_value in
     let some : 0 < length c.args.key.now =
-        omega (arith, c.requires.valid.long, (bounds).messages-low) in
+    omega (arith, c.requires.valid.long, (bounds).messages-low) in
     let low : turn_of c.args.key.now < c.args.n =
-        turn_below c.args.n c.args.key.now c.requires.valid.good (some) in
+    turn_below c.args.n c.args.key.now c.requires.valid.good (some) in
     let slotted : Slotted c.args.n c.args.s c.args.answers.now =
-        fits-slotted c.args.n c.args.k c.args.s c.args.answers.now c.requires.s_value c.requires.s_in_bounds in
+    fits-slotted c.args.n c.args.k c.args.s c.args.answers.now c.requires.s_value c.requires.s_in_bounds in
     let bytes : Below 256 c.args.answers.now =
-        λ i h. omega (arith, c.shared_slice_known-2-1.given i) in
+    λ i h. omega (arith, c.shared_slice_known-2-1.given i) in
     let a = c.args in
     let key = a.key.now in
     let f : ℕ → ℕ → List ℕ = λ t. from_places (sum_of a.op) a.n a.s t (all_zero (other_digits key)) (slot_starts a.s) a.answers.now in

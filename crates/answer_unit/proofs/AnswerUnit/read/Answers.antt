@@ -6,12 +6,12 @@ use Rattle.answer_unit.proofs.Steps.{read-by}
 use Rattle.answer_unit.proofs.AnswerUnit.read.Goals as goal
 
 pub returns-in-Refused : goal.returns-in-Refused
-returns-in-Refused c =    let a = c.args in
-    let v = c.access_verdict-verdict in 
+returns-in-Refused c = let a = c.args in
+    let v = c.access_verdict-verdict in
     rw (read-by a.self a.register a.store.now c.access_verdict-verdict.result c.access_verdict-verdict.ensures, c.in-Refused.is)
 
 pub shown-requires : goal.shown-requires
-shown-requires c =    let a = c.args in
+shown-requires c = let a = c.args in
     let u = a.self in
     let p = access-passed u a.register (length a.store.now) (sym c.access_verdict-verdict.ensures ∙ c.in_default.is) in
     let s = set-up-passed u.catalogue u.server p.set-up in
@@ -22,8 +22,8 @@ shown-requires c =    let a = c.args in
     }
 
 pub returns : goal.returns
-returns c =    let a = c.args in
-    let v = c.access_verdict-verdict in 
+returns c = let a = c.args in
+    let v = c.access_verdict-verdict in
     rw (
       read-by a.self a.register a.store.now c.access_verdict-verdict.result c.access_verdict-verdict.ensures,
       c.in_default.is,

@@ -3,11 +3,11 @@ use Rattle.answer_unit.proofs.Steps.{set-up-by}
 use Rattle.answer_unit.proofs.AnswerUnit.set_up.Goals as goal
 
 pub returns-in-Refused : goal.returns-in-Refused
-returns-in-Refused c =    let a = c.args in
-    let v = c.set_up_verdict-verdict in 
+returns-in-Refused c = let a = c.args in
+    let v = c.set_up_verdict-verdict in
     rw (set-up-by a.c a.server c.set_up_verdict-verdict.result c.set_up_verdict-verdict.ensures, c.in-Refused.is, c.blank.ensures)
 
 pub returns : goal.returns
-returns c =    let a = c.args in
-    let v = c.set_up_verdict-verdict in 
+returns c = let a = c.args in
+    let v = c.set_up_verdict-verdict in
     rw (set-up-by a.c a.server c.set_up_verdict-verdict.result c.set_up_verdict-verdict.ensures, c.in_default.is, c.fresh.ensures)

@@ -6,12 +6,12 @@ use Rattle.answer_unit.proofs.Steps.{write-by}
 use Rattle.answer_unit.proofs.AnswerUnit.write.Goals as goal
 
 pub returns-in-Refused : goal.returns-in-Refused
-returns-in-Refused c =    let a = c.args in
-    let v = c.access_verdict-verdict in 
+returns-in-Refused c = let a = c.args in
+    let v = c.access_verdict-verdict in
     rw (write-by a.self a.register a.value a.store.now c.access_verdict-verdict.result c.access_verdict-verdict.ensures, c.in-Refused.is)
 
 pub after_write-requires : goal.after_write-requires
-after_write-requires c =    let a = c.args in
+after_write-requires c = let a = c.args in
     let p = access-passed a.self a.register (length a.store.now) (sym c.access_verdict-verdict.ensures ∙ c.in_default.is) in
     record {
       register_bound = p.known;
@@ -19,8 +19,8 @@ after_write-requires c =    let a = c.args in
     }
 
 pub returns : goal.returns
-returns c =    let a = c.args in
-    let v = c.access_verdict-verdict in 
+returns c = let a = c.args in
+    let v = c.access_verdict-verdict in
     rw (
       write-by a.self a.register a.value a.store.now c.access_verdict-verdict.result c.access_verdict-verdict.ensures,
       c.in_default.is,

@@ -8,7 +8,7 @@ pub returns-then-register-gt5 : goal.returns-then-register-gt5
 returns-then-register-gt5 c = let a = c.args in rw (access-chain a.unit a.register a.stored, lt-ltb 5 a.register c.if-register-gt5.true)
 
 pub returns-in-Refused : goal.returns-in-Refused
-returns-in-Refused c =    let a = c.args in
+returns-in-Refused c = let a = c.args in
     rw (
       access-chain a.unit a.register a.stored,
       le-ltb 5 a.register c.if-register-gt5.false,
@@ -16,25 +16,25 @@ returns-in-Refused c =    let a = c.args in
     )
 
 pub sizes-sizes-requires : goal.sizes-sizes-requires
-sizes-sizes-requires c =    let u = c.args.unit in
+sizes-sizes-requires c = let u = c.args.unit in
     let accepted = sym c.set_up_verdict.ensures ∙ c.in_default.is in
     short-fits u.catalogue u.server (set-up-passed u.catalogue u.server accepted)
 
 pub returns-then-stored-sizes : goal.returns-then-stored-sizes
-returns-then-stored-sizes c =    let a = c.args in
+returns-then-stored-sizes c = let a = c.args in
     let accepted = sym c.set_up_verdict.ensures ∙ c.in_default.is in
     let known = c.if-register-gt5.false in
-    let z = c.sizes-sizes in 
+    let z = c.sizes-sizes in
     rw (
       access-own a.unit a.register a.stored known accepted c.sizes-sizes.result c.sizes-sizes.ensures,
       ne_eqb a.stored c.sizes-sizes.result.store c.if-stored-sizes.true,
     )
 
 pub returns-then-unit-gt32 : goal.returns-then-unit-gt32
-returns-then-unit-gt32 c =    let a = c.args in
+returns-then-unit-gt32 c = let a = c.args in
     let accepted = sym c.set_up_verdict.ensures ∙ c.in_default.is in
     let known = c.if-register-gt5.false in
-    let z = c.sizes-sizes in 
+    let z = c.sizes-sizes in
     rw (
       access-own a.unit a.register a.stored known accepted c.sizes-sizes.result c.sizes-sizes.ensures,
       eq-eqb a.stored c.sizes-sizes.result.store c.if-stored-sizes.false,
@@ -42,10 +42,10 @@ returns-then-unit-gt32 c =    let a = c.args in
     )
 
 pub returns-then-c-unit : goal.returns-then-c-unit
-returns-then-c-unit c =    let a = c.args in
+returns-then-c-unit c = let a = c.args in
     let accepted = sym c.set_up_verdict.ensures ∙ c.in_default.is in
     let known = c.if-register-gt5.false in
-    let z = c.sizes-sizes in 
+    let z = c.sizes-sizes in
     rw (
       access-own a.unit a.register a.stored known accepted c.sizes-sizes.result c.sizes-sizes.ensures,
       eq-eqb a.stored c.sizes-sizes.result.store c.if-stored-sizes.false,
@@ -54,10 +54,10 @@ returns-then-c-unit c =    let a = c.args in
     )
 
 pub returns : goal.returns
-returns c =    let a = c.args in
+returns c = let a = c.args in
     let accepted = sym c.set_up_verdict.ensures ∙ c.in_default.is in
     let known = c.if-register-gt5.false in
-    let z = c.sizes-sizes in 
+    let z = c.sizes-sizes in
     rw (
       access-own a.unit a.register a.stored known accepted c.sizes-sizes.result c.sizes-sizes.ensures,
       eq-eqb a.stored c.sizes-sizes.result.store c.if-stored-sizes.false,

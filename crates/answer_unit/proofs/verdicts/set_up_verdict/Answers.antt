@@ -8,21 +8,21 @@ pub returns-then-not-takes : goal.returns-then-not-takes
 returns-then-not-takes c = not_taken c.args.c c.args.server (sym c.takes.ensures ∙ not-true _ c.if-not-takes.true-raw)
 
 pub returns-in-Refused : goal.returns-in-Refused
-returns-in-Refused c =    let a = c.args in
-    let v = c.verdict in 
+returns-in-Refused c = let a = c.args in
+    let v = c.verdict in
     let takes = sym c.takes.ensures ∙ not-false _ c.if-not-takes.false-raw in
     taken a.c a.server takes c.verdict.result _ c.verdict.ensures (rw c.in-Refused.is)
 
 pub returns-then-c-server : goal.returns-then-c-server
-returns-then-c-server c =    let a = c.args in
-    let v = c.verdict in 
+returns-then-c-server c = let a = c.args in
+    let v = c.verdict in
     let takes = sym c.takes.ensures ∙ not-false _ c.if-not-takes.false-raw in
     taken a.c a.server takes c.verdict.result _ c.verdict.ensures
     (rw (c.in_default.is, le-leb a.c.servers a.server c.if-c-server.true))
 
 pub returns : goal.returns
-returns c =    let a = c.args in
-    let v = c.verdict in 
+returns c = let a = c.args in
+    let v = c.verdict in
     let takes = sym c.takes.ensures ∙ not-false _ c.if-not-takes.false-raw in
     taken a.c a.server takes c.verdict.result _ c.verdict.ensures
     (rw (c.in_default.is, lt-leb a.c.servers a.server c.if-c-server.false))

@@ -10,23 +10,23 @@ returns-then-not-is_short c = rw (sym c.is_short.ensures ∙ not-true _ c.if-not
 
 pub returns-then-not-is_exclusive : goal.returns-then-not-is_exclusive
 unfolding unit_takes
-returns-then-not-is_exclusive c =    rw (
-      sym c.is_short.ensures ∙ not-false _ c.if-not-is_short.false-raw,
-      sym c.is_exclusive.ensures ∙ not-true _ c.if-not-is_exclusive.true-raw,
-    )
+returns-then-not-is_exclusive c = rw (
+  sym c.is_short.ensures ∙ not-false _ c.if-not-is_short.false-raw,
+  sym c.is_exclusive.ensures ∙ not-true _ c.if-not-is_exclusive.true-raw,
+)
 
 pub returns-then-not-are_none : goal.returns-then-not-are_none
 unfolding unit_takes
-returns-then-not-are_none c =    rw (
-      sym c.is_short.ensures ∙ not-false _ c.if-not-is_short.false-raw,
-      sym c.is_exclusive.ensures ∙ not-false _ c.if-not-is_exclusive.false-raw,
-      sym c.are_none.ensures ∙ not-true _ c.if-not-are_none.true-raw,
-    )
+returns-then-not-are_none c = rw (
+  sym c.is_short.ensures ∙ not-false _ c.if-not-is_short.false-raw,
+  sym c.is_exclusive.ensures ∙ not-false _ c.if-not-is_exclusive.false-raw,
+  sym c.are_none.ensures ∙ not-true _ c.if-not-are_none.true-raw,
+)
 
 pub returns : goal.returns
 unfolding unit_takes
-returns c =    rw (
-      sym c.is_short.ensures ∙ not-false _ c.if-not-is_short.false-raw,
-      sym c.is_exclusive.ensures ∙ not-false _ c.if-not-is_exclusive.false-raw,
-      sym c.are_none.ensures ∙ not-false _ c.if-not-are_none.false-raw,
-    )
+returns c = rw (
+  sym c.is_short.ensures ∙ not-false _ c.if-not-is_short.false-raw,
+  sym c.is_exclusive.ensures ∙ not-false _ c.if-not-is_exclusive.false-raw,
+  sym c.are_none.ensures ∙ not-false _ c.if-not-are_none.false-raw,
+)

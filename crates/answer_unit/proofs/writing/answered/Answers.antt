@@ -14,19 +14,19 @@ unfolding answer_of
 returns-then-unit c = rw (c.ended.ensures, c.if-unit.true)
 
 pub slice_bounds-query-end : goal.slice_bounds-query-end
-slice_bounds-query-end c =    omega (arith, c.requires, query-places c.args.unit _ c.well_formed.0)
+slice_bounds-query-end c = omega (arith, c.requires, query-places c.args.unit _ c.well_formed.0)
 
 pub slice_bounds-answer-end : goal.slice_bounds-answer-end
-slice_bounds-answer-end c =    let u = c.args.unit in
+slice_bounds-answer-end c = let u = c.args.unit in
     let fits : u.held ≤ length u.query = omega (arith, c.requires, query-places u _ c.well_formed.0) in
     sym (length-take-le u.held u.query fits)
 
 pub slice_bounds-answer-end-2 : goal.slice_bounds-answer-end-2
-slice_bounds-answer-end-2 c =    sym (answer-places c.args.unit _ c.well_formed.0)
+slice_bounds-answer-end-2 c = sym (answer-places c.args.unit _ c.well_formed.0)
 
 pub returns : goal.returns
-returns c =    let a = c.args in
-    let day = c.none in 
-    let did = c.answer-outcome in 
+returns c = let a = c.args in
+    let day = c.none in
+    let did = c.answer-outcome in
     let no-overrun = c.if-unit.false in
     c.ended-2.ensures ∙ ended_so a.unit a.store.now c.none.result c.answer-outcome.result _ no-overrun c.none.ensures c.answer-outcome.ensures

@@ -12,7 +12,7 @@ returns-then-bit c = rw (c.fresh.ensures, sym c.bit.ensures ∙ c.if-bit.true)
 
 pub returns-then-unit-eq0 : goal.returns-then-unit-eq0
 unfolding control
-returns-then-unit-eq0 c =    let u = c.args.unit in
+returns-then-unit-eq0 c = let u = c.args.unit in
     let none : u.waiting ≤ 0 = omega (arith, c.if-unit-eq0.true) in
     rw (
       c.start.ensures,
@@ -24,7 +24,7 @@ returns-then-unit-eq0 c =    let u = c.args.unit in
 
 pub returns-else-unit-eq0 : goal.returns-else-unit-eq0
 unfolding control
-returns-else-unit-eq0 c =    let u = c.args.unit in
+returns-else-unit-eq0 c = let u = c.args.unit in
     let some : 0 < u.waiting = omega (arith, c.if-unit-eq0.false) in
     rw (
       sym c.bit.ensures ∙ c.if-bit.false,
@@ -35,8 +35,8 @@ returns-else-unit-eq0 c =    let u = c.args.unit in
 
 pub returns-else-bit-2 : goal.returns-else-bit-2
 unfolding control
-returns-else-bit-2 c =    rw (
-      sym c.bit.ensures ∙ c.if-bit.false,
-      c.bit-2.ensures,
-      sym c.bit-3.ensures ∙ c.if-bit-2.false,
-    )
+returns-else-bit-2 c = rw (
+  sym c.bit.ensures ∙ c.if-bit.false,
+  c.bit-2.ensures,
+  sym c.bit-3.ensures ∙ c.if-bit-2.false,
+)

@@ -16,24 +16,24 @@ put_bytes-requires-in-Round c = rw c.in-Round.is at c.requires
 
 pub returns-in-Short : goal.returns-in-Short
 returns-in-Short c = record {
-      value = rw c.in-Short.is c.put_bytes.ensures.value;
-      out_after = rw c.in-Short.is c.put_bytes.ensures.out_after;
-    }
+  value = rw c.in-Short.is c.put_bytes.ensures.value;
+  out_after = rw c.in-Short.is c.put_bytes.ensures.out_after;
+}
 
 pub returns-in-Even : goal.returns-in-Even
 returns-in-Even c = record {
-      value = rw c.in-Even.is c.put_bytes-in-Even.ensures.value;
-      out_after = rw c.in-Even.is c.put_bytes-in-Even.ensures.out_after;
-    }
+  value = rw c.in-Even.is c.put_bytes-in-Even.ensures.value;
+  out_after = rw c.in-Even.is c.put_bytes-in-Even.ensures.out_after;
+}
 
 pub returns-in-Turn : goal.returns-in-Turn
 returns-in-Turn c = record {
-      value = rw c.in-Turn.is c.put_bytes-in-Turn.ensures.value;
-      out_after = rw c.in-Turn.is c.put_bytes-in-Turn.ensures.out_after;
-    }
+  value = rw c.in-Turn.is c.put_bytes-in-Turn.ensures.value;
+  out_after = rw c.in-Turn.is c.put_bytes-in-Turn.ensures.out_after;
+}
 
 pub returns-in-Round : goal.returns-in-Round
 returns-in-Round c = record {
-      value = rw c.in-Round.is c.put_bytes-in-Round.ensures.value;
-      out_after = rw c.in-Round.is c.put_bytes-in-Round.ensures.out_after;
-    }
+  value = rw c.in-Round.is c.put_bytes-in-Round.ensures.value;
+  out_after = rw c.in-Round.is c.put_bytes-in-Round.ensures.out_after;
+}

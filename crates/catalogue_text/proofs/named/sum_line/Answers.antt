@@ -12,30 +12,30 @@ use Rattle.catalogue_text.proofs.named.sum_line.Goals as goal
 
 pub returns-then-text-at : goal.returns-then-text-at
 unfolding sum_line begins
-returns-then-text-at c =    let a = c.args in simp (drop_of_length-le a.text.now {i = a.at} (omega arith))
+returns-then-text-at c = let a = c.args in simp (drop_of_length-le a.text.now {i = a.at} (omega arith))
 
 pub returns-then-not-starts : goal.returns-then-not-starts
 unfolding sum_line
-returns-then-not-starts c =    let named : let a = c.args in c.starts.result ≡ begins sum_name (drop a.at a.text.now) =
-        let a = c.args in c.starts.ensures ∙ ap (begins sum_name) (to_end a.text.now a.at) in
+returns-then-not-starts c = let named : let a = c.args in c.starts.result ≡ begins sum_name (drop a.at a.text.now) =
+    let a = c.args in c.starts.ensures ∙ ap (begins sum_name) (to_end a.text.now a.at) in
     simp (sym (named) ∙ not-true _ c.if-not-starts.true-raw)
 
 pub returns-then-starts : goal.returns-then-starts
 unfolding sum_line
-returns-then-starts c =    let named : let a = c.args in c.starts.result ≡ begins sum_name (drop a.at a.text.now) =
-        let a = c.args in c.starts.ensures ∙ ap (begins sum_name) (to_end a.text.now a.at) in
+returns-then-starts c = let named : let a = c.args in c.starts.result ≡ begins sum_name (drop a.at a.text.now) =
+    let a = c.args in c.starts.ensures ∙ ap (begins sum_name) (to_end a.text.now a.at) in
     let added : let a = c.args in
     c.starts-2.result ≡ begins (ascii "sum=add\n") (drop a.at a.text.now) =
-        let a = c.args in
-        c.starts-2.ensures ∙ ap (begins (ascii "sum=add\n")) (to_end a.text.now a.at) in
+    let a = c.args in
+    c.starts-2.ensures ∙ ap (begins (ascii "sum=add\n")) (to_end a.text.now a.at) in
     simp (sym (named) ∙ not-false _ c.if-not-starts.false-raw, sym (added) ∙ c.if-starts.true)
 
 pub returns : goal.returns
 unfolding sum_line
-returns c =    let named : let a = c.args in c.starts.result ≡ begins sum_name (drop a.at a.text.now) =
-        let a = c.args in c.starts.ensures ∙ ap (begins sum_name) (to_end a.text.now a.at) in
+returns c = let named : let a = c.args in c.starts.result ≡ begins sum_name (drop a.at a.text.now) =
+    let a = c.args in c.starts.ensures ∙ ap (begins sum_name) (to_end a.text.now a.at) in
     let added : let a = c.args in
     c.starts-2.result ≡ begins (ascii "sum=add\n") (drop a.at a.text.now) =
-        let a = c.args in
-        c.starts-2.ensures ∙ ap (begins (ascii "sum=add\n")) (to_end a.text.now a.at) in
+    let a = c.args in
+    c.starts-2.ensures ∙ ap (begins (ascii "sum=add\n")) (to_end a.text.now a.at) in
     simp (sym (named) ∙ not-false _ c.if-not-starts.false-raw, sym (added) ∙ c.if-starts.false)

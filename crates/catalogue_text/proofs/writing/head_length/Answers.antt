@@ -8,7 +8,7 @@ use borrow.Author.Rules.{rules}
 use Rattle.catalogue_text.proofs.writing.head_length.Goals as goal
 
 pub overflow_add-b : goal.overflow_add-b
-overflow_add-b c =    let value = c.args.c in
+overflow_add-b c = let value = c.args.c in
     let a = code-most value.code in
     let i = c.code_length-a.ensures in
     let b = number-text-most servers_name 19 value.servers (search rules) in
@@ -16,7 +16,7 @@ overflow_add-b c =    let value = c.args.c in
     omega arith
 
 pub overflow_add-d : goal.overflow_add-d
-overflow_add-d c =    let value = c.args.c in
+overflow_add-d c = let value = c.args.c in
     let a = code-most value.code in
     let i = c.code_length-a.ensures in
     let b = number-text-most servers_name 19 value.servers (search rules) in
@@ -26,7 +26,7 @@ overflow_add-d c =    let value = c.args.c in
     omega arith
 
 pub overflow_add-e : goal.overflow_add-e
-overflow_add-e c =    let value = c.args.c in
+overflow_add-e c = let value = c.args.c in
     let a = code-most value.code in
     let i = c.code_length-a.ensures in
     let b = number-text-most servers_name 19 value.servers (search rules) in
@@ -38,7 +38,7 @@ overflow_add-e c =    let value = c.args.c in
     omega arith
 
 pub overflow_add-f : goal.overflow_add-f
-overflow_add-f c =    let value = c.args.c in
+overflow_add-f c = let value = c.args.c in
     let a = code-most value.code in
     let i = c.code_length-a.ensures in
     let b = number-text-most servers_name 19 value.servers (search rules) in
@@ -52,7 +52,7 @@ overflow_add-f c =    let value = c.args.c in
     omega arith
 
 pub overflow_add-result : goal.overflow_add-result
-overflow_add-result c =    let value = c.args.c in
+overflow_add-result c = let value = c.args.c in
     let a = code-most value.code in
     let i = c.code_length-a.ensures in
     let b = number-text-most servers_name 19 value.servers (search rules) in
@@ -68,7 +68,7 @@ overflow_add-result c =    let value = c.args.c in
     omega arith
 
 pub returns : goal.returns
-returns c =    let value = c.args.c in
+returns c = let value = c.args.c in
     let t = head-length value in
     let a = code-most value.code in
     let i = c.code_length-a.ensures in

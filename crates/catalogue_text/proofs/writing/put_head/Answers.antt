@@ -7,17 +7,17 @@ use Rattle.catalogue_text.proofs.TextParts.{head-length, put_six}
 use Rattle.catalogue_text.proofs.writing.put_head.Goals as goal
 
 pub put_code-a-requires : goal.put_code-a-requires
-put_code-a-requires c =    let t = head-length c.args.c in let p = c.requires in omega arith
+put_code-a-requires c = let t = head-length c.args.c in let p = c.requires in omega arith
 
 pub put_line-b-requires : goal.put_line-b-requires
-put_line-b-requires c =    let t = head-length c.args.c in
+put_line-b-requires c = let t = head-length c.args.c in
     let p = c.requires in
     let i = c.put_code-a.ensures.value in
     let a = c.put_code-a.auto.out in
     omega arith
 
 pub put_line-d-requires : goal.put_line-d-requires
-put_line-d-requires c =    let t = head-length c.args.c in
+put_line-d-requires c = let t = head-length c.args.c in
     let p = c.requires in
     let i = c.put_code-a.ensures.value in
     let a = c.put_code-a.auto.out in
@@ -26,7 +26,7 @@ put_line-d-requires c =    let t = head-length c.args.c in
     omega arith
 
 pub put_line-e-requires : goal.put_line-e-requires
-put_line-e-requires c =    let t = head-length c.args.c in
+put_line-e-requires c = let t = head-length c.args.c in
     let p = c.requires in
     let i = c.put_code-a.ensures.value in
     let a = c.put_code-a.auto.out in
@@ -37,7 +37,7 @@ put_line-e-requires c =    let t = head-length c.args.c in
     omega arith
 
 pub put_season-f-requires : goal.put_season-f-requires
-put_season-f-requires c =    let t = head-length c.args.c in
+put_season-f-requires c = let t = head-length c.args.c in
     let p = c.requires in
     let i = c.put_code-a.ensures.value in
     let a = c.put_code-a.auto.out in
@@ -50,7 +50,7 @@ put_season-f-requires c =    let t = head-length c.args.c in
     omega arith
 
 pub put_sum-requires : goal.put_sum-requires
-put_sum-requires c =    let t = head-length c.args.c in
+put_sum-requires c = let t = head-length c.args.c in
     let p = c.requires in
     let i = c.put_code-a.ensures.value in
     let a = c.put_code-a.auto.out in
@@ -66,7 +66,7 @@ put_sum-requires c =    let t = head-length c.args.c in
 
 pub returns : goal.returns
 unfolding head_text
-returns c =    let value = c.args.c in
+returns c = let value = c.args.c in
     let t = head-length value in
     let i = c.put_code-a.ensures.value in
     let j = c.put_line-b.ensures.value in

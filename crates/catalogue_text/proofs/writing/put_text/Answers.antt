@@ -9,19 +9,19 @@ use Rattle.catalogue_text.proofs.writing.put_text.Goals as goal
 
 pub put_head-g-requires : goal.put_head-g-requires
 unfolding text_of
-put_head-g-requires c =    let value = c.args.c in
+put_head-g-requires c = let value = c.args.c in
     omega (arith, c.requires, length-append (head_text value) (length_text (own_numbers value)))
 
 pub put_lengths-requires : goal.put_lengths-requires
 unfolding text_of
-put_lengths-requires c =    let value = c.args.c in
-    let head = c.put_head-g in 
+put_lengths-requires c = let value = c.args.c in
+    let head = c.put_head-g in
     omega (arith, c.requires, length-append (head_text value) (length_text (own_numbers value)), c.put_head-g.ensures.value, c.put_head-g.auto.out)
 
 pub returns : goal.returns
 unfolding text_of
-returns c =    let last = c.put_lengths in 
-    let head = c.put_head-g in 
+returns c = let last = c.put_lengths in
+    let head = c.put_head-g in
     let a = c.args in
     let lengths = length_text (own_numbers a.c) in
     let start : c.put_head-g.result ≡ length (head_text a.c) = c.put_head-g.ensures.value in record {

@@ -7,5 +7,5 @@ use Rattle.catalogue_text.proofs.writing.text_length.Goals as goal
 
 pub returns : goal.returns
 unfolding text_of
-returns c =    let value = c.args.c in
+returns c = let value = c.args.c in
     omega (arith, length-append (head_text value) (length_text (own_numbers value)), c.head_length.ensures.value, c.lengths_length.ensures.value)

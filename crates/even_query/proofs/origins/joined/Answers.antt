@@ -10,58 +10,58 @@ use Rattle.even_query.proofs.Steps.{Before, rows_before}
 use Rattle.even_query.proofs.origins.joined.Goals as goal
 
 pub power-rows-requires : goal.power-rows-requires
-power-rows-requires c =    let before : Before c.args.n c.args.ones c.args.i =
-        rows_before c.args.n c.args.ones c.args.i c.requires.0 c.requires.3 c.requires.4 in
+power-rows-requires c = let before : Before c.args.n c.args.ones c.args.i =
+    rows_before c.args.n c.args.ones c.args.i c.requires.0 c.requires.3 c.requires.4 in
     let a = c.args in
     let rows = before in
     omega (arith, rows.most, c.requires.5)
 
 pub nonzero_div-other : goal.nonzero_div-other
-nonzero_div-other c =    let before : Before c.args.n c.args.ones c.args.i =
-        rows_before c.args.n c.args.ones c.args.i c.requires.0 c.requires.3 c.requires.4 in
+nonzero_div-other c = let before : Before c.args.n c.args.ones c.args.i =
+    rows_before c.args.n c.args.ones c.args.i c.requires.0 c.requires.3 c.requires.4 in
     let a = c.args in
     let rows = before in
     omega (arith, rows.some, c.power-rows.ensures)
 
 pub overflow_mul-result : goal.overflow_mul-result
-overflow_mul-result c =    let turns : c.args.server * (c.args.n - 1) ≤ 16 * 16 =
-        let low : c.args.server ≤ 16 = omega (arith, c.requires.1, c.requires.2) in
-        let less : c.args.n - 1 ≤ 16 = omega (arith, c.requires.1) in
-        mul-le-mul low less in
+overflow_mul-result c = let turns : c.args.server * (c.args.n - 1) ≤ 16 * 16 =
+    let low : c.args.server ≤ 16 = omega (arith, c.requires.1, c.requires.2) in
+    let less : c.args.n - 1 ≤ 16 = omega (arith, c.requires.1) in
+    mul-le-mul low less in
     let a = c.args in
     let most = turns in
     omega arith
 
 pub overflow_add-result : goal.overflow_add-result
-overflow_add-result c =    let before : Before c.args.n c.args.ones c.args.i =
-        rows_before c.args.n c.args.ones c.args.i c.requires.0 c.requires.3 c.requires.4 in
+overflow_add-result c = let before : Before c.args.n c.args.ones c.args.i =
+    rows_before c.args.n c.args.ones c.args.i c.requires.0 c.requires.3 c.requires.4 in
     let turns : c.args.server * (c.args.n - 1) ≤ 16 * 16 =
-        let low : c.args.server ≤ 16 = omega (arith, c.requires.1, c.requires.2) in
-        let less : c.args.n - 1 ≤ 16 = omega (arith, c.requires.1) in
-        mul-le-mul low less in
+    let low : c.args.server ≤ 16 = omega (arith, c.requires.1, c.requires.2) in
+    let less : c.args.n - 1 ≤ 16 = omega (arith, c.requires.1) in
+    mul-le-mul low less in
     let a = c.args in
     let rows = before in
     let most = turns in
     omega (arith, rows.other, ap (λ (q : ℕ). a.i / q) c.power-rows.ensures, c.requires.1)
 
 pub other_server-requires : goal.other_server-requires
-other_server-requires c =    let before : Before c.args.n c.args.ones c.args.i =
-        rows_before c.args.n c.args.ones c.args.i c.requires.0 c.requires.3 c.requires.4 in
+other_server-requires c = let before : Before c.args.n c.args.ones c.args.i =
+    rows_before c.args.n c.args.ones c.args.i c.requires.0 c.requires.3 c.requires.4 in
     let a = c.args in
     let rows = before in
     omega (arith, rows.other, ap (λ (q : ℕ). a.i / q) c.power-rows.ensures, c.requires.1)
 
 pub nonzero_rem-result : goal.nonzero_rem-result
-nonzero_rem-result c =    let before : Before c.args.n c.args.ones c.args.i =
-        rows_before c.args.n c.args.ones c.args.i c.requires.0 c.requires.3 c.requires.4 in
+nonzero_rem-result c = let before : Before c.args.n c.args.ones c.args.i =
+    rows_before c.args.n c.args.ones c.args.i c.requires.0 c.requires.3 c.requires.4 in
     let a = c.args in
     let rows = before in
     omega (arith, rows.some, c.power-rows.ensures)
 
 pub returns : goal.returns
 unfolding joined
-returns c =    let before : Before c.args.n c.args.ones c.args.i =
-        rows_before c.args.n c.args.ones c.args.i c.requires.0 c.requires.3 c.requires.4 in
+returns c = let before : Before c.args.n c.args.ones c.args.i =
+    rows_before c.args.n c.args.ones c.args.i c.requires.0 c.requires.3 c.requires.4 in
     let a = c.args in
     let rows = before in
     let P = c.power-rows.result in

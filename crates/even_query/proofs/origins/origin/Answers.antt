@@ -3,7 +3,7 @@
 use Rattle.even_query.proofs.origins.origin.Goals as goal
 
 pub joined-requires : goal.joined-requires
-joined-requires c =    let p = c.requires in
+joined-requires c = let p = c.requires in
     (p.0, p.1, p.2, p.4 c.if-joins.true, p.5, p.6)
 
 pub returns-then-joins : goal.returns-then-joins

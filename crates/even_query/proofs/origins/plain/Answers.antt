@@ -6,7 +6,7 @@ use Rattle.even_query.proofs.origins.plain.Goals as goal
 
 pub returns : goal.returns
 unfolding plain
-returns c =    let a = c.args in
+returns c = let a = c.args in
     ap (λ (q : ℕ). record {
       block = a.ones - 1;
       source = a.ones - 1;

@@ -7,8 +7,8 @@ use Rattle.gozimpe.proofs.TextCorrections.{text-refused, text-corrected}
 use Rattle.gozimpe.proofs.correcting.gozimpe_correct.Goals as goal
 
 pub returns-in-Refused : goal.returns-in-Refused
-returns-in-Refused c =    let a = c.args in
-    let from = c.read-reading in 
+returns-in-Refused c = let a = c.args in
+    let from = c.read-reading in
     let did = text-refused a.mirror a.store.now a.request.now (edit_of a.pack a.piece a.byte a.value) a.answer.now
     a.catalogue.now c.read-reading.result c.read-reading.ensures c.in-Refused.fault c.in-Refused.is in
     record {
@@ -18,9 +18,9 @@ returns-in-Refused c =    let a = c.args in
     }
 
 pub returns : goal.returns
-returns c =    let a = c.args in
-    let from = c.read-reading in 
-    let asked = c.correct in 
+returns c = let a = c.args in
+    let from = c.read-reading in
+    let asked = c.correct in
     let did = text-corrected a.mirror a.store.now a.request.now (edit_of a.pack a.piece a.byte a.value) a.answer.now
     a.catalogue.now c.read-reading.result c.read-reading.ensures c.in_default.is
     c.correct.result _ _ c.correct.ensures in

@@ -7,8 +7,8 @@ use Rattle.gozimpe.proofs.TextCorrections.{answer-text-refused, answer-text-corr
 use Rattle.gozimpe.proofs.correcting.gozimpe_correct_answer.Goals as goal
 
 pub returns-in-Refused : goal.returns-in-Refused
-returns-in-Refused c =    let a = c.args in
-    let from = c.read-reading in 
+returns-in-Refused c = let a = c.args in
+    let from = c.read-reading in
     let did = answer-text-refused a.mirror a.store.now a.request.now (edit_of a.pack a.piece a.byte a.value) a.answer.now
     a.catalogue.now c.read-reading.result c.read-reading.ensures c.in-Refused.fault c.in-Refused.is in
     record {
@@ -17,9 +17,9 @@ returns-in-Refused c =    let a = c.args in
     }
 
 pub returns : goal.returns
-returns c =    let a = c.args in
-    let from = c.read-reading in 
-    let asked = c.correct_answer in 
+returns c = let a = c.args in
+    let from = c.read-reading in
+    let asked = c.correct_answer in
     let did = answer-text-corrected a.mirror a.store.now a.request.now (edit_of a.pack a.piece a.byte a.value) a.answer.now
     a.catalogue.now c.read-reading.result c.read-reading.ensures c.in_default.is
     c.correct_answer.result a.store.now _ c.correct_answer.ensures in

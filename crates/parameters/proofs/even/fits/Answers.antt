@@ -12,31 +12,31 @@ use Rattle.parameters.proofs.even.fits.Goals as goal
 
 pub returns-then-not-common_fits : goal.returns-then-not-common_fits
 unfolding even_fits
-returns-then-not-common_fits c =    let f = c.common_fits in 
+returns-then-not-common_fits c = let f = c.common_fits in
     let a = c.args in
     common-fails a.n a.s c.common_fits.result c.common_fits.ensures (even_messages_fit a.n a.k) (not-true c.common_fits.result c.if-not-common_fits.true-raw)
 
 pub returns-then-k-lt1 : goal.returns-then-k-lt1
 unfolding even_fits
-returns-then-k-lt1 c =    let f = c.common_fits in 
+returns-then-k-lt1 c = let f = c.common_fits in
     let a = c.args in
     let few : false ≡ even_messages_fit a.n a.k = simp (lt-leb _ _ c.if-k-lt1.true) in
     few ∙ common-holds a.n a.s c.common_fits.result c.common_fits.ensures (even_messages_fit a.n a.k) (not-false c.common_fits.result c.if-not-common_fits.false-raw)
 
 pub most_messages-requires : goal.most_messages-requires
-most_messages-requires c =    let servers : (2 ≤ c.args.n) × (c.args.n ≤ 16) =
-        let f = c.common_fits in 
-        let a = c.args in
-        common-servers a.n a.s c.common_fits.result c.common_fits.ensures (not-false c.common_fits.result c.if-not-common_fits.false-raw) in
+most_messages-requires c = let servers : (2 ≤ c.args.n) × (c.args.n ≤ 16) =
+    let f = c.common_fits in
+    let a = c.args in
+    common-servers a.n a.s c.common_fits.result c.common_fits.ensures (not-false c.common_fits.result c.if-not-common_fits.false-raw) in
     servers
 
 pub returns : goal.returns
 unfolding even_fits
-returns c =    let servers : (2 ≤ c.args.n) × (c.args.n ≤ 16) =
-        let f = c.common_fits in 
-        let a = c.args in
-        common-servers a.n a.s c.common_fits.result c.common_fits.ensures (not-false c.common_fits.result c.if-not-common_fits.false-raw) in
-    let f = c.common_fits in 
+returns c = let servers : (2 ≤ c.args.n) × (c.args.n ≤ 16) =
+    let f = c.common_fits in
+    let a = c.args in
+    common-servers a.n a.s c.common_fits.result c.common_fits.ensures (not-false c.common_fits.result c.if-not-common_fits.false-raw) in
+    let f = c.common_fits in
     let a = c.args in
     let within = servers in
     let entry : leb a.k c.most_messages.result ≡ leb a.k (most_messages even_table a.n) =

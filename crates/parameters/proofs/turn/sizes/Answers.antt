@@ -6,11 +6,11 @@ use Rattle.parameters.proofs.turn.sizes.Goals as goal
 
 pub returns : goal.returns
 unfolding turn_sizes
-returns c =    ap (λ (s : Sizes). record {
-      symbols = s.symbols;
-      message = s.message;
-      store = s.store;
-      key = c.args.k;
-      query = s.query;
-      slot = s.slot;
-    }) c.sizes-short.ensures
+returns c = ap (λ (s : Sizes). record {
+  symbols = s.symbols;
+  message = s.message;
+  store = s.store;
+  key = c.args.k;
+  query = s.query;
+  slot = s.slot;
+}) c.sizes-short.ensures

@@ -14,14 +14,14 @@ returns-then-text-at c = simp (drop_of_length-le c.args.text.now {i = c.args.at}
 
 pub returns-then-not-starts : goal.returns-then-not-starts
 unfolding key_line
-returns-then-not-starts c =    let tested : let a = c.args in c.starts.result ≡ begins key_name (drop a.at a.text.now) =
-        let a = c.args in
-        c.starts.ensures ∙ ap (begins key_name) (to_end a.text.now a.at) in
+returns-then-not-starts c = let tested : let a = c.args in c.starts.result ≡ begins key_name (drop a.at a.text.now) =
+    let a = c.args in
+    c.starts.ensures ∙ ap (begins key_name) (to_end a.text.now a.at) in
     simp (sym (tested) ∙ not-true _ c.if-not-starts.true-raw)
 
 pub returns : goal.returns
 unfolding key_line
-returns c =    let tested : let a = c.args in c.starts.result ≡ begins key_name (drop a.at a.text.now) =
-        let a = c.args in
-        c.starts.ensures ∙ ap (begins key_name) (to_end a.text.now a.at) in
+returns c = let tested : let a = c.args in c.starts.result ≡ begins key_name (drop a.at a.text.now) =
+    let a = c.args in
+    c.starts.ensures ∙ ap (begins key_name) (to_end a.text.now a.at) in
     c.scan.ensures ∙ simp (sym (tested) ∙ not-false _ c.if-not-starts.false-raw)

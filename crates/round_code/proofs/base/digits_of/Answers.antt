@@ -13,7 +13,7 @@ use Rattle.round_code.proofs.LastDigits.{rest-low, digit-written}
 use Rattle.round_code.proofs.base.digits_of.Goals as goal
 
 pub loop-i-init : goal.loop-i-init
-loop-i-init c =    let a = c.args in
+loop-i-init c = let a = c.args in
     let all = digits a.n a.count a.value in
     let long = digits-length a.n a.count a.value in (
       omega arith,
@@ -42,7 +42,7 @@ pub loop-i-smaller : goal.loop-i-smaller
 loop-i-smaller c = omega arith
 
 pub loop-i-preserved : goal.loop-i-preserved
-loop-i-preserved c =    let n = c.args.n in
+loop-i-preserved c = let n = c.args.n in
     let i = c.loop-i.i in
     let rest = c.loop-i.rest in
     let some : 0 < n = omega arith in
@@ -58,5 +58,5 @@ loop-i-preserved c =    let n = c.args.n in
 
 pub returns : goal.returns
 unfolding digits
-returns c =    let last : c.loop-i.i ≡ 0 = omega arith in
+returns c = let last : c.loop-i.i ≡ 0 = omega arith in
     rw last at c.loop-i.invariant.3

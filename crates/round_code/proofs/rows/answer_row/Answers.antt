@@ -12,14 +12,14 @@ use Rattle.short_scheme.specs.Short.{strided_answer}
 use Rattle.round_code.proofs.rows.answer_row.Goals as goal
 
 pub answer-written-requires : goal.answer-written-requires
-answer-written-requires c =    let a = c.args in record {
-      s_nonzero = c.requires.s_nonzero;
-      row_stored = c.requires.row_stored;
-      row_in_bounds = rw (to_end a.out.now a.at) (omega (arith, length-drop a.at a.out.now, c.requires.row_in_bounds));
-    }
+answer-written-requires c = let a = c.args in record {
+  s_nonzero = c.requires.s_nonzero;
+  row_stored = c.requires.row_stored;
+  row_in_bounds = rw (to_end a.out.now a.at) (omega (arith, length-drop a.at a.out.now, c.requires.row_in_bounds));
+}
 
 pub returns : goal.returns
-returns c =    let a = c.args in
+returns c = let a = c.args in
     let out = a.out.now in
     let at = a.at in
     let answered = strided_answer (sum_of a.op) a.first a.stride a.s a.store.now a.row.now in record {

@@ -21,7 +21,7 @@ use Rattle.round_code.proofs.Starts.{starts-placed}
 use Rattle.round_code.proofs.rows.recover_block.Goals as goal
 
 pub returns-then-message-at : goal.returns-then-message-at
-returns-then-message-at c =    let a = c.args in
+returns-then-message-at c = let a = c.args in
     sym (lay-past a.at (block_from (sum_of a.op) a.n a.k a.s a.entry (row_starts a.slot a.before a.behind) a.answers.now)
     a.message.now c.if-message-at.true)
 
@@ -29,11 +29,11 @@ pub row_starts-starts-requires : goal.row_starts-starts-requires
 row_starts-starts-requires c = let pre = c.requires in (c.requires.s_nonzero.2, omega (arith, c.requires.s_nonzero.2, c.requires.s_bound.1))
 
 pub recover_row-requires : goal.recover_row-requires
-recover_row-requires c =    let placed : Placed c.args.n c.args.s (row_starts c.args.slot c.args.before c.args.behind) c.args.answers.now =
-        let a = c.args in
-        let pre = c.requires in
-        starts-placed a.n a.s a.slot a.before a.behind a.answers.now c.requires.round_numbers.servers-high c.requires.s_nonzero.0 c.requires.s_nonzero.2
-        c.requires.s_bound.0 c.requires.s_bound.1 c.requires.s_bound.2 in
+recover_row-requires c = let placed : Placed c.args.n c.args.s (row_starts c.args.slot c.args.before c.args.behind) c.args.answers.now =
+    let a = c.args in
+    let pre = c.requires in
+    starts-placed a.n a.s a.slot a.before a.behind a.answers.now c.requires.round_numbers.servers-high c.requires.s_nonzero.0 c.requires.s_nonzero.2
+    c.requires.s_bound.0 c.requires.s_bound.1 c.requires.s_bound.2 in
     let a = c.args in
     let ds = digits a.n (a.k - 1) a.entry in
     let m : digit_sum ds % a.n < a.n = mod-lt (digit_sum ds) (omega (arith, c.requires.round_numbers.servers-low)) in
@@ -44,7 +44,7 @@ recover_row-requires c =    let placed : Placed c.args.n c.args.s (row_starts c.
 
 pub returns : goal.returns
 unfolding block_from
-returns c =    let a = c.args in
+returns c = let a = c.args in
     let message = a.message.now in
     let f : ℕ → Bool → List ℕ → List ℕ =
     λ t empty begin. flat_map (from_places (sum_of a.op) a.n a.s t empty begin a.answers.now) (range 1 (a.n - 1)) in

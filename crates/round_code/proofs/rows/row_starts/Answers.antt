@@ -17,15 +17,15 @@ pub loop-m-init : goal.loop-m-init
 loop-m-init c = (omega arith, omega arith, refl, record { holds = first-start c.args.slot c.args.before c.args.behind })
 
 pub overflow_mul-starts : goal.overflow_mul-starts
-overflow_mul-starts c =    let few : c.loop-m.m * c.args.slot ≤ 16 * 1048576 =
-        let h : c.loop-m.m ≤ 16 = omega arith in
-        mul-le-mul h c.requires.0 in
+overflow_mul-starts c = let few : c.loop-m.m * c.args.slot ≤ 16 * 1048576 =
+    let h : c.loop-m.m ≤ 16 = omega arith in
+    mul-le-mul h c.requires.0 in
     omega (arith, few)
 
 pub overflow_add-starts : goal.overflow_add-starts
-overflow_add-starts c =    let few : c.loop-m.m * c.args.slot ≤ 16 * 1048576 =
-        let h : c.loop-m.m ≤ 16 = omega arith in
-        mul-le-mul h c.requires.0 in
+overflow_add-starts c = let few : c.loop-m.m * c.args.slot ≤ 16 * 1048576 =
+    let h : c.loop-m.m ≤ 16 = omega arith in
+    mul-le-mul h c.requires.0 in
     omega (arith, few, c.requires.1)
 
 pub offset_bounds-starts-m : goal.offset_bounds-starts-m
@@ -41,7 +41,7 @@ pub loop-m-smaller : goal.loop-m-smaller
 loop-m-smaller c = omega arith
 
 pub loop-m-preserved : goal.loop-m-preserved
-loop-m-preserved c =    let a = c.args in
+loop-m-preserved c = let a = c.args in
     let m = c.loop-m.m in
     let start = m * a.slot + a.behind in (
       omega arith,
@@ -52,6 +52,6 @@ loop-m-preserved c =    let a = c.args in
     )
 
 pub returns : goal.returns
-returns c =    let a = c.args in
+returns c = let a = c.args in
     let last : c.loop-m.m ≡ 16 = omega arith in
     filled-all (start_of a.slot a.before a.behind) 16 c.loop-m.starts c.loop-m.invariant.2 (rw last at c.loop-m.invariant.3)

@@ -12,7 +12,7 @@ pub overflow_sub-last : goal.overflow_sub-last
 overflow_sub-last c = omega (arith, c.requires.round_numbers.messages-low)
 
 pub digits_of-short-requires : goal.digits_of-short-requires
-digits_of-short-requires c =    let pre = c.requires in
+digits_of-short-requires c = let pre = c.requires in
     record {
       le_n = (c.requires.round_numbers.servers-low, c.requires.round_numbers.servers-high);
       count_le_most_digits = (omega (arith, c.requires.round_numbers.messages-high), c.requires.bound);
@@ -22,11 +22,11 @@ pub slice_bounds-short-end : goal.slice_bounds-short-end
 slice_bounds-short-end c = omega (arith, c.requires.round_numbers.messages-high)
 
 pub slice_bounds-query-end : goal.slice_bounds-query-end
-slice_bounds-query-end c =    let a = c.args in
+slice_bounds-query-end c = let a = c.args in
     sym (held-long a.n a.k a.entry c.digits_of-short.result c.digits_of-short.ensures)
 
 pub query-requires : goal.query-requires
-query-requires c =    let a = c.args in
+query-requires c = let a = c.args in
     let b = c.requires.round_numbers in
     let array = c.digits_of-short.result in
     let e = c.digits_of-short.ensures in
@@ -37,7 +37,7 @@ query-requires c =    let a = c.args in
     }
 
 pub returns : goal.returns
-returns c =    let a = c.args in
+returns c = let a = c.args in
     let b = c.requires.round_numbers in
     let array = c.digits_of-short.result in
     let e = c.digits_of-short.ensures in

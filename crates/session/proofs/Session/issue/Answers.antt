@@ -11,13 +11,13 @@ use Rattle.session.proofs.Places.{key-places}
 use Rattle.session.proofs.Session.issue.Goals as goal
 
 pub returns-in-Refused : goal.returns-in-Refused
-returns-in-Refused c =    let args = c.args in
-    let v = c.issue_verdict-verdict in 
+returns-in-Refused c = let args = c.args in
+    let v = c.issue_verdict-verdict in
     (issue-goes scheme_of args.self args.today args.server args.query.now).refused c.issue_verdict-verdict.result _ c.issue_verdict-verdict.ensures c.in-Refused.is
 
 pub write_query-bytes-requires : goal.write_query-bytes-requires
-write_query-bytes-requires c =    let args = c.args in
-    let v = c.issue_verdict-verdict in 
+write_query-bytes-requires c = let args = c.args in
+    let v = c.issue_verdict-verdict in
     let i = issue-passed scheme_of args.self args.today args.server (length args.query.now) (sym c.issue_verdict-verdict.ensures ∙ c.in_default.is) in
     record {
       admitted = i.sound.admitted;
@@ -28,8 +28,8 @@ write_query-bytes-requires c =    let args = c.args in
     }
 
 pub mark_issued-requires : goal.mark_issued-requires
-mark_issued-requires c =    let args = c.args in
-    let v = c.issue_verdict-verdict in 
+mark_issued-requires c = let args = c.args in
+    let v = c.issue_verdict-verdict in
     let i = issue-passed scheme_of args.self args.today args.server (length args.query.now) (sym c.issue_verdict-verdict.ensures ∙ c.in_default.is) in
     let counts : counted args.self.meters.sent args.server + c.write_query-bytes.result ≤ most_bytes =
     rw c.write_query-bytes.ensures.value i.counts in
@@ -39,8 +39,8 @@ mark_issued-requires c =    let args = c.args in
     }
 
 pub returns : goal.returns
-returns c =    let args = c.args in
-    let v = c.issue_verdict-verdict in 
+returns c = let args = c.args in
+    let v = c.issue_verdict-verdict in
     rw (c.mark_issued.ensures, c.write_query-bytes.ensures.value)
     ((issue-goes scheme_of args.self args.today args.server args.query.now).done c.issue_verdict-verdict.result _ c.issue_verdict-verdict.ensures c.in_default.is
     c.write_query-bytes.ensures.query_after)

@@ -7,13 +7,13 @@ use Rattle.session.proofs.Recover.{recover-passed, recover-goes}
 use Rattle.session.proofs.Session.recover.Goals as goal
 
 pub returns-in-Refused : goal.returns-in-Refused
-returns-in-Refused c =    let args = c.args in
-    let v = c.recover_verdict-verdict in 
+returns-in-Refused c = let args = c.args in
+    let v = c.recover_verdict-verdict in
     (recover-goes scheme_of args.self args.answers.now args.message.now).refused c.recover_verdict-verdict.result _ c.recover_verdict-verdict.ensures c.in-Refused.is
 
 pub write_message-requires : goal.write_message-requires
-write_message-requires c =    let args = c.args in
-    let v = c.recover_verdict-verdict in 
+write_message-requires c = let args = c.args in
+    let v = c.recover_verdict-verdict in
     let r = recover-passed scheme_of args.self (length args.answers.now) (length args.message.now) (sym c.recover_verdict-verdict.ensures ∙ c.in_default.is) in
     record {
       admitted = r.sound.admitted;
@@ -25,7 +25,7 @@ write_message-requires c =    let args = c.args in
     }
 
 pub returns : goal.returns
-returns c =    let args = c.args in
-    let v = c.recover_verdict-verdict in 
+returns c = let args = c.args in
+    let v = c.recover_verdict-verdict in
     (recover-goes scheme_of args.self args.answers.now args.message.now).done c.recover_verdict-verdict.result _ c.recover_verdict-verdict.ensures c.in_default.is
     c.write_message.ensures

@@ -14,20 +14,20 @@ use Rattle.session.proofs.Promised.{slot-holds, meter-holds}
 use Rattle.session.proofs.Session.take.Goals as goal
 
 pub returns-in-Refused : goal.returns-in-Refused
-returns-in-Refused c =    let args = c.args in
-    let v = c.take_verdict-verdict in 
+returns-in-Refused c = let args = c.args in
+    let v = c.take_verdict-verdict in
     (take-goes scheme_of args.self args.server args.answer.now args.answers.now).refused c.take_verdict-verdict.result _ c.take_verdict-verdict.ensures c.in-Refused.is
 
 pub sizes_of-sizes-requires : goal.sizes_of-sizes-requires
-sizes_of-sizes-requires c =    let args = c.args in
-    let v = c.take_verdict-verdict in 
+sizes_of-sizes-requires c = let args = c.args in
+    let v = c.take_verdict-verdict in
     (take-passed scheme_of args.self args.server (length args.answer.now) (length args.answers.now)
     (sym c.take_verdict-verdict.ensures ∙ c.in_default.is)).sound.admitted
 
 pub overflow_mul-server : goal.overflow_mul-server
-overflow_mul-server c =    let args = c.args in
-    let v = c.take_verdict-verdict in 
-    let sizes = c.sizes_of-sizes in 
+overflow_mul-server c = let args = c.args in
+    let v = c.take_verdict-verdict in
+    let sizes = c.sizes_of-sizes in
     let t = take-passed scheme_of args.self args.server (length args.answer.now) (length args.answers.now)
     (sym c.take_verdict-verdict.ensures ∙ c.in_default.is) in
     omega (
@@ -37,18 +37,18 @@ overflow_mul-server c =    let args = c.args in
     )
 
 pub put_answer-requires : goal.put_answer-requires
-put_answer-requires c =    let args = c.args in
-    let v = c.take_verdict-verdict in 
-    let sizes = c.sizes_of-sizes in 
+put_answer-requires c = let args = c.args in
+    let v = c.take_verdict-verdict in
+    let sizes = c.sizes_of-sizes in
     let t = take-passed scheme_of args.self args.server (length args.answer.now) (length args.answers.now)
     (sym c.take_verdict-verdict.ensures ∙ c.in_default.is) in
     let long = key-places args.self _ c.well_formed.0 in
     slot-holds args.self long c.sizes_of-sizes.result c.sizes_of-sizes.ensures args.server (length args.answer.now) (length args.answers.now) t
 
 pub mark_taken-requires : goal.mark_taken-requires
-mark_taken-requires c =    let args = c.args in
-    let v = c.take_verdict-verdict in 
-    let sizes = c.sizes_of-sizes in 
+mark_taken-requires c = let args = c.args in
+    let v = c.take_verdict-verdict in
+    let sizes = c.sizes_of-sizes in
     let accepted = sym c.take_verdict-verdict.ensures ∙ c.in_default.is in
     let t = take-passed scheme_of args.self args.server (length args.answer.now) (length args.answers.now) accepted in
     let long = key-places args.self _ c.well_formed.0 in record {
@@ -57,8 +57,8 @@ mark_taken-requires c =    let args = c.args in
     }
 
 pub returns : goal.returns
-returns c =    let args = c.args in
-    let v = c.take_verdict-verdict in 
+returns c = let args = c.args in
+    let v = c.take_verdict-verdict in
     rw c.mark_taken.ensures
     ((take-goes scheme_of args.self args.server args.answer.now args.answers.now).done c.take_verdict-verdict.result _ c.take_verdict-verdict.ensures c.in_default.is
     (c.put_answer.ensures

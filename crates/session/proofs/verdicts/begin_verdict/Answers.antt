@@ -12,29 +12,29 @@ use Rattle.session.proofs.verdicts.begin_verdict.Goals as goal
 
 pub returns-in-Refused : goal.returns-in-Refused
 unfolding begin_verdict
-returns-in-Refused c =    after-catalogue c.args.catalogue _ refl _ _ c.verdict.ensures (rw c.in-Refused.is)
+returns-in-Refused c = after-catalogue c.args.catalogue _ refl _ _ c.verdict.ensures (rw c.in-Refused.is)
 
 pub returns-then-catalogue-wanted : goal.returns-then-catalogue-wanted
 unfolding begin_verdict
-returns-then-catalogue-wanted c =    let admitted : Admitted c.args.catalogue =
-        sym c.verdict.ensures ∙ c.in_default.is in
+returns-then-catalogue-wanted c = let admitted : Admitted c.args.catalogue =
+    sym c.verdict.ensures ∙ c.in_default.is in
     after-catalogue _ _ refl Accepted _ (sym (admitted)) (rw (le-leb _ _ c.if-catalogue-wanted.true))
 
 pub sizes_of-sizes-requires : goal.sizes_of-sizes-requires
-sizes_of-sizes-requires c =    let admitted : Admitted c.args.catalogue =
-        sym c.verdict.ensures ∙ c.in_default.is in
+sizes_of-sizes-requires c = let admitted : Admitted c.args.catalogue =
+    sym c.verdict.ensures ∙ c.in_default.is in
     admitted
 
 pub returns-then-key-sizes : goal.returns-then-key-sizes
 unfolding begin_verdict
-returns-then-key-sizes c =    let admitted : Admitted c.args.catalogue =
-        sym c.verdict.ensures ∙ c.in_default.is in
+returns-then-key-sizes c = let admitted : Admitted c.args.catalogue =
+    sym c.verdict.ensures ∙ c.in_default.is in
     after-catalogue _ _ refl Accepted _ (sym (admitted))
     (rw (lt-leb _ _ c.if-catalogue-wanted.false, ← c.sizes_of-sizes.ensures, ne_eqb _ _ c.if-key-sizes.true))
 
 pub key_good-requires : goal.key_good-requires
-key_good-requires c =    let admitted : Admitted c.args.catalogue =
-        sym c.verdict.ensures ∙ c.in_default.is in
+key_good-requires c = let admitted : Admitted c.args.catalogue =
+    sym c.verdict.ensures ∙ c.in_default.is in
     record {
       admitted = admitted;
       key_len = c.if-key-sizes.false ∙ ap (λ (sizes : Sizes). sizes.key) c.sizes_of-sizes.ensures;
@@ -42,8 +42,8 @@ key_good-requires c =    let admitted : Admitted c.args.catalogue =
 
 pub returns-then-not-key_good : goal.returns-then-not-key_good
 unfolding begin_verdict
-returns-then-not-key_good c =    let admitted : Admitted c.args.catalogue =
-        sym c.verdict.ensures ∙ c.in_default.is in
+returns-then-not-key_good c = let admitted : Admitted c.args.catalogue =
+    sym c.verdict.ensures ∙ c.in_default.is in
     after-catalogue _ _ refl Accepted _ (sym (admitted))
     (rw (
       lt-leb _ _ c.if-catalogue-wanted.false,
@@ -53,8 +53,8 @@ returns-then-not-key_good c =    let admitted : Admitted c.args.catalogue =
     ))
 
 pub returns : goal.returns
-returns c =    let admitted : Admitted c.args.catalogue =
-        sym c.verdict.ensures ∙ c.in_default.is in
+returns c = let admitted : Admitted c.args.catalogue =
+    sym c.verdict.ensures ∙ c.in_default.is in
     let args = c.args in
     sym (begin-accepted scheme_of args.catalogue args.wanted args.key.now (record {
       admitted = admitted;

@@ -18,59 +18,59 @@ served_verdict-requires c = key-places c.args.s _ c.well_formed.0
 
 pub returns-in-Refused : goal.returns-in-Refused
 unfolding issue_verdict
-returns-in-Refused c =    let args = c.args in
+returns-in-Refused c = let args = c.args in
     after_first_lem (ask_faults_on scheme_of args.s args.today args.server) _ refl refl _ _ c.served_verdict.ensures
     (rw c.in-Refused.is)
 
 pub sizes_of-sizes-requires : goal.sizes_of-sizes-requires
-sizes_of-sizes-requires c =    let accepted : let args = c.args in foremost (ask_faults_on scheme_of args.s args.today args.server) ≡ Accepted =
-        sym c.served_verdict.ensures ∙ c.in_default.is in
+sizes_of-sizes-requires c = let accepted : let args = c.args in foremost (ask_faults_on scheme_of args.s args.today args.server) ≡ Accepted =
+    sym c.served_verdict.ensures ∙ c.in_default.is in
     let asks : let args = c.args in
     let s = args.s in Asks scheme_of s.catalogue s.wanted s.key args.server =
-        let args = c.args in
-        let s = args.s in
-        (served-passed scheme_of s.catalogue s.wanted s.key args.today args.server (accepted)).0 in
+    let args = c.args in
+    let s = args.s in
+    (served-passed scheme_of s.catalogue s.wanted s.key args.today args.server (accepted)).0 in
     (asks).holds.admitted
 
 pub returns-then-room-sizes : goal.returns-then-room-sizes
 unfolding issue_verdict
-returns-then-room-sizes c =    let accepted : let args = c.args in foremost (ask_faults_on scheme_of args.s args.today args.server) ≡ Accepted =
-        sym c.served_verdict.ensures ∙ c.in_default.is in
+returns-then-room-sizes c = let accepted : let args = c.args in foremost (ask_faults_on scheme_of args.s args.today args.server) ≡ Accepted =
+    sym c.served_verdict.ensures ∙ c.in_default.is in
     after_first_lem _ _ refl refl Accepted _ (sym (accepted)) (rw (← c.sizes_of-sizes.ensures, lt-ltb _ _ c.if-room-sizes.true))
 
 pub slice_bounds-key-end : goal.slice_bounds-key-end
-slice_bounds-key-end c =    let accepted : let args = c.args in foremost (ask_faults_on scheme_of args.s args.today args.server) ≡ Accepted =
-        sym c.served_verdict.ensures ∙ c.in_default.is in
+slice_bounds-key-end c = let accepted : let args = c.args in foremost (ask_faults_on scheme_of args.s args.today args.server) ≡ Accepted =
+    sym c.served_verdict.ensures ∙ c.in_default.is in
     let asks : let args = c.args in
     let s = args.s in Asks scheme_of s.catalogue s.wanted s.key args.server =
-        let args = c.args in
-        let s = args.s in
-        (served-passed scheme_of s.catalogue s.wanted s.key args.today args.server (accepted)).0 in
+    let args = c.args in
+    let s = args.s in
+    (served-passed scheme_of s.catalogue s.wanted s.key args.today args.server (accepted)).0 in
     let s = c.args.s in
     key_fits s.catalogue s.key (key-places s _ c.well_formed.0) c.sizes_of-sizes.result (asks).holds.admitted c.sizes_of-sizes.ensures
 
 pub slice_bounds-sent_verdict-end : goal.slice_bounds-sent_verdict-end
-slice_bounds-sent_verdict-end c =    let accepted : let args = c.args in foremost (ask_faults_on scheme_of args.s args.today args.server) ≡ Accepted =
-        sym c.served_verdict.ensures ∙ c.in_default.is in
+slice_bounds-sent_verdict-end c = let accepted : let args = c.args in foremost (ask_faults_on scheme_of args.s args.today args.server) ≡ Accepted =
+    sym c.served_verdict.ensures ∙ c.in_default.is in
     let asks : let args = c.args in
     let s = args.s in Asks scheme_of s.catalogue s.wanted s.key args.server =
-        let args = c.args in
-        let s = args.s in
-        (served-passed scheme_of s.catalogue s.wanted s.key args.today args.server (accepted)).0 in
+    let args = c.args in
+    let s = args.s in
+    (served-passed scheme_of s.catalogue s.wanted s.key args.today args.server (accepted)).0 in
     let s = c.args.s in
     sym (key-count s.catalogue s.key (key-places s _ c.well_formed.0) c.sizes_of-sizes.result (asks).holds.admitted c.sizes_of-sizes.ensures)
 
 pub sent_verdict-requires : goal.sent_verdict-requires
-sent_verdict-requires c =    let accepted : let args = c.args in foremost (ask_faults_on scheme_of args.s args.today args.server) ≡ Accepted =
-        sym c.served_verdict.ensures ∙ c.in_default.is in
+sent_verdict-requires c = let accepted : let args = c.args in foremost (ask_faults_on scheme_of args.s args.today args.server) ≡ Accepted =
+    sym c.served_verdict.ensures ∙ c.in_default.is in
     let asks : let args = c.args in
     let s = args.s in Asks scheme_of s.catalogue s.wanted s.key args.server =
-        let args = c.args in
-        let s = args.s in
-        (served-passed scheme_of s.catalogue s.wanted s.key args.today args.server (accepted)).0 in
+    let args = c.args in
+    let s = args.s in
+    (served-passed scheme_of s.catalogue s.wanted s.key args.today args.server (accepted)).0 in
     let s = c.args.s in
     let long = key-places s _ c.well_formed.0 in
-    let sizes = c.sizes_of-sizes in 
+    let sizes = c.sizes_of-sizes in
     let passed = asks in
     let holds = passed.holds in
     let valid = key-valid s.catalogue s.key long c.sizes_of-sizes.result holds.admitted c.sizes_of-sizes.ensures holds.good in
@@ -85,8 +85,8 @@ sent_verdict-requires c =    let accepted : let args = c.args in foremost (ask_f
 
 pub returns : goal.returns
 unfolding issue_verdict
-returns c =    let accepted : let args = c.args in foremost (ask_faults_on scheme_of args.s args.today args.server) ≡ Accepted =
-        sym c.served_verdict.ensures ∙ c.in_default.is in
+returns c = let accepted : let args = c.args in foremost (ask_faults_on scheme_of args.s args.today args.server) ≡ Accepted =
+    sym c.served_verdict.ensures ∙ c.in_default.is in
     let roomy = rw c.sizes_of-sizes.ensures at c.if-room-sizes.false in
     after_first_lem _ _ refl refl Accepted _ (sym (accepted))
     (rw (le-ltb _ _ roomy) (rw c.sizes_of-sizes.ensures at c.sent_verdict.ensures))

@@ -19,71 +19,71 @@ session_verdict-requires c = key-places c.args.s _ c.well_formed.0
 
 pub returns-in-Refused : goal.returns-in-Refused
 unfolding recover_verdict
-returns-in-Refused c =    let s = c.args.s in
+returns-in-Refused c = let s = c.args.s in
     after_first_lem (own_faults scheme_of s) _ refl refl _ _ c.session_verdict.ensures (rw c.in-Refused.is)
 
 pub sizes_of-sizes-requires : goal.sizes_of-sizes-requires
-sizes_of-sizes-requires c =    let accepted : foremost (own_faults scheme_of c.args.s) ≡ Accepted =
-        sym c.session_verdict.ensures ∙ c.in_default.is in
+sizes_of-sizes-requires c = let accepted : foremost (own_faults scheme_of c.args.s) ≡ Accepted =
+    sym c.session_verdict.ensures ∙ c.in_default.is in
     let admitted : Admitted c.args.s.catalogue =
-        let s = c.args.s in
-        (session-passed scheme_of s.catalogue s.wanted s.key (accepted)).admitted in
+    let s = c.args.s in
+    (session-passed scheme_of s.catalogue s.wanted s.key (accepted)).admitted in
     admitted
 
 pub overflow_mul-s : goal.overflow_mul-s
-overflow_mul-s c =    let accepted : foremost (own_faults scheme_of c.args.s) ≡ Accepted =
-        sym c.session_verdict.ensures ∙ c.in_default.is in
+overflow_mul-s c = let accepted : foremost (own_faults scheme_of c.args.s) ≡ Accepted =
+    sym c.session_verdict.ensures ∙ c.in_default.is in
     let admitted : Admitted c.args.s.catalogue =
-        let s = c.args.s in
-        (session-passed scheme_of s.catalogue s.wanted s.key (accepted)).admitted in
+    let s = c.args.s in
+    (session-passed scheme_of s.catalogue s.wanted s.key (accepted)).admitted in
     let s = c.args.s in
     omega (arith, (sizes-small s.catalogue c.sizes_of-sizes.result (admitted) c.sizes_of-sizes.ensures).slots)
 
 pub returns-then-answers-s : goal.returns-then-answers-s
 unfolding recover_verdict
-returns-then-answers-s c =    let accepted : foremost (own_faults scheme_of c.args.s) ≡ Accepted =
-        sym c.session_verdict.ensures ∙ c.in_default.is in
+returns-then-answers-s c = let accepted : foremost (own_faults scheme_of c.args.s) ≡ Accepted =
+    sym c.session_verdict.ensures ∙ c.in_default.is in
     after_first_lem _ _ refl refl Accepted _ (sym (accepted)) (rw (← c.sizes_of-sizes.ensures, lt-ltb _ _ c.if-answers-s.true))
 
 pub message_length-requires : goal.message_length-requires
-message_length-requires c =    let accepted : foremost (own_faults scheme_of c.args.s) ≡ Accepted =
-        sym c.session_verdict.ensures ∙ c.in_default.is in
+message_length-requires c = let accepted : foremost (own_faults scheme_of c.args.s) ≡ Accepted =
+    sym c.session_verdict.ensures ∙ c.in_default.is in
     let admitted : Admitted c.args.s.catalogue =
-        let s = c.args.s in
-        (session-passed scheme_of s.catalogue s.wanted s.key (accepted)).admitted in
+    let s = c.args.s in
+    (session-passed scheme_of s.catalogue s.wanted s.key (accepted)).admitted in
     admitted
 
 pub returns-then-message-message_length : goal.returns-then-message-message_length
 unfolding recover_verdict
-returns-then-message-message_length c =    let accepted : foremost (own_faults scheme_of c.args.s) ≡ Accepted =
-        sym c.session_verdict.ensures ∙ c.in_default.is in
+returns-then-message-message_length c = let accepted : foremost (own_faults scheme_of c.args.s) ≡ Accepted =
+    sym c.session_verdict.ensures ∙ c.in_default.is in
     after_first_lem _ _ refl refl Accepted _ (sym (accepted))
     (rw (← c.message_length.ensures, ← c.sizes_of-sizes.ensures, le-ltb _ _ c.if-answers-s.false, lt-ltb _ _ c.if-message-message_length.true))
 
 pub slice_bounds-key-end : goal.slice_bounds-key-end
-slice_bounds-key-end c =    let accepted : foremost (own_faults scheme_of c.args.s) ≡ Accepted =
-        sym c.session_verdict.ensures ∙ c.in_default.is in
+slice_bounds-key-end c = let accepted : foremost (own_faults scheme_of c.args.s) ≡ Accepted =
+    sym c.session_verdict.ensures ∙ c.in_default.is in
     let admitted : Admitted c.args.s.catalogue =
-        let s = c.args.s in
-        (session-passed scheme_of s.catalogue s.wanted s.key (accepted)).admitted in
+    let s = c.args.s in
+    (session-passed scheme_of s.catalogue s.wanted s.key (accepted)).admitted in
     let s = c.args.s in
     key_fits s.catalogue s.key (key-places s _ c.well_formed.0) c.sizes_of-sizes.result (admitted) c.sizes_of-sizes.ensures
 
 pub slice_bounds-missing_verdict-end : goal.slice_bounds-missing_verdict-end
-slice_bounds-missing_verdict-end c =    let accepted : foremost (own_faults scheme_of c.args.s) ≡ Accepted =
-        sym c.session_verdict.ensures ∙ c.in_default.is in
+slice_bounds-missing_verdict-end c = let accepted : foremost (own_faults scheme_of c.args.s) ≡ Accepted =
+    sym c.session_verdict.ensures ∙ c.in_default.is in
     let admitted : Admitted c.args.s.catalogue =
-        let s = c.args.s in
-        (session-passed scheme_of s.catalogue s.wanted s.key (accepted)).admitted in
+    let s = c.args.s in
+    (session-passed scheme_of s.catalogue s.wanted s.key (accepted)).admitted in
     let s = c.args.s in
     sym (key-count s.catalogue s.key (key-places s _ c.well_formed.0) c.sizes_of-sizes.result (admitted) c.sizes_of-sizes.ensures)
 
 pub missing_verdict-requires : goal.missing_verdict-requires
-missing_verdict-requires c =    let accepted : foremost (own_faults scheme_of c.args.s) ≡ Accepted =
-        sym c.session_verdict.ensures ∙ c.in_default.is in
+missing_verdict-requires c = let accepted : foremost (own_faults scheme_of c.args.s) ≡ Accepted =
+    sym c.session_verdict.ensures ∙ c.in_default.is in
     let s = c.args.s in
     let long = key-places s _ c.well_formed.0 in
-    let sizes = c.sizes_of-sizes in 
+    let sizes = c.sizes_of-sizes in
     let holds = session-passed scheme_of s.catalogue s.wanted s.key (accepted) in
     let valid = key-valid s.catalogue s.key long c.sizes_of-sizes.result holds.admitted c.sizes_of-sizes.ensures holds.good in
     let few = (sizes-small s.catalogue c.sizes_of-sizes.result holds.admitted c.sizes_of-sizes.ensures).servers in
@@ -97,8 +97,8 @@ missing_verdict-requires c =    let accepted : foremost (own_faults scheme_of c.
 
 pub returns : goal.returns
 unfolding recover_verdict
-returns c =    let accepted : foremost (own_faults scheme_of c.args.s) ≡ Accepted =
-        sym c.session_verdict.ensures ∙ c.in_default.is in
+returns c = let accepted : foremost (own_faults scheme_of c.args.s) ≡ Accepted =
+    sym c.session_verdict.ensures ∙ c.in_default.is in
     let slots = rw c.sizes_of-sizes.ensures at c.if-answers-s.false in
     let roomy = rw c.message_length.ensures at c.if-message-message_length.false in
     after_first_lem _ _ refl refl Accepted _ (sym (accepted))

@@ -18,45 +18,45 @@ server_verdict-requires c = key-places c.args.s _ c.well_formed.0
 
 pub returns-in-Refused : goal.returns-in-Refused
 unfolding take_verdict
-returns-in-Refused c =    let args = c.args in
+returns-in-Refused c = let args = c.args in
     after_first_lem (ask_faults scheme_of args.s args.server) _ refl refl _ _ c.server_verdict.ensures (rw c.in-Refused.is)
 
 pub sizes_of-sizes-requires : goal.sizes_of-sizes-requires
-sizes_of-sizes-requires c =    let accepted : let args = c.args in foremost (ask_faults scheme_of args.s args.server) ≡ Accepted =
-        sym c.server_verdict.ensures ∙ c.in_default.is in
+sizes_of-sizes-requires c = let accepted : let args = c.args in foremost (ask_faults scheme_of args.s args.server) ≡ Accepted =
+    sym c.server_verdict.ensures ∙ c.in_default.is in
     let asks : let args = c.args in
     let s = args.s in Asks scheme_of s.catalogue s.wanted s.key args.server =
-        let args = c.args in
-        let s = args.s in
-        server-passed scheme_of s.catalogue s.wanted s.key args.server (accepted) in
+    let args = c.args in
+    let s = args.s in
+    server-passed scheme_of s.catalogue s.wanted s.key args.server (accepted) in
     (asks).holds.admitted
 
 pub overflow_mul-s : goal.overflow_mul-s
-overflow_mul-s c =    let accepted : let args = c.args in foremost (ask_faults scheme_of args.s args.server) ≡ Accepted =
-        sym c.server_verdict.ensures ∙ c.in_default.is in
+overflow_mul-s c = let accepted : let args = c.args in foremost (ask_faults scheme_of args.s args.server) ≡ Accepted =
+    sym c.server_verdict.ensures ∙ c.in_default.is in
     let asks : let args = c.args in
     let s = args.s in Asks scheme_of s.catalogue s.wanted s.key args.server =
-        let args = c.args in
-        let s = args.s in
-        server-passed scheme_of s.catalogue s.wanted s.key args.server (accepted) in
+    let args = c.args in
+    let s = args.s in
+    server-passed scheme_of s.catalogue s.wanted s.key args.server (accepted) in
     let passed = asks in
     let s = c.args.s in
     omega (arith, (sizes-small s.catalogue c.sizes_of-sizes.result passed.holds.admitted c.sizes_of-sizes.ensures).slots)
 
 pub returns-then-room-s : goal.returns-then-room-s
 unfolding take_verdict
-returns-then-room-s c =    let accepted : let args = c.args in foremost (ask_faults scheme_of args.s args.server) ≡ Accepted =
-        sym c.server_verdict.ensures ∙ c.in_default.is in
+returns-then-room-s c = let accepted : let args = c.args in foremost (ask_faults scheme_of args.s args.server) ≡ Accepted =
+    sym c.server_verdict.ensures ∙ c.in_default.is in
     after_first_lem _ _ refl refl Accepted _ (sym (accepted)) (rw (← c.sizes_of-sizes.ensures, lt-ltb _ _ c.if-room-s.true))
 
 pub answer_length-requires : goal.answer_length-requires
-answer_length-requires c =    let accepted : let args = c.args in foremost (ask_faults scheme_of args.s args.server) ≡ Accepted =
-        sym c.server_verdict.ensures ∙ c.in_default.is in
+answer_length-requires c = let accepted : let args = c.args in foremost (ask_faults scheme_of args.s args.server) ≡ Accepted =
+    sym c.server_verdict.ensures ∙ c.in_default.is in
     let asks : let args = c.args in
     let s = args.s in Asks scheme_of s.catalogue s.wanted s.key args.server =
-        let args = c.args in
-        let s = args.s in
-        server-passed scheme_of s.catalogue s.wanted s.key args.server (accepted) in
+    let args = c.args in
+    let s = args.s in
+    server-passed scheme_of s.catalogue s.wanted s.key args.server (accepted) in
     let passed = asks in
     record {
       admitted = passed.holds.admitted;
@@ -67,44 +67,44 @@ answer_length-requires c =    let accepted : let args = c.args in foremost (ask_
 
 pub returns-then-size-answer_length : goal.returns-then-size-answer_length
 unfolding take_verdict
-returns-then-size-answer_length c =    let accepted : let args = c.args in foremost (ask_faults scheme_of args.s args.server) ≡ Accepted =
-        sym c.server_verdict.ensures ∙ c.in_default.is in
+returns-then-size-answer_length c = let accepted : let args = c.args in foremost (ask_faults scheme_of args.s args.server) ≡ Accepted =
+    sym c.server_verdict.ensures ∙ c.in_default.is in
     after_first_lem _ _ refl refl Accepted _ (sym (accepted))
     (rw (← c.answer_length.ensures, ne_eqb _ _ c.if-size-answer_length.true, ← c.sizes_of-sizes.ensures, le-ltb _ _ c.if-room-s.false))
 
 pub slice_bounds-key-end : goal.slice_bounds-key-end
-slice_bounds-key-end c =    let accepted : let args = c.args in foremost (ask_faults scheme_of args.s args.server) ≡ Accepted =
-        sym c.server_verdict.ensures ∙ c.in_default.is in
+slice_bounds-key-end c = let accepted : let args = c.args in foremost (ask_faults scheme_of args.s args.server) ≡ Accepted =
+    sym c.server_verdict.ensures ∙ c.in_default.is in
     let asks : let args = c.args in
     let s = args.s in Asks scheme_of s.catalogue s.wanted s.key args.server =
-        let args = c.args in
-        let s = args.s in
-        server-passed scheme_of s.catalogue s.wanted s.key args.server (accepted) in
+    let args = c.args in
+    let s = args.s in
+    server-passed scheme_of s.catalogue s.wanted s.key args.server (accepted) in
     let s = c.args.s in
     key_fits s.catalogue s.key (key-places s _ c.well_formed.0) c.sizes_of-sizes.result (asks).holds.admitted c.sizes_of-sizes.ensures
 
 pub slice_bounds-due_verdict-end : goal.slice_bounds-due_verdict-end
-slice_bounds-due_verdict-end c =    let accepted : let args = c.args in foremost (ask_faults scheme_of args.s args.server) ≡ Accepted =
-        sym c.server_verdict.ensures ∙ c.in_default.is in
+slice_bounds-due_verdict-end c = let accepted : let args = c.args in foremost (ask_faults scheme_of args.s args.server) ≡ Accepted =
+    sym c.server_verdict.ensures ∙ c.in_default.is in
     let asks : let args = c.args in
     let s = args.s in Asks scheme_of s.catalogue s.wanted s.key args.server =
-        let args = c.args in
-        let s = args.s in
-        server-passed scheme_of s.catalogue s.wanted s.key args.server (accepted) in
+    let args = c.args in
+    let s = args.s in
+    server-passed scheme_of s.catalogue s.wanted s.key args.server (accepted) in
     let s = c.args.s in
     sym (key-count s.catalogue s.key (key-places s _ c.well_formed.0) c.sizes_of-sizes.result (asks).holds.admitted c.sizes_of-sizes.ensures)
 
 pub due_verdict-requires : goal.due_verdict-requires
-due_verdict-requires c =    let accepted : let args = c.args in foremost (ask_faults scheme_of args.s args.server) ≡ Accepted =
-        sym c.server_verdict.ensures ∙ c.in_default.is in
+due_verdict-requires c = let accepted : let args = c.args in foremost (ask_faults scheme_of args.s args.server) ≡ Accepted =
+    sym c.server_verdict.ensures ∙ c.in_default.is in
     let asks : let args = c.args in
     let s = args.s in Asks scheme_of s.catalogue s.wanted s.key args.server =
-        let args = c.args in
-        let s = args.s in
-        server-passed scheme_of s.catalogue s.wanted s.key args.server (accepted) in
+    let args = c.args in
+    let s = args.s in
+    server-passed scheme_of s.catalogue s.wanted s.key args.server (accepted) in
     let s = c.args.s in
     let long = key-places s _ c.well_formed.0 in
-    let sizes = c.sizes_of-sizes in 
+    let sizes = c.sizes_of-sizes in
     let passed = asks in
     let holds = passed.holds in
     let valid = key-valid s.catalogue s.key long c.sizes_of-sizes.result holds.admitted c.sizes_of-sizes.ensures holds.good in
@@ -119,8 +119,8 @@ due_verdict-requires c =    let accepted : let args = c.args in foremost (ask_fa
 
 pub returns : goal.returns
 unfolding take_verdict
-returns c =    let accepted : let args = c.args in foremost (ask_faults scheme_of args.s args.server) ≡ Accepted =
-        sym c.server_verdict.ensures ∙ c.in_default.is in
+returns c = let accepted : let args = c.args in foremost (ask_faults scheme_of args.s args.server) ≡ Accepted =
+    sym c.server_verdict.ensures ∙ c.in_default.is in
     let roomy = rw c.sizes_of-sizes.ensures at c.if-room-s.false in
     after_first_lem _ _ refl refl Accepted _ (sym (accepted))
     (rw (eq-eqb _ _ (c.if-size-answer_length.false ∙ c.answer_length.ensures), le-ltb _ _ roomy) (rw c.sizes_of-sizes.ensures at c.due_verdict.ensures))

@@ -5,5 +5,5 @@ use Rattle.lengths.specs.Lengths.{length_of}
 use Rattle.session_checks.proofs.keyed.message_length.Goals as goal
 
 pub returns : goal.returns
-returns c =    let args = c.args in
+returns c = let args = c.args in
     c.length_of.ensures ∙ ap (λ (sizes : Sizes). length_of args.c.lengths sizes.message args.wanted) c.sizes_of-sizes.ensures

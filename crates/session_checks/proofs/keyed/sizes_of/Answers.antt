@@ -5,9 +5,9 @@ use Rattle.codes.proofs.Measured.{measured, unmeasured}
 use Rattle.session_checks.proofs.keyed.sizes_of.Goals as goal
 
 pub returns-in-Of : goal.returns-in-Of
-returns-in-Of c =    let m = c.sizes in 
+returns-in-Of c = let m = c.sizes in
     (measured c.args.c c.sizes.result _ c.sizes.ensures c.in-Of.is).1
 
 pub returns-in-Refused : goal.returns-in-Refused
-returns-in-Refused c =    let m = c.sizes in 
+returns-in-Refused c = let m = c.sizes in
     not-refused c.in-Refused.field-0 (sym (unmeasured c.args.c c.sizes.result _ c.sizes.ensures c.in-Refused.is) ∙ c.requires)

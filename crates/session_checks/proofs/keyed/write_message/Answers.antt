@@ -14,23 +14,23 @@ use Rattle.session_checks.proofs.Keys.{key-count, key-valid}
 use Rattle.session_checks.proofs.keyed.write_message.Goals as goal
 
 pub slice_bounds-recover-end : goal.slice_bounds-recover-end
-slice_bounds-recover-end c =    let args = c.args in
+slice_bounds-recover-end c = let args = c.args in
     sym (key-count args.c args.places.now c.requires.places_len c.sizes_of-sizes.result c.requires.admitted c.sizes_of-sizes.ensures)
 
 pub slice_bounds-recover-end-2 : goal.slice_bounds-recover-end-2
-slice_bounds-recover-end-2 c =    let fits : c.message_length-length.result ≤ length c.args.message.now =
-        omega (arith, c.message_length-length.ensures, c.requires.wanted_in_bounds) in
+slice_bounds-recover-end-2 c = let fits : c.message_length-length.result ≤ length c.args.message.now =
+    omega (arith, c.message_length-length.ensures, c.requires.wanted_in_bounds) in
     fits
 
 pub slice_bounds-recover-end-3 : goal.slice_bounds-recover-end-3
-slice_bounds-recover-end-3 c =    let fits : c.message_length-length.result ≤ length c.args.message.now =
-        omega (arith, c.message_length-length.ensures, c.requires.wanted_in_bounds) in
+slice_bounds-recover-end-3 c = let fits : c.message_length-length.result ≤ length c.args.message.now =
+    omega (arith, c.message_length-length.ensures, c.requires.wanted_in_bounds) in
     sym (length-take-le c.message_length-length.result c.args.message.now (fits))
 
 pub recover-requires : goal.recover-requires
-recover-requires c =    let args = c.args in
+recover-requires c = let args = c.args in
     let pre = c.requires in
-    let sizes = c.sizes_of-sizes in 
+    let sizes = c.sizes_of-sizes in
     record {
       admitted = c.requires.admitted;
       wanted_lt_messages = c.requires.wanted_lt_messages;
@@ -39,8 +39,8 @@ recover-requires c =    let args = c.args in
     }
 
 pub returns : goal.returns
-returns c =    let fits : c.message_length-length.result ≤ length c.args.message.now =
-        omega (arith, c.message_length-length.ensures, c.requires.wanted_in_bounds) in
+returns c = let fits : c.message_length-length.result ≤ length c.args.message.now =
+    omega (arith, c.message_length-length.ensures, c.requires.wanted_in_bounds) in
     let args = c.args in
     let size = c.message_length-length.result in
     let message = args.message.now in

@@ -8,13 +8,13 @@ use Rattle.session_checks.proofs.Keys.{key-count, key-valid}
 use Rattle.session_checks.proofs.keyed.write_query.Goals as goal
 
 pub slice_bounds-query-end : goal.slice_bounds-query-end
-slice_bounds-query-end c =    let args = c.args in
+slice_bounds-query-end c = let args = c.args in
     sym (key-count args.c args.places.now c.requires.places_len c.sizes_of-sizes.result c.requires.admitted c.sizes_of-sizes.ensures)
 
 pub query-requires : goal.query-requires
-query-requires c =    let args = c.args in
+query-requires c = let args = c.args in
     let pre = c.requires in
-    let sizes = c.sizes_of-sizes in 
+    let sizes = c.sizes_of-sizes in
     record {
       admitted = c.requires.admitted;
       wanted_lt_messages = c.requires.wanted_lt_messages;
@@ -23,7 +23,7 @@ query-requires c =    let args = c.args in
     }
 
 pub returns : goal.returns
-returns c =    let args = c.args in
+returns c = let args = c.args in
     let sizes-right = c.sizes_of-sizes.ensures in record {
       value = ap (λ (sizes : Sizes). sizes.query) sizes-right;
       query_after = c.query.ensures

@@ -8,7 +8,7 @@ pub returns-then-not-taken : goal.returns-then-not-taken
 returns-then-not-taken c = rw (not-true c.args.taken c.if-not-taken.true-raw)
 
 pub expected_length-requires : goal.expected_length-requires
-expected_length-requires c =    let pre = c.requires in
+expected_length-requires c = let pre = c.requires in
     record {
       admitted = c.requires.admitted;
       wanted_lt_messages = (c.requires.wanted_lt_messages, c.requires.server_lt_servers (not-false c.args.taken c.if-not-taken.false-raw));
@@ -16,5 +16,5 @@ expected_length-requires c =    let pre = c.requires in
     }
 
 pub returns : goal.returns
-returns c =    let args = c.args in
+returns c = let args = c.args in
     rw (not-false args.taken c.if-not-taken.false-raw) (ap (eqb args.bytes) c.expected_length.ensures)

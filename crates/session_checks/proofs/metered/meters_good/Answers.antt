@@ -25,18 +25,18 @@ pub loop-i-init : goal.loop-i-init
 loop-i-init c = (omega arith, every-none _)
 
 pub sent_good-requires : goal.sent_good-requires
-sent_good-requires c =    omega (arith, c.requires.query_value, query-some c.args.c c.requires.admitted)
+sent_good-requires c = omega (arith, c.requires.query_value, query-some c.args.c c.requires.admitted)
 
 pub returns-then-not-sent_good : goal.returns-then-not-sent_good
 unfolding meters_good
-returns-then-not-sent_good c =    let args = c.args in
+returns-then-not-sent_good c = let args = c.args in
     let i = c.loop-i.i in
     let bad : sent_good (scheme_of args.c).sizes.query (marked args.issued.now i) (counted args.m.sent i) ≡ false =
     rw c.requires.query_value at (sym c.sent_good.ensures ∙ not-true _ c.if-not-sent_good.true-raw) in
     sym (every-false 16 _ i (omega arith) (first-bad _ _ bad))
 
 pub got_good-requires : goal.got_good-requires
-got_good-requires c =    let pre = c.requires in
+got_good-requires c = let pre = c.requires in
     let args = c.args in
     let below = taken-below args.c.servers args.issued.now args.taken.now c.requires.taken_value c.loop-i.i (omega arith) in
     record {
@@ -48,7 +48,7 @@ got_good-requires c =    let pre = c.requires in
 
 pub returns-then-not-got_good : goal.returns-then-not-got_good
 unfolding meters_good
-returns-then-not-got_good c =    let args = c.args in
+returns-then-not-got_good c = let args = c.args in
     let i = c.loop-i.i in
     let sent = sent_good (scheme_of args.c).sizes.query (marked args.issued.now i) (counted args.m.sent i) in
     let bad : got_good (answer_bytes scheme_of args.c args.wanted args.key.now i) (marked args.taken.now i) (counted args.m.got i) ≡ false =
@@ -56,14 +56,14 @@ returns-then-not-got_good c =    let args = c.args in
     sym (every-false 16 _ i (omega arith) (second-bad sent _ bad))
 
 pub loop-i-preserved : goal.loop-i-preserved
-loop-i-preserved c =    (
-      omega arith,
-      every_more c.loop-i.i _ c.loop-i.invariant.1
-          (true-both (sym c.sent_good.ensures ∙ not-false _ c.if-not-sent_good.false-raw)
-          (sym c.got_good.ensures ∙ not-false _ c.if-not-got_good.false-raw)),
-    )
+loop-i-preserved c = (
+  omega arith,
+  every_more c.loop-i.i _ c.loop-i.invariant.1
+      (true-both (sym c.sent_good.ensures ∙ not-false _ c.if-not-sent_good.false-raw)
+      (sym c.got_good.ensures ∙ not-false _ c.if-not-got_good.false-raw)),
+)
 
 pub returns : goal.returns
 unfolding meters_good
-returns c =    let e : c.loop-i.i ≡ 16 = omega arith in
+returns c = let e : c.loop-i.i ≡ 16 = omega arith in
     sym (rw (e, c.requires.query_value) at c.loop-i.invariant.1)

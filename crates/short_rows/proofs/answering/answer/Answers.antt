@@ -26,20 +26,20 @@ returns-then-empty c =
 pub slice_bounds-gather-end : goal.slice_bounds-gather-end
 slice_bounds-gather-end c =
     let roomy : c.args.s ≤ length c.args.out.now =
-        room-some c.args.s c.args.row.now (length c.args.out.now) (sym c.all_below-empty.ensures ∙ c.if-empty.false) c.requires.row_in_bounds in
+    room-some c.args.s c.args.row.now (length c.args.out.now) (sym c.all_below-empty.ensures ∙ c.if-empty.false) c.requires.row_in_bounds in
     roomy
 
 pub slice_bounds-gather-end-2 : goal.slice_bounds-gather-end-2
 slice_bounds-gather-end-2 c =
     let roomy : c.args.s ≤ length c.args.out.now =
-        room-some c.args.s c.args.row.now (length c.args.out.now) (sym c.all_below-empty.ensures ∙ c.if-empty.false) c.requires.row_in_bounds in
+    room-some c.args.s c.args.row.now (length c.args.out.now) (sym c.all_below-empty.ensures ∙ c.if-empty.false) c.requires.row_in_bounds in
     let a = c.args in
     sym (length-take-le a.s a.out.now (roomy))
 
 pub gather-requires : goal.gather-requires
 gather-requires c =
     let roomy : c.args.s ≤ length c.args.out.now =
-        room-some c.args.s c.args.row.now (length c.args.out.now) (sym c.all_below-empty.ensures ∙ c.if-empty.false) c.requires.row_in_bounds in
+    room-some c.args.s c.args.row.now (length c.args.out.now) (sym c.all_below-empty.ensures ∙ c.if-empty.false) c.requires.row_in_bounds in
     let a = c.args in
     record {
       s_nonzero = c.requires.s_nonzero;
@@ -50,9 +50,9 @@ gather-requires c =
 pub returns : goal.returns
 returns c =
     let bytes : Below 256 c.args.store.now =
-        λ i h. omega (arith, c.shared_slice_known-1.given i) in
+    λ i h. omega (arith, c.shared_slice_known-1.given i) in
     let roomy : c.args.s ≤ length c.args.out.now =
-        room-some c.args.s c.args.row.now (length c.args.out.now) (sym c.all_below-empty.ensures ∙ c.if-empty.false) c.requires.row_in_bounds in
+    room-some c.args.s c.args.row.now (length c.args.out.now) (sym c.all_below-empty.ensures ∙ c.if-empty.false) c.requires.row_in_bounds in
     let a = c.args in
     let some : all_zero a.row.now ≡ false = sym c.all_below-empty.ensures ∙ c.if-empty.false in record {
       value = sym (length_some a.s a.row.now some);

@@ -22,16 +22,16 @@ pub overflow_mul-at : goal.overflow_mul-at
 overflow_mul-at c =
     let a = c.args in
     let small : a.first + c.loop-p.p * a.stride + get_or a.row.now c.loop-p.p 0 ≤ length a.store.now =
-        let n = a.first + c.loop-p.p * a.stride + get_or a.row.now c.loop-p.p 0 in
-        omega (arith, c.requires.row_stored.stored c.loop-p.p (omega arith), le-mul_of_pos_right n c.requires.s_nonzero) in
+    let n = a.first + c.loop-p.p * a.stride + get_or a.row.now c.loop-p.p 0 in
+    omega (arith, c.requires.row_stored.stored c.loop-p.p (omega arith), le-mul_of_pos_right n c.requires.s_nonzero) in
     omega (arith, small)
 
 pub overflow_add-at : goal.overflow_add-at
 overflow_add-at c =
     let a = c.args in
     let small : a.first + c.loop-p.p * a.stride + get_or a.row.now c.loop-p.p 0 ≤ length a.store.now =
-        let n = a.first + c.loop-p.p * a.stride + get_or a.row.now c.loop-p.p 0 in
-        omega (arith, c.requires.row_stored.stored c.loop-p.p (omega arith), le-mul_of_pos_right n c.requires.s_nonzero) in
+    let n = a.first + c.loop-p.p * a.stride + get_or a.row.now c.loop-p.p 0 in
+    omega (arith, c.requires.row_stored.stored c.loop-p.p (omega arith), le-mul_of_pos_right n c.requires.s_nonzero) in
     omega (arith, small)
 
 pub bounds-row-p : goal.bounds-row-p

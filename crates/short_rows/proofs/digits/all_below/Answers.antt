@@ -17,7 +17,7 @@ pub overflow_cast-digits : goal.overflow_cast-digits
 overflow_cast-digits c = omega (arith, c.shared_slice_known-1.given c.loop-i.i)
 
 pub returns-then-n-digits : goal.returns-then-n-digits
-returns-then-n-digits c =    let a = c.args in
+returns-then-n-digits c = let a = c.args in
     sym (c.loop-i.invariant.1 ∙ below-stops a.n a.digits.now c.loop-i.i (omega arith) c.if-n-digits.true)
 
 pub overflow_add-i : goal.overflow_add-i
@@ -27,10 +27,10 @@ pub loop-i-smaller : goal.loop-i-smaller
 loop-i-smaller c = omega arith
 
 pub loop-i-preserved : goal.loop-i-preserved
-loop-i-preserved c =    let a = c.args in
+loop-i-preserved c = let a = c.args in
     (omega arith, c.loop-i.invariant.1 ∙ below_next a.n a.digits.now c.loop-i.i (omega arith) c.if-n-digits.false)
 
 pub returns : goal.returns
 unfolding all_below
-returns c =    let a = c.args in
+returns c = let a = c.args in
     sym (c.loop-i.invariant.1 ∙ ap (all_below a.n) (drop_of_length-le a.digits.now {i = c.loop-i.i} (omega arith)))

@@ -8,15 +8,15 @@ use Rattle.short_rows.proofs.Running.{first-sum, last_sum}
 use Rattle.short_rows.proofs.digits.digit_sum.Goals as goal
 
 pub loop-i-init : goal.loop-i-init
-loop-i-init c =    let a = c.args in
+loop-i-init c = let a = c.args in
     (omega arith, sym (first-sum a.n a.digits.now))
 
 pub next_sum-sum-requires : goal.next_sum-sum-requires
-next_sum-sum-requires c =    record {
-      digits_value = c.requires;
-      i_in_bounds = omega arith;
-      sum_value = c.loop-i.invariant.1;
-    }
+next_sum-sum-requires c = record {
+  digits_value = c.requires;
+  i_in_bounds = omega arith;
+  sum_value = c.loop-i.invariant.1;
+}
 
 pub overflow_add-i : goal.overflow_add-i
 overflow_add-i c = omega arith
@@ -28,7 +28,7 @@ pub loop-i-preserved : goal.loop-i-preserved
 loop-i-preserved c = (omega arith, c.next_sum-sum.ensures.value)
 
 pub returns : goal.returns
-returns c =    let a = c.args in
+returns c = let a = c.args in
     let end : c.loop-i.i ≡ length a.digits.now = omega arith in
     let e : c.loop-i.sum ≡ sum_after a.n a.digits.now (length a.digits.now) = c.loop-i.invariant.1 ∙ ap (sum_after a.n a.digits.now) end in
     record {

@@ -12,12 +12,12 @@ pub overflow_cast-digits : goal.overflow_cast-digits
 overflow_cast-digits c = omega (arith, c.shared_slice_known-2-1.given c.args.i)
 
 pub add_modulo-requires : goal.add_modulo-requires
-add_modulo-requires c =    let a = c.args in
+add_modulo-requires c = let a = c.args in
     let s = sums-below a.n a.digits.now c.requires.digits_value a.i (omega arith) in
     (omega (arith, c.requires.sum_value), all_below-below a.n a.digits.now c.requires.digits_value a.i (omega arith))
 
 pub returns : goal.returns
-returns c =    let a = c.args in
+returns c = let a = c.args in
     let l = a.digits.now in
     let s = sums-below a.n l c.requires.digits_value a.i (omega arith) in
     let n = next-sum a.n l c.requires.digits_value a.i (omega arith) in

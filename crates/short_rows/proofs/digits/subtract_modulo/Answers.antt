@@ -7,7 +7,7 @@ use Rattle.short_scheme.proofs.Digits.{once-around}
 use Rattle.short_rows.proofs.digits.subtract_modulo.Goals as goal
 
 pub returns-then-b-a : goal.returns-then-b-a
-returns-then-b-a c =    let a = c.args in
+returns-then-b-a c = let a = c.args in
     let e : a.a - a.b ≡ a.a + (a.n - a.b) - a.n = omega arith in
     e ∙ sym (once-around a.n (a.a + (a.n - a.b)) (omega arith) (omega arith))
 

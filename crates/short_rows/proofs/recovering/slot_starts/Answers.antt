@@ -11,7 +11,7 @@ pub loop-i-init : goal.loop-i-init
 loop-i-init c = (omega arith, refl, filled_none (λ j. j * c.args.s) _)
 
 pub overflow_mul-starts : goal.overflow_mul-starts
-overflow_mul-starts c =    let s = c.args.s in
+overflow_mul-starts c = let s = c.args.s in
     let h : c.loop-i.i ≤ 16 = omega arith in
     let l : s ≤ 1048576 = omega arith in
     let few : c.loop-i.i * s ≤ 16 * 1048576 = mul-le-mul h l in
@@ -30,13 +30,13 @@ pub loop-i-smaller : goal.loop-i-smaller
 loop-i-smaller c = omega arith
 
 pub loop-i-preserved : goal.loop-i-preserved
-loop-i-preserved c =    let s = c.args.s in (
-      omega arith,
-      simp length-set c.loop-i.invariant.1,
-      filled_more (λ j. j * s) c.loop-i.i (c.loop-i.i * s) c.loop-i.starts (omega arith) refl c.loop-i.invariant.2,
-    )
+loop-i-preserved c = let s = c.args.s in (
+  omega arith,
+  simp length-set c.loop-i.invariant.1,
+  filled_more (λ j. j * s) c.loop-i.i (c.loop-i.i * s) c.loop-i.starts (omega arith) refl c.loop-i.invariant.2,
+)
 
 pub returns : goal.returns
-returns c =    let last : c.loop-i.i ≡ 16 = omega arith in
+returns c = let last : c.loop-i.i ≡ 16 = omega arith in
     let s = c.args.s in
     filled-all (λ j. j * s) 16 c.loop-i.starts c.loop-i.invariant.1 (rw last at c.loop-i.invariant.2)

@@ -21,9 +21,9 @@ word_at-requires-in-loop-k c = omega arith
 
 pub changed-value-requires : goal.changed-value-requires
 changed-value-requires c = record {
-      limit_bound = omega arith;
-      a_lt_limit = omega arith;
-    }
+  limit_bound = omega arith;
+  a_lt_limit = omega arith;
+}
 
 pub put_word-requires : goal.put_word-requires
 put_word-requires c = omega arith
@@ -35,10 +35,10 @@ pub loop-k-smaller : goal.loop-k-smaller
 loop-k-smaller c = omega arith
 
 pub loop-k-preserved : goal.loop-k-preserved
-loop-k-preserved c =    let made = c.put_word in 
-    let value = c.changed-value in 
-    let second = c.word_at-in-loop-k in 
-    let first = c.word_at in 
+loop-k-preserved c = let made = c.put_word in
+    let value = c.changed-value in
+    let second = c.word_at-in-loop-k in
+    let first = c.word_at in
     let args = c.args in
     let change = change_at args.away in
     let next : 2 * c.loop-k.k + 2 ≡ 2 * (c.loop-k.k + 1) = omega arith in (
@@ -57,13 +57,13 @@ pub bounds-dst-last : goal.bounds-dst-last
 bounds-dst-last c = omega arith
 
 pub overflow_cast-dst : goal.overflow_cast-dst
-overflow_cast-dst c =    omega (arith, c.slice_known-then-last-src-1.given (2 * (length c.args.src.now / 2)))
+overflow_cast-dst c = omega (arith, c.slice_known-then-last-src-1.given (2 * (length c.args.src.now / 2)))
 
 pub bounds-src-last : goal.bounds-src-last
 bounds-src-last c = omega arith
 
 pub overflow_cast-src : goal.overflow_cast-src
-overflow_cast-src c =    omega (arith, c.shared_slice_known-then-last-src-1.given (2 * (length c.args.src.now / 2)))
+overflow_cast-src c = omega (arith, c.shared_slice_known-then-last-src-1.given (2 * (length c.args.src.now / 2)))
 
 pub changed-value-requires-then-last-src : goal.changed-value-requires-then-last-src
 changed-value-requires-then-last-src c = let last = 2 * (length c.args.src.now / 2) in
@@ -82,7 +82,7 @@ pub shape_of-dst-then-last-src : goal.shape_of-dst-then-last-src
 shape_of-dst-then-last-src c = simp length-set c.loop-k.invariant.1
 
 pub returns-then-last-src : goal.returns-then-last-src
-returns-then-last-src c =    let args = c.args in
+returns-then-last-src c = let args = c.args in
     let last = 2 * (length args.src.now / 2) in
     let all : 2 * c.loop-k.k ≡ last = omega arith in
     ap (set c.loop-k.dst last) c.changed-value-then-last-src.ensures
@@ -90,5 +90,5 @@ returns-then-last-src c =    let args = c.args in
     ∙ byte_left (change_at args.away) last c.loop-k.dst args.src.now (omega arith) (omega arith))
 
 pub returns-else-last-src : goal.returns-else-last-src
-returns-else-last-src c =    let args = c.args in
+returns-else-last-src c = let args = c.args in
     sym (c.loop-k.invariant.2 ∙ words-done (change_at args.away) (2 * c.loop-k.k) c.loop-k.dst args.src.now (omega arith))

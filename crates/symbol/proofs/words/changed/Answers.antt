@@ -7,7 +7,7 @@ use Rattle.symbol.proofs.AddWords.{sub_at_lem}
 use Rattle.symbol.proofs.words.changed.Goals as goal
 
 pub returns-then-away : goal.returns-then-away
-returns-then-away c =    let at = c.args in
+returns-then-away c = let at = c.args in
     sym (sub_at_lem at.limit at.a at.b (omega arith)) ∙ ap (λ (t : Bool). change_at t at.limit at.a at.b) (sym c.if-away.true)
 
 pub returns : goal.returns

@@ -13,7 +13,7 @@ pub overflow_mul-result : goal.overflow_mul-result
 overflow_mul-result c = omega (arith, c.shared_slice_known-2-1.given (c.args.at + 1))
 
 pub overflow_add-result-2 : goal.overflow_add-result-2
-overflow_add-result-2 c =    let at = c.args.at in
+overflow_add-result-2 c = let at = c.args.at in
     omega (arith, c.shared_slice_known-2-1.given at, c.shared_slice_known-2-1.given (at + 1))
 
 pub returns : goal.returns
