@@ -139,7 +139,7 @@ impl Read {
         while i < part.0.len() {
             i = match part.at(i) {
                 "pub" | "extern" | "\"C\"" => i + 1,
-                "#" => part.closed(i + 1),
+                "#" => part.closed(part.find(i, &["["])),
                 "ghost" | "mod" | "const" | "type" => part.find(i, &[";"]) + 1,
                 "use" => self.use_line(module, part, i),
                 "struct" | "enum" => {
@@ -164,12 +164,20 @@ impl Read {
     /// A `use` line, and the place behind it.
     fn use_line(&mut self, module: &[String], part: Part, i: usize) -> usize {
         let end = part.find(i, &[";"]);
-        let path: Vec<String> = (i + 1..end).map(|j| part.at(j)).filter(|&word| word != "::").map(String::from).collect();
-        if path.iter().any(|word| !word.chars().all(is_word)) {
-            self.faults.push(format!("a `use` that is not read, in {}", module.join("::")));
+        let words: Vec<&str> = (i + 1..end).map(|j| part.at(j)).filter(|&word| word != "::").collect();
+        // one path, or a path and several ends in braces
+        let braced = words.iter().position(|&word| word == "{").filter(|_| words.last() == Some(&"}"));
+        let (start, ends) = braced.map_or((&words[..], vec![&words[..0]]), |open| {
+            (&words[..open], words[open + 1..words.len() - 1].split(|&word| word == ",").filter(|end| !end.is_empty()).collect())
+        });
+        for rest in ends {
+            let path: Vec<String> = start.iter().chain(rest).map(|word| word.to_string()).collect();
+            if path.iter().any(|word| !word.chars().all(is_word)) {
+                self.faults.push(format!("a `use` that is not read, in {}", module.join("::")));
+            }
+            let stands_for = path.iter().take_while(|word| *word != "as").cloned().collect();
+            self.names.entry(module.join("::")).or_default().insert(path.last().cloned().unwrap_or_default(), stands_for);
         }
-        let stands_for = path.iter().take_while(|word| *word != "as").cloned().collect();
-        self.names.entry(module.join("::")).or_default().insert(path.last().cloned().unwrap_or_default(), stands_for);
         end + 1
     }
 
