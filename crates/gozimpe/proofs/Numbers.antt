@@ -1,4 +1,4 @@
--- The calls from C give only their numbers (`host-numbers`): each goes by the foremost of its faults.
+-- The calls from C give only their numbers (`host-numbers`, `correcting-numbers`): each goes by the foremost of its faults.
 use mathlib.Core.Path.{◌≡◌, refl}
 use mathlib.Core.List.{List, ◌∷◌}
 use Prim.Native.Nat.{ℕ}
@@ -20,7 +20,7 @@ use Rattle.correction.specs.declared.Edit.{Edit}
 use Rattle.correction.specs.Calls.{correct_numbers, correct_by}
 use Rattle.gozimpe.specs.Host.{answering_text, host_faults, longest_by, longest_answer}
 use Rattle.gozimpe.specs.Correcting.{correcting_text, correcting_answer_text, text_faults}
-use Rattle.gozimpe.specs.Numbers.{HostNumbers}
+use Rattle.gozimpe.specs.Numbers.{HostNumbers, CorrectingNumbers}
 use Rattle.gozimpe.proofs.Host.{host-foremost, longest-foremost}
 use Rattle.gozimpe.proofs.TextCorrections.{correct-foremost, same-verdict}
 
@@ -59,4 +59,7 @@ module _ (text : List ℕ) where
     answer-numbers-too = rw (same-verdict server store query e answer text) correct-numbers
 
 pub host-numbers : HostNumbers
-host-numbers = record { answers = answer-numbers; longest = longest-numbers; corrects = correct-numbers; corrects-answer = answer-numbers-too }
+host-numbers = record { answers = answer-numbers; longest = longest-numbers }
+
+pub correcting-numbers : CorrectingNumbers
+correcting-numbers = record { corrects = correct-numbers; corrects-answer = answer-numbers-too }

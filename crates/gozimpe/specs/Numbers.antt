@@ -13,6 +13,9 @@ pub record HostNumbers : Type 0 where
   pub answers : (text : List ℕ) (day : Day) (server : ℕ) (store query buffer : List ℕ)
       → ValueWithin (1 ∷ answer_numbers) (answering_text text day server store query buffer).outcome
   pub longest : (text : List ℕ) → ValueWithin (1 ∷ catalogue_numbers) (longest_answer text)
+
+-- the same of the calls that correct a byte (document 02, item 13)
+pub record CorrectingNumbers : Type 0 where
   pub corrects : (text : List ℕ) (server : ℕ) (store query : List ℕ) (e : Edit) (answer : List ℕ)
       → Within (1 ∷ correct_numbers) (correcting_text text server store query e answer).verdict
   pub corrects-answer : (text : List ℕ) (server : ℕ) (store query : List ℕ) (e : Edit) (answer : List ℕ)
