@@ -6,7 +6,7 @@
  * This header has the call that a mirror needs, request in, answer out, one that tells how long an answer
  * can be, and two that correct a byte of the store and bring saved answers up to date with it.
  *
- * Link with the archive libgozimpe.a (`rt staticlib gozimpe` writes it to target/staticlib/).
+ * Link with the archive libgozimpe.a (`scripts/archive` writes it to target/staticlib/).
  */
 #ifndef GOZIMPE_H
 #define GOZIMPE_H

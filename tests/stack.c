@@ -1,6 +1,6 @@
 /* How much stack the C calls use. A measurement, not a test; the gate does not run it:
  *
- *     rt staticlib gozimpe
+ *     scripts/archive
  *     gcc -O2 -Iinclude tests/stack.c target/staticlib/libgozimpe.a -o target/stack && target/stack
  *
  * Each call runs on a stack of its own that is painted first; what it has overwritten when it is back, less what a call that does
