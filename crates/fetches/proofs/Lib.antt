@@ -3,12 +3,16 @@ pub mod Agree
 pub mod Kept
 pub mod Steps
 pub mod Told
+pub mod Seen
+pub mod IssueShown
 pub mod View
 pub mod Metered
 pub mod Tallied
 pub mod Recovery
 pub mod Exchange
 pub mod Theorem
+pub mod PlainTakes
+pub mod PlainIssues
 pub mod Plain
 pub mod Served
 pub mod Received

@@ -28,7 +28,7 @@ use Rattle.fetches.specs.Shown.{Shown, asked, issues, asking, shown_to}
 use Rattle.fetches.specs.Claim.{Promises}
 use Rattle.fetches.specs.Plain.{query_to, answer_of, plain_fetch, PlainFetches}
 use Rattle.session_parts.specs.Meters.{most_bytes}
-use Rattle.fetches.proofs.View.{verdict_on, sent_after, seen, seen_of}
+use Rattle.fetches.proofs.Seen.{verdict_on, sent_after, seen, seen_of}
 use Rattle.fetches.proofs.Theorem.{fetch-shown}
 use Rattle.fetches.proofs.Plain.{plain-ends}
 

@@ -27,7 +27,7 @@ use Rattle.fetches.specs.Metered.{Meter, meters_at, sent, got, Named, issue_to, 
 use Rattle.fetches.proofs.Kept.{state_of, Kept}
 use Rattle.fetches.proofs.Steps.{next}
 use Rattle.fetches.proofs.Told.{told}
-use Rattle.fetches.proofs.View.{verdict_on}
+use Rattle.fetches.proofs.Seen.{verdict_on}
 
 -- the bytes issued to it, and whether it was asked and its answer taken
 pub record Tally : Type 0 where

@@ -33,7 +33,8 @@ use Rattle.fetches.specs.Right.{FetchRight}
 use Rattle.fetches.specs.Claim.{KeyList, Exchange, Demand3, Promises}
 use Rattle.fetches.proofs.Kept.{Kept, Held}
 use Rattle.fetches.proofs.Told.{all_told}
-use Rattle.fetches.proofs.View.{seen_of, seen-named, view}
+use Rattle.fetches.proofs.Seen.{seen_of, seen-named}
+use Rattle.fetches.proofs.View.{view}
 use Rattle.fetches.proofs.Metered.{runs}
 use Rattle.fetches.proofs.Tallied.{none, meters_by, tallied}
 use Rattle.fetches.proofs.Recovery.{verdicts, messages}

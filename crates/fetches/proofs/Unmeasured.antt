@@ -21,7 +21,7 @@ use Rattle.fetches.specs.Fetches.{Fetch, history}
 use Rattle.fetches.specs.Shown.{Shown, Issue, issues, asked_and, showing, shown_to, shown}
 use Rattle.fetches.specs.Claim.{Promises}
 use Rattle.fetches.specs.Unmeasured.{with_lengths, Begins, LengthsHidden}
-use Rattle.fetches.proofs.View.{verdict_on, sent_after, seen, seen_of}
+use Rattle.fetches.proofs.Seen.{verdict_on, sent_after, seen, seen_of}
 use Rattle.fetches.proofs.Theorem.{fetch-shown}
 
 module _ (scheme_of : Catalogue → Scheme) where
