@@ -74,6 +74,6 @@ returns c = let a = c.args in
     let at = c.in-Value.at + 4 in
     let ask = asked c.catalogue_lines-found.result.catalogue c.in-Value.wanted (list_of (numbers_at text at)) in
     let e : printed scheme_of text ≡ answer_to scheme_of ask =
-    simp (le-ltb _ _ c.if-input-gt65536.false, sym c.catalogue_lines-found.ensures, c.in-Accepted.is, wanted, key) in
+    simp (le-ltb _ _ (c.if-input-gt65536.false), sym c.catalogue_lines-found.ensures, c.in-Accepted.is, wanted, key) in
     let w = written_as _ _ a.out.now _ _ e (c.put_asked.ensures.value, c.put_asked.ensures.out_after) in
     record { value = w.0; out_after = w.1 }

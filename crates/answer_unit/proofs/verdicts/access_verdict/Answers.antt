@@ -61,6 +61,6 @@ returns c = let a = c.args in
     rw (
       access-own a.unit a.register a.stored known accepted c.sizes-sizes.result c.sizes-sizes.ensures,
       eq-eqb a.stored c.sizes-sizes.result.store c.if-stored-sizes.false,
-      le-ltb 32 a.unit.held c.if-unit-gt32.false,
+      le-ltb 32 a.unit.held (c.if-unit-gt32.false),
       le-ltb a.unit.catalogue.symbol a.unit.waiting c.if-c-unit.false,
     )
