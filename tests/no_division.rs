@@ -93,7 +93,7 @@ fn plants(sources: &Sources, read: &Read, found: &[String]) -> usize {
         pub fn Large(x: usize) -> usize { x / 2 } impl Planted { pub fn halved(self) -> usize { 1 % 2 } }";
     let called = [("symbol::planted(1);", "symbol::deeper: `/`"), ("symbol::Large(1);", "symbol::Large: `/`"), ("p.halved();", "symbol::Planted::halved: `%`")];
     let harmless = [(1, "// 1 / 1 % 1\n"), (1, "/* 1 / 1 % 1 */"), (1, "let x = b\"/ % div\"; let y = b'/'; let z = b'\\'';"),
-        (0, "requires even { n % 2 ≡ n / 2 } ensures halved { result ≡ n / 2 }"), (1, "symbol::smaller(1, 2);")];
+        (0, "requires even { n % 2 ≡ n / 2 } ensures halved { result ≡ n / 2 }"), (1, "refusal::number(1);")];
     let mut count = 0;
     let mut plant = |name: &str, behind: usize, text: &str, fault: Option<&str>| {
         let faults = planted(sources, read, name, behind, text, elsewhere);

@@ -6,8 +6,7 @@ use Prim.Native.Nat.{ℕ, ◌≤◌, ◌<◌}
 use lib.Dec.{leb, ltb, eqb}
 use borrow.Author.Tests.{leb-true, leb-false, ltb-false, le-ltb, eqb-true, eq-eqb, not-false}
 use Rattle.lists.proofs.Both.{both_true}
-use Rattle.refusal.specs.declared.Verdict.{Verdict}
-use Rattle.refusal.specs.declared.Verdict.TheVariants.{Accepted}
+use Rattle.refusal.specs.Verdicts.{Verdict, accepted}
 use Rattle.refusal.specs.Chain.{refused, refuse_if, and_then, chain}
 use Rattle.refusal.proofs.Chain.{chain-append}
 use Rattle.refusal.proofs.Foremost.{foremost-chain}
@@ -63,7 +62,7 @@ takes_whole c e = rw (unit-takes c e).exclusive
 
 module _ (c : Catalogue) (server : ℕ) where
   pub set-up-chain : set_up_verdict c server
-      ≡ refuse_if (not (unit_takes c && in_bounds c)) 2 (refuse_if (eqb c.messages 1) 17 (refuse_if (leb c.servers server) 3 Accepted))
+      ≡ refuse_if (not (unit_takes c && in_bounds c)) 2 (refuse_if (eqb c.messages 1) 17 (refuse_if (leb c.servers server) 3 accepted))
   unfolding set_up_verdict
   set-up-chain = foremost-chain (set_up_faults c server) refl
 
@@ -71,18 +70,18 @@ module _ (c : Catalogue) (server : ℕ) where
   not_taken e = rw (set-up-chain, e)
 
   -- v is the verdict on the catalogue, r that on the set-up
-  pub taken : unit_takes c ≡ true → (v r : Verdict) → v ≡ catalogue_verdict c → r ≡ and_then v (refuse_if (leb c.servers server) 3 Accepted)
+  pub taken : unit_takes c ≡ true → (v r : Verdict) → v ≡ catalogue_verdict c → r ≡ and_then v (refuse_if (leb c.servers server) 3 accepted)
       → r ≡ set_up_verdict c server
   taken e v r ev er =
-      er ∙ ap (λ (w : Verdict). and_then w (refuse_if (leb c.servers server) 3 Accepted)) (ev ∙ own) ∙ joined (in_bounds c) (eqb c.messages 1)
+      er ∙ ap (λ (w : Verdict). and_then w (refuse_if (leb c.servers server) 3 accepted)) (ev ∙ own) ∙ joined (in_bounds c) (eqb c.messages 1)
       ∙ sym (set-up-chain ∙ rw e)
     where
-      own : catalogue_verdict c ≡ refuse_if (not (in_bounds c)) 2 (refuse_if (eqb c.messages 1) 17 Accepted)
+      own : catalogue_verdict c ≡ refuse_if (not (in_bounds c)) 2 (refuse_if (eqb c.messages 1) 17 accepted)
       own = catalogue-chain c ∙ rw (takes_whole c e)
 
       joined : (within one : Bool)
-          → and_then (refuse_if (not within) 2 (refuse_if one 17 Accepted)) (refuse_if (leb c.servers server) 3 Accepted)
-          ≡ refuse_if (not within) 2 (refuse_if one 17 (refuse_if (leb c.servers server) 3 Accepted))
+          → and_then (refuse_if (not within) 2 (refuse_if one 17 accepted)) (refuse_if (leb c.servers server) 3 accepted)
+          ≡ refuse_if (not within) 2 (refuse_if one 17 (refuse_if (leb c.servers server) 3 accepted))
       joined false one = refl
       joined true true = refl
       joined true false = refl
@@ -93,7 +92,7 @@ module _ (c : Catalogue) (server : ℕ) where
     pub admitted : Admitted c
     pub below : server < c.servers
 
-  pub set-up-passed : set_up_verdict c server ≡ Accepted → SetUp
+  pub set-up-passed : set_up_verdict c server ≡ accepted → SetUp
   unfolding set_up_verdict
   set-up-passed e =
       let n = accepted-none (set_up_faults c server) e in
@@ -118,7 +117,7 @@ module _ (u : AnswerUnit) (register stored : ℕ) where
   pub access-chain : access_verdict u register stored
       ≡ refuse_if (ltb 5 register) 18 (and_then (set_up_verdict u.catalogue u.server)
       (refuse_if (not (eqb stored (scheme_of u.catalogue).sizes.store)) 8
-      (refuse_if (ltb 32 u.held) 11 (refuse_if (ltb u.catalogue.symbol u.waiting) 11 Accepted))))
+      (refuse_if (ltb 32 u.held) 11 (refuse_if (ltb u.catalogue.symbol u.waiting) 11 accepted))))
   unfolding access_verdict set_up_verdict
   access-chain =
       let faults = set_up_faults u.catalogue u.server in
@@ -127,28 +126,28 @@ module _ (u : AnswerUnit) (register stored : ℕ) where
       (chain-append faults (held_faults u stored) ∙ ap (λ (v : Verdict). and_then v (chain (held_faults u stored))) (sym (foremost-chain faults refl)))
 
   -- the links behind the set-up, as the code asks them: by the sizes of the short code
-  pub access-own : register ≤ 5 → set_up_verdict u.catalogue u.server ≡ Accepted → (sizes : Sizes)
+  pub access-own : register ≤ 5 → set_up_verdict u.catalogue u.server ≡ accepted → (sizes : Sizes)
       → sizes ≡ short_sizes u.catalogue.servers u.catalogue.messages u.catalogue.symbol
       → access_verdict u register stored
-      ≡ refuse_if (not (eqb stored sizes.store)) 8 (refuse_if (ltb 32 u.held) 11 (refuse_if (ltb u.catalogue.symbol u.waiting) 11 Accepted))
-  access-own known accepted sizes e =
+      ≡ refuse_if (not (eqb stored sizes.store)) 8 (refuse_if (ltb 32 u.held) 11 (refuse_if (ltb u.catalogue.symbol u.waiting) 11 accepted))
+  access-own known agrees sizes e =
       access-chain
       ∙ rw (
         le-ltb 5 register known,
-        accepted,
-        sym (short-store u.catalogue u.server (set-up-passed u.catalogue u.server accepted)),
+        agrees,
+        sym (short-store u.catalogue u.server (set-up-passed u.catalogue u.server agrees)),
         e,
       )
 
   -- what an accepted access says
   pub record Accesses : Type 0 where
     pub known : register ≤ 5
-    pub set-up : set_up_verdict u.catalogue u.server ≡ Accepted
+    pub set-up : set_up_verdict u.catalogue u.server ≡ accepted
     pub store_long : stored ≡ (scheme_of u.catalogue).sizes.store
     pub held_fits : u.held ≤ 32
     pub waiting-fits : u.waiting ≤ u.catalogue.symbol
 
-  pub access-passed : access_verdict u register stored ≡ Accepted → Accesses
+  pub access-passed : access_verdict u register stored ≡ accepted → Accesses
   unfolding access_verdict set_up_verdict
   access-passed e =
       let n = accepted-none (access_faults u register stored) e in
@@ -161,7 +160,7 @@ module _ (u : AnswerUnit) (register stored : ℕ) where
         waiting-fits = ltb-false u.catalogue.symbol u.waiting o.1.1.0;
       }
 
-  pub access-accepted : Accesses → access_verdict u register stored ≡ Accepted
+  pub access-accepted : Accesses → access_verdict u register stored ≡ accepted
   access-accepted a =
       access-chain
       ∙ rw (

@@ -7,11 +7,10 @@ use mathlib.Core.List.{List}
 use Prim.Native.Nat.{ℕ, ◌-◌, ◌≤◌}
 use native.Mathlib.Omega.{arith}
 use lib.ListN.{length}
-use Rattle.refusal.specs.declared.Verdict.{Verdict}
-use Rattle.refusal.specs.declared.Outcome.{Outcome}
-use Rattle.refusal.specs.declared.Outcome.TheVariants.{Value, Refused as NoValue}
 use Rattle.calendar.specs.declared.Day.{Day}
 use Rattle.calendar.specs.Calendar.{no_day}
+use Rattle.std.specs.Prelude.{Ok, Err}
+use Rattle.refusal.specs.Verdicts.{Verdict, Outcome}
 use Rattle.catalogue.specs.declared.Catalogue.{Catalogue}
 use Rattle.codes.specs.Codes.{scheme_of}
 use Rattle.server.specs.Answering.{DidAnswer, answering}
@@ -45,8 +44,8 @@ abbrev into : AnswerUnit → List ℕ → AnswerUnit
 into u after = with_answer u u.refused u.refusal u.waiting after
 
 ended-into : (u : AnswerUnit) (after : List ℕ) (outcome : Outcome) → ended_by (into u after) outcome after ≡ ended_by u outcome after
-ended-into u after (Value size) = refl
-ended-into u after (NoValue refusal) = refl
+ended-into u after (Ok size) = refl
+ended-into u after (Err refusal) = refl
 
 pub ended_so : (u : AnswerUnit) (store : List ℕ) (day : Day) (result : Outcome) (after : List ℕ) → u.overrun ≡ false → day ≡ no_day
     → DidAnswer (answering scheme_of u.catalogue day u.server store (asked u) u.answer) result after

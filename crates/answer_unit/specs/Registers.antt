@@ -1,10 +1,7 @@
 -- The rules of the answer unit (document 02, item 12), in the item's order: what each register shows, what reading and writing it does, the line, start
 -- and reset; then the set-up, what refuses an access, and the accesses as a whole. All of it is total: over every unit, register, byte and store.
-use Rattle.std.specs.Prelude.{Bool, true, false, cond, not, ◌&&◌, List, [], ◌∷◌, ◌++◌, ℕ, ◌+◌, ◌-◌, leb, ltb, eqb, length, get_or, set}
-use Rattle.refusal.specs.declared.Verdict.{Verdict}
-use Rattle.refusal.specs.declared.Verdict.TheVariants.{Accepted, Refused}
-use Rattle.refusal.specs.declared.Outcome.{Outcome}
-use Rattle.refusal.specs.declared.Outcome.TheVariants.{Value, Refused as NoValue}
+use Rattle.std.specs.Prelude.{Bool, true, false, cond, not, ◌&&◌, List, [], ◌∷◌, ◌++◌, ℕ, ◌+◌, ◌-◌, leb, ltb, eqb, length, get_or, set, Ok, Err}
+use Rattle.refusal.specs.Verdicts.{accepted, Verdict, Outcome}
 use Rattle.refusal.specs.Numbers.{number_of, refusal_of}
 use Rattle.refusal.specs.Foremost.{Fault, fault, foremost}
 use Rattle.calendar.specs.Calendar.{no_day, undated}
@@ -68,13 +65,13 @@ answered_for u store = answering scheme_of u.catalogue no_day u.server store (as
 
 -- refused bit and register 4 by what came out, and an answer waits, unless it is empty
 abbrev pub ended_by : AnswerUnit → Outcome → List ℕ → AnswerUnit
-ended_by u (Value size) answer = with_answer u false 0 size answer
-ended_by u (NoValue refusal) answer = with_answer u true (number_of refusal) 0 answer
+ended_by u (Ok size) answer = with_answer u false 0 size answer
+ended_by u (Err refusal) answer = with_answer u true (number_of refusal) 0 answer
 
 -- overrun counts as 7
 unfoldable pub answer_of : AnswerUnit → List ℕ → AnswerUnit
 answer_of u store =
-    cond u.overrun (ended_by u (NoValue (refusal_of 7)) u.answer) (ended_by u (answered_for u store).outcome (answered_for u store).buffer)
+    cond u.overrun (ended_by u (Err (refusal_of 7)) u.answer) (ended_by u (answered_for u store).outcome (answered_for u store).buffer)
 
 -- then the query and the overrun bit are emptied, and the flag is set
 abbrev pub finished : AnswerUnit → AnswerUnit
@@ -117,8 +114,8 @@ unfoldable pub set_up_verdict : Catalogue → ℕ → Verdict
 set_up_verdict c server = foremost (set_up_faults c server)
 
 abbrev pub set_up_by : Catalogue → ℕ → Verdict → Handed
-set_up_by c server Accepted = record { verdict = Accepted; unit = fresh c server }
-set_up_by c server (Refused refusal) = record { verdict = Refused refusal; unit = zero_unit }
+set_up_by c server (Ok _) = record { verdict = accepted; unit = fresh c server }
+set_up_by c server (Err refusal) = record { verdict = Err refusal; unit = zero_unit }
 
 -- set_up catalogue server: refused, it hands back zeros
 unfoldable pub set_up : Catalogue → ℕ → Handed
@@ -143,16 +140,16 @@ access_verdict u register stored = foremost (access_faults u register stored)
 -- ---- the accesses: a refused one leaves the unit as it was, and a refused read gives 0
 
 abbrev pub read_by : AnswerUnit → ℕ → Verdict → Got
-read_by u register Accepted = record { verdict = Accepted; byte = shown u register; unit = after_read u register }
-read_by u register (Refused refusal) = record { verdict = Refused refusal; byte = 0; unit = u }
+read_by u register (Ok _) = record { verdict = accepted; byte = shown u register; unit = after_read u register }
+read_by u register (Err refusal) = record { verdict = Err refusal; byte = 0; unit = u }
 
 -- read_register unit register store
 unfoldable pub read_register : AnswerUnit → ℕ → List ℕ → Got
 read_register u register store = read_by u register (access_verdict u register (length store))
 
 abbrev pub write_by : AnswerUnit → ℕ → ℕ → List ℕ → Verdict → Handed
-write_by u register value store Accepted = record { verdict = Accepted; unit = after_write u register value store }
-write_by u register value store (Refused refusal) = record { verdict = Refused refusal; unit = u }
+write_by u register value store (Ok _) = record { verdict = accepted; unit = after_write u register value store }
+write_by u register value store (Err refusal) = record { verdict = Err refusal; unit = u }
 
 -- write_register unit register value store
 unfoldable pub write_register : AnswerUnit → ℕ → ℕ → List ℕ → Handed

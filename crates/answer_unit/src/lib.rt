@@ -7,7 +7,7 @@ ghost use Rattle.answer_unit.specs.Unit.{fresh as fresh·, zero_unit};
 ghost use Rattle.answer_unit.specs.Registers.{set_up, read_register, write_register, line as line·};
 
 use catalogue::Catalogue;
-use refusal::Verdict;
+use refusal::Refusal;
 
 // What a register shows, and what reading it does.
 mod reading;
@@ -27,10 +27,11 @@ pub struct AnswerUnit {
     pub flag: bool,
     // Register 1, bit 2: a byte of the query was dropped.
     pub overrun: bool,
-    // The query (01: request) so far: the first `held` places.
+    // The query (01: request) so far: the first `held` places. A buffer and a length: fixed memory, no heap.
     pub held: usize,
     pub query: [u8; 32],
-    // Register 1, bit 1, and register 4: how the last start ended.
+    // Register 1, bit 1, and register 4: how the last start ended. A bit and a number, and no `Option<Refusal>`: a unit may come in with any two
+    // (`status_of`, `shown`), and a narrower type would ask more of callers.
     pub refused: bool,
     pub refusal: u8,
     // The answer, of S bytes, of which the last `waiting` are still to be read.
@@ -38,17 +39,18 @@ pub struct AnswerUnit {
     pub answer: [u8; 64],
 }
 
-// What set-up and a write hand back.
+// What set-up and a write hand back. A verdict beside the unit, and no `Result` of it: a unit passes by value, a rule of the project, and a refused access
+// hands it back as it was (`read_by`, `write_by`).
 #[derive(Clone, Copy)]
 pub struct Handed {
-    pub verdict: Verdict,
+    pub verdict: Result<(), Refusal>,
     pub unit: AnswerUnit,
 }
 
-// What a read hands back.
+// What a read hands back, for the same reason with its verdict beside it.
 #[derive(Clone, Copy)]
 pub struct Got {
-    pub verdict: Verdict,
+    pub verdict: Result<(), Refusal>,
     pub byte: u8,
     pub unit: AnswerUnit,
 }
@@ -59,7 +61,7 @@ fn fresh(c: Catalogue, server: usize) -> AnswerUnit
 {
     AnswerUnit {
         catalogue: c,
-        server: server,
+        server,
         enable: false,
         flag: false,
         overrun: false,
@@ -85,14 +87,14 @@ impl AnswerUnit {
         ensures { result ≡ set_up c server }
     {
         let verdict = verdicts::set_up_verdict(c, server);
-        if let Verdict::Refused(_) = verdict {
+        if let Err(_) = verdict {
             return Handed {
-                verdict: verdict,
+                verdict,
                 unit: AnswerUnit::blank(),
             };
         }
         Handed {
-            verdict: Verdict::Accepted,
+            verdict: Ok(()),
             unit: fresh(c, server),
         }
     }
@@ -102,15 +104,15 @@ impl AnswerUnit {
         ensures { result ≡ read_register self register store.now }
     {
         let verdict = verdicts::access_verdict(self, register, store.len());
-        if let Verdict::Refused(_) = verdict {
+        if let Err(_) = verdict {
             return Got {
-                verdict: verdict,
+                verdict,
                 byte: 0,
                 unit: self,
             };
         }
         Got {
-            verdict: Verdict::Accepted,
+            verdict: Ok(()),
             byte: reading::shown(self, register),
             unit: reading::after_read(self, register),
         }
@@ -121,14 +123,14 @@ impl AnswerUnit {
         ensures { result ≡ write_register self register value store.now }
     {
         let verdict = verdicts::access_verdict(self, register, store.len());
-        if let Verdict::Refused(_) = verdict {
+        if let Err(_) = verdict {
             return Handed {
-                verdict: verdict,
+                verdict,
                 unit: self,
             };
         }
         Handed {
-            verdict: Verdict::Accepted,
+            verdict: Ok(()),
             unit: writing::after_write(self, register, value, store),
         }
     }

@@ -35,7 +35,7 @@ fn next_byte(unit: AnswerUnit) -> u8
     unit.answer[at]
 }
 
-// What a register shows.
+// What a register shows. Its number, and no enum: the rules go by the numbers, and whether there is such a register is the access's verdict.
 pub fn shown(unit: AnswerUnit, register: usize) -> u8
     requires register_bound { register ≤ 5 }
     requires waiting_le_symbol { unit.waiting ≤ unit.catalogue.symbol }

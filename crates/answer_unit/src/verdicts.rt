@@ -1,87 +1,56 @@
 // Whether a unit can be set up, and whether an access to it is done: the faults of each, in their order.
 ghost use Rattle.std.specs.Prelude.{◌≡◌};
-ghost use Rattle.answer_unit.specs.Registers.{is_short, is_exclusive, unit_takes, set_up_verdict, access_verdict};
+ghost use Rattle.answer_unit.specs.Registers.{unit_takes, set_up_verdict, access_verdict};
 
 use crate::AnswerUnit;
 use catalogue::{Catalogue, Code};
 use parameters::short;
-use refusal::{Refusal, Verdict};
+use refusal::Refusal;
 use symbol::Operation;
 
-fn is_short(code: Code) -> bool
-    ensures { result ≡ is_short code }
-{
-    match code {
-        Code::Short => true,
-        Code::Even => false,
-        Code::Turn => false,
-        Code::Round => false,
-    }
-}
-
-fn is_exclusive(sum: Operation) -> bool
-    ensures { result ≡ is_exclusive sum }
-{
-    match sum {
-        Operation::ExclusiveOr => true,
-        Operation::Addition => false,
-    }
-}
-
 // Whether the unit takes such a catalogue: short, exclusive or, no dates, S up to 64.
+#[tactic(auto, unfolding(crate::specs::Registers::unit_takes))]
 fn takes(c: Catalogue) -> bool
     ensures { result ≡ unit_takes c }
 {
-    let code = c.code;
-    if !is_short(code) {
-        return false;
-    }
-    let sum = c.sum;
-    if !is_exclusive(sum) {
-        return false;
-    }
-    if !calendar::are_none(c.opening, c.closing) {
-        return false;
-    }
-    c.symbol <= 64
+    c.code == Code::Short
+        && c.sum == Operation::ExclusiveOr
+        && calendar::are_none(c.opening, c.closing)
+        && c.symbol <= 64
 }
 
 // Whether a unit can be set up.
-pub fn set_up_verdict(c: Catalogue, server: usize) -> Verdict
+pub fn set_up_verdict(c: Catalogue, server: usize) -> Result<(), Refusal>
     ensures { result ≡ set_up_verdict c server }
 {
     if !takes(c) {
-        return Verdict::Refused(Refusal::Bounds);
+        return Err(Refusal::Bounds);
     }
-    if let Verdict::Refused(refusal) = catalogue::verdict(c) {
-        return Verdict::Refused(refusal);
-    }
+    catalogue::verdict(c)?;
     if c.servers <= server {
-        return Verdict::Refused(Refusal::Server);
+        return Err(Refusal::Server);
     }
-    Verdict::Accepted
+    Ok(())
 }
 
 // Whether an access to the register, with a store of `stored` bytes, is done.
-pub fn access_verdict(unit: AnswerUnit, register: usize, stored: usize) -> Verdict
+pub fn access_verdict(unit: AnswerUnit, register: usize, stored: usize) -> Result<(), Refusal>
     ensures { result ≡ access_verdict unit register stored }
 {
     if 5 < register {
-        return Verdict::Refused(Refusal::Register);
+        return Err(Refusal::Register);
     }
     let c = unit.catalogue;
-    if let Verdict::Refused(refusal) = set_up_verdict(c, unit.server) {
-        return Verdict::Refused(refusal);
-    }
+    set_up_verdict(c, unit.server)?;
     let sizes = short::sizes(c.servers, c.messages, c.symbol);
     if stored != sizes.store {
-        return Verdict::Refused(Refusal::StoreLength);
+        return Err(Refusal::StoreLength);
     }
     if 32 < unit.held {
-        return Verdict::Refused(Refusal::History);
+        return Err(Refusal::History);
     }
     if c.symbol < unit.waiting {
-        return Verdict::Refused(Refusal::History);
+        return Err(Refusal::History);
     }
-    Verdict::Accepted
+    Ok(())
 }

@@ -5,7 +5,7 @@ ghost use Rattle.answer_unit.specs.Registers.{append as append·, acknowledge as
 ghost use Rattle.answer_unit.specs.Registers.{control as control·, after_write};
 
 use crate::AnswerUnit;
-use refusal::{Outcome, Refusal};
+use refusal::Refusal;
 
 // The bit of a weight in a byte.
 fn bit(weight: u8, value: u8) -> bool
@@ -40,17 +40,17 @@ fn acknowledge(mut unit: AnswerUnit, value: u8) -> AnswerUnit
 }
 
 // Register 4, the refused bit and the bytes that wait, by what came out.
-fn ended(mut unit: AnswerUnit, outcome: Outcome) -> AnswerUnit
+fn ended(mut unit: AnswerUnit, outcome: Result<usize, Refusal>) -> AnswerUnit
     ensures { result ≡ ended_by unit outcome unit.answer }
 {
     match outcome {
-        Outcome::Value(size) => {
+        Ok(size) => {
             unit.refused = false;
             unit.refusal = 0;
             unit.waiting = size;
             unit
         }
-        Outcome::Refused(refusal) => {
+        Err(refusal) => {
             unit.refused = true;
             unit.refusal = refusal::number(refusal);
             unit.waiting = 0;
@@ -65,17 +65,15 @@ fn answered(mut unit: AnswerUnit, store: &[u8]) -> AnswerUnit
     ensures { result ≡ answer_of unit store.now }
 {
     if unit.overrun {
-        return ended(unit, Outcome::Refused(Refusal::Query));
+        return ended(unit, Err(Refusal::Query));
     }
-    let held = unit.held;
-    let query = unit.query;
     let mut answer = unit.answer;
     let outcome = server::answer(
         unit.catalogue,
         calendar::none(),
         unit.server,
         store,
-        &query[..held],
+        &unit.query[..unit.held],
         &mut answer,
     );
     unit.answer = answer;

@@ -2,10 +2,10 @@
 #![tactic(auto)]
 
 ghost use Rattle.std.specs.Prelude.{◌≡◌};
-ghost use Rattle.calendar.specs.Calendar.{leap_year, days_in, within, real_day, before, in_season, no_day, is_none, undated};
+ghost use Rattle.calendar.specs.Calendar.{leap_year, days_in, real_day, before, in_season, no_day, is_none, undated};
 
 // Three numbers, which can be anything.
-#[derive(Clone, Copy)]
+#[derive(Clone, Copy, PartialEq, Eq, PartialOrd, Ord)]
 pub struct Day {
     pub year: u32,
     pub month: u32,
@@ -13,19 +13,15 @@ pub struct Day {
 }
 
 // Whether the year has a leap day.
+#[tactic(auto, unfolding(crate::specs::Calendar::leap_year))]
 fn is_leap(year: u32) -> bool
     ensures { result ≡ leap_year year }
 {
-    if year % 4 != 0 {
-        return false;
-    }
-    if year % 100 != 0 {
-        return true;
-    }
-    year % 400 == 0
+    year % 4 == 0 && (year % 100 != 0 || year % 400 == 0)
 }
 
 // The days in a month of a year.
+#[tactic(auto, unfolding(crate::specs::Calendar::days_in, lists::specs::Distinct::stands))]
 fn days_in(year: u32, month: u32) -> u32
     ensures { result ≡ days_in year month }
 {
@@ -36,50 +32,30 @@ fn days_in(year: u32, month: u32) -> u32
     }
 }
 
-// Whether n is one of the numbers from `first` to `last`.
-fn is_within(first: u32, last: u32, n: u32) -> bool
-    ensures { result ≡ within first last n }
-{
-    if n < first {
-        return false;
-    }
-    n <= last
-}
-
 // Whether the three numbers are a day of the calendar.
+#[tactic(auto, unfolding(crate::specs::Calendar::real_day))]
 pub fn is_real(d: Day) -> bool
     ensures { result ≡ real_day d }
 {
-    if !is_within(2000, 2399, d.year) {
-        return false;
-    }
-    if !is_within(1, 12, d.month) {
-        return false;
-    }
-    is_within(1, days_in(d.year, d.month), d.day)
+    (2000..=2399).contains(&d.year)
+        && (1..=12).contains(&d.month)
+        && (1..=days_in(d.year, d.month)).contains(&d.day)
 }
 
 // Whether a comes before b.
+#[tactic(auto, unfolding(crate::specs::Calendar::before))]
 pub fn is_before(a: Day, b: Day) -> bool
     ensures { result ≡ before a b }
 {
-    if a.year != b.year {
-        return a.year < b.year;
-    }
-    if a.month != b.month {
-        return a.month < b.month;
-    }
-    a.day < b.day
+    a < b
 }
 
 // Whether today lies in the season: the opening day does, the closing day does not.
+#[tactic(auto, unfolding(crate::specs::Calendar::in_season, crate::specs::Calendar::before))]
 pub fn in_season(opening: Day, closing: Day, today: Day) -> bool
     ensures { result ≡ in_season opening closing today }
 {
-    if is_before(today, opening) {
-        return false;
-    }
-    is_before(today, closing)
+    opening <= today && today < closing
 }
 
 // Three zeros, where no day is given.
@@ -94,24 +70,17 @@ pub fn none() -> Day
 }
 
 // Whether no day is given: all three numbers are 0.
+#[tactic(auto, unfolding(crate::specs::Calendar::is_none))]
 pub fn is_none(d: Day) -> bool
     ensures { result ≡ is_none d }
 {
-    if d.year != 0 {
-        return false;
-    }
-    if d.month != 0 {
-        return false;
-    }
-    d.day == 0
+    d == none()
 }
 
 // Whether no dates are given.
+#[tactic(auto, unfolding(crate::specs::Calendar::undated))]
 pub fn are_none(opening: Day, closing: Day) -> bool
     ensures { result ≡ undated opening closing }
 {
-    if !is_none(opening) {
-        return false;
-    }
-    is_none(closing)
+    is_none(opening) && is_none(closing)
 }

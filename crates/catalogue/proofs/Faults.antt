@@ -6,8 +6,7 @@ use mathlib.Core.Bool.{true, not, ◌&&◌}
 use mathlib.Core.List.{List, ◌++◌}
 use lib.Dec.{eqb}
 use Rattle.lists.specs.Distinct.{stands}
-use Rattle.refusal.specs.declared.Verdict.{Verdict}
-use Rattle.refusal.specs.declared.Verdict.TheVariants.{Accepted}
+use Rattle.refusal.specs.Verdicts.{Verdict, accepted}
 use Rattle.refusal.specs.Foremost.{Fault, foremost}
 use Rattle.refusal.specs.Chain.{refuse_if, and_then, chain}
 use Rattle.refusal.specs.Within.{Within}
@@ -24,7 +23,7 @@ use Rattle.catalogue.specs.Days.{dated, day_faults, day_verdict, Served}
 -- its own faults are that of the bounds, then that of a single message, then that of an odd symbol
 pub catalogue-chain : (c : Catalogue)
     → catalogue_verdict c
-    ≡ refuse_if (not (in_bounds c)) 2 (refuse_if (eqb c.messages 1) 17 (refuse_if (not (whole_words c.sum c.symbol)) 15 Accepted))
+    ≡ refuse_if (not (in_bounds c)) 2 (refuse_if (eqb c.messages 1) 17 (refuse_if (not (whole_words c.sum c.symbol)) 15 accepted))
 unfolding catalogue_verdict
 catalogue-chain c = foremost-chain (catalogue_faults c) refl
 
@@ -39,11 +38,11 @@ module _ (c : Catalogue) (faults : List Fault) where
   unfolding catalogue_verdict
   after-catalogue e = after_first_lem (catalogue_faults c) faults refl e
 
-  pub call-passed : foremost (catalogue_faults c ++ faults) ≡ Accepted → Admitted c × NoneThere faults
+  pub call-passed : foremost (catalogue_faults c ++ faults) ≡ accepted → Admitted c × NoneThere faults
   unfolding catalogue_verdict
   call-passed = first-accepted (catalogue_faults c) faults
 
-  pub call-accepted : Admitted c → NoneThere faults → foremost (catalogue_faults c ++ faults) ≡ Accepted
+  pub call-accepted : Admitted c → NoneThere faults → foremost (catalogue_faults c ++ faults) ≡ accepted
   unfolding catalogue_verdict
   call-accepted = both-accepted (catalogue_faults c) faults
 
@@ -52,7 +51,7 @@ module _ (c : Catalogue) (faults : List Fault) where
 module _ (c : Catalogue) (day : Day) where
   -- that of a day which is not real, then that of one outside the season
   pub day-chain : day_verdict c day
-      ≡ refuse_if (dated c && not (real_day day)) 13 (refuse_if (dated c && not (in_season c.opening c.closing day)) 14 Accepted)
+      ≡ refuse_if (dated c && not (real_day day)) 13 (refuse_if (dated c && not (in_season c.opening c.closing day)) 14 accepted)
   unfolding day_verdict
   day-chain = foremost-chain (day_faults c day) refl
 
@@ -61,10 +60,10 @@ module _ (c : Catalogue) (day : Day) where
       → Admitted c → v ≡ day_verdict c day → r ≡ and_then v (chain faults) → r ≡ foremost (catalogue_faults c ++ (day_faults c day ++ faults))
   unfolding day_verdict
   after-day faults e v r a d p =
-      after-catalogue c (day_faults c day ++ faults) e Accepted r (sym a)
+      after-catalogue c (day_faults c day ++ faults) e accepted r (sym a)
       (chain-after (day_faults c day) faults v r (d ∙ foremost-chain (day_faults c day) refl) p)
 
-  pub day-passed : (faults : List Fault) → foremost (catalogue_faults c ++ (day_faults c day ++ faults)) ≡ Accepted
+  pub day-passed : (faults : List Fault) → foremost (catalogue_faults c ++ (day_faults c day ++ faults)) ≡ accepted
       → Admitted c × Served c day × NoneThere faults
   unfolding day_verdict
   day-passed faults e =
@@ -72,7 +71,7 @@ module _ (c : Catalogue) (day : Day) where
       (p.0, none-accepted (day_faults c day) (p.1.0, (p.1.1.0, tt)), p.1.1.1)
 
   pub day-accepted : (faults : List Fault) → Admitted c → Served c day → NoneThere faults
-      → foremost (catalogue_faults c ++ (day_faults c day ++ faults)) ≡ Accepted
+      → foremost (catalogue_faults c ++ (day_faults c day ++ faults)) ≡ accepted
   unfolding day_verdict
   day-accepted faults a s n =
       let d = accepted-none (day_faults c day) s in call-accepted c (day_faults c day ++ faults) a (d.0, (d.1.0, n))

@@ -4,7 +4,7 @@ use mathlib.Core.Path.{◌≡◌, refl, sym, ◌∙◌}
 use mathlib.Core.Bool.{Bool, true, false, true≢false, not, ◌&&◌}
 use mathlib.Core.Logic.{◌↔◌, ◌⊎◌, inl, inr}
 use Rattle.lists.proofs.Both.{both_true}
-use Rattle.refusal.specs.declared.Verdict.TheVariants.{Accepted}
+use Rattle.refusal.specs.Verdicts.{accepted}
 use Rattle.refusal.specs.Numbers.{refusal_of}
 use Rattle.refusal.specs.Chain.{refused, refuse_if}
 use Rattle.refusal.proofs.Chain.{not-refused, other-number}
@@ -33,7 +33,7 @@ admitted-season c a with-dates =
 
 module _ (c : Catalogue) (day : Day) where
   judged : (none real inside : Bool) → undated c.opening c.closing ≡ none → real_day day ≡ real → in_season c.opening c.closing day ≡ inside
-      → day_verdict c day ≡ refuse_if (not none && not real) 13 (refuse_if (not none && not inside) 14 Accepted)
+      → day_verdict c day ≡ refuse_if (not none && not real) 13 (refuse_if (not none && not inside) 14 accepted)
   judged none real inside e f g = day-chain c day ∙ rw (e, f, g)
 
   pub undated-served : undated c.opening c.closing ≡ true → Served c day

@@ -9,7 +9,7 @@ use native.Mathlib.Omega.{arith}
 use borrow.Author.Tests.{eqb-true, eqb-false, eq-eqb, ne_eqb, leb-true, le-leb}
 use lib.Dec.{eqb, leb}
 use Rattle.lists.proofs.Both.{both_true, true-both}
-use Rattle.refusal.specs.declared.Verdict.TheVariants.{Accepted}
+use Rattle.refusal.specs.Verdicts.{accepted}
 use Rattle.refusal.specs.Chain.{refused, refuse_if}
 use Rattle.refusal.specs.Numbers.{refusal_of}
 use Rattle.refusal.proofs.Chain.{not-refused, other-number}
@@ -46,7 +46,7 @@ added-odd Addition S e odd = ne_eqb (S % 2) 0 (λ zero. omega (arith, odd, zero)
 
 module _ (c : Catalogue) where
   judged : (within one whole : Bool) → in_bounds c ≡ within → eqb c.messages 1 ≡ one → whole_words c.sum c.symbol ≡ whole
-      → catalogue_verdict c ≡ refuse_if (not within) 2 (refuse_if one 17 (refuse_if (not whole) 15 Accepted))
+      → catalogue_verdict c ≡ refuse_if (not within) 2 (refuse_if one 17 (refuse_if (not whole) 15 accepted))
   judged within one whole e f g = catalogue-chain c ∙ rw (e, f, g)
 
   -- within its bounds with more than one message there are two or more

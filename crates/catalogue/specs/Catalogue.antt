@@ -1,7 +1,7 @@
 -- Catalogue values: which are admitted, and the sizes that follow (document 01, 'Catalogue'; document 02, items 1, 2, 4, 6, 8 and 9).
-use Rattle.std.specs.Prelude.{◌≡◌, Bool, true, not, ◌&&◌, ◌||◌, List, [], ◌∷◌, ℕ, ◌%◌, eqb}
-use Rattle.refusal.specs.declared.Verdict.{Verdict}
-use Rattle.refusal.specs.declared.Verdict.TheVariants.{Accepted, Refused}
+use Rattle.std.specs.Prelude.{◌≡◌, Bool, true, not, ◌&&◌, ◌||◌, List, [], ◌∷◌, ℕ, ◌%◌, eqb, Result, Ok, Err}
+use Rattle.refusal.specs.Verdicts.{Verdict, accepted}
+use Rattle.refusal.specs.declared.Refusal.{Refusal}
 use Rattle.refusal.specs.Foremost.{Fault, fault, foremost}
 use Rattle.parameters.specs.declared.Sizes.{Sizes}
 use Rattle.parameters.specs.Bounds.{short_fits, even_fits, round_fits}
@@ -14,8 +14,6 @@ use Rattle.symbol.specs.declared.Operation.TheVariants.{ExclusiveOr, Addition}
 use Rattle.catalogue.specs.declared.Code.{Code}
 use Rattle.catalogue.specs.declared.Code.TheVariants.{Short, Even, Turn, Round}
 use Rattle.catalogue.specs.declared.Catalogue.{Catalogue}
-use Rattle.catalogue.specs.declared.Measured.{Measured}
-use Rattle.catalogue.specs.declared.Measured.TheVariants.{Of, Refused as NotMeasured}
 
 -- N, K and S are within the bounds of the code; the turning code has the short code's (02, item 4)
 abbrev pub fits : Code → ℕ → ℕ → ℕ → Bool
@@ -69,11 +67,15 @@ catalogue_verdict c = foremost (catalogue_faults c)
 
 -- admitted (01, 'Lists of fetches'; 02, items 2 and 9): none of 2, 17, 15, so that it has two messages or more; `admitted-exactly` says so in numbers
 abbrev pub Admitted : Catalogue → Type 0
-Admitted c = catalogue_verdict c ≡ Accepted
+Admitted c = catalogue_verdict c ≡ accepted
+
+-- sizes, or why there are none
+abbrev pub Measured : Type 0
+Measured = Result Sizes Refusal
 
 abbrev measured_by : Verdict → Sizes → Measured
-measured_by Accepted sizes = Of sizes
-measured_by (Refused refusal) sizes = NotMeasured refusal
+measured_by (Ok _) sizes = Ok sizes
+measured_by (Err refusal) sizes = Err refusal
 
 -- the sizes, or why the catalogue is refused
 unfoldable pub measured_of : Catalogue → Measured

@@ -1,8 +1,7 @@
 -- The day of a call (document 02, item 1). Issue and answering are given today's date: under a catalogue with dates 13 is given for a day that is not
 -- real, and 14 for one outside the season; without dates the day is not looked at. No other call tests a season.
 use Rattle.std.specs.Prelude.{◌≡◌, Bool, not, ◌&&◌, List, [], ◌∷◌, ℕ}
-use Rattle.refusal.specs.declared.Verdict.{Verdict}
-use Rattle.refusal.specs.declared.Verdict.TheVariants.{Accepted}
+use Rattle.refusal.specs.Verdicts.{Verdict, accepted}
 use Rattle.refusal.specs.Foremost.{Fault, fault, foremost}
 use Rattle.calendar.specs.declared.Day.{Day}
 use Rattle.calendar.specs.Calendar.{real_day, in_season, undated}
@@ -25,4 +24,4 @@ day_verdict c day = foremost (day_faults c day)
 
 -- the catalogue is served on this day: neither of the two is there
 abbrev pub Served : Catalogue → Day → Type 0
-Served c day = day_verdict c day ≡ Accepted
+Served c day = day_verdict c day ≡ accepted

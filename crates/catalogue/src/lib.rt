@@ -9,11 +9,11 @@ ghost use Rattle.catalogue.specs.Days.{day_verdict};
 use calendar::Day;
 use lengths::Lengths;
 use parameters::Sizes;
-use refusal::{Refusal, Verdict};
+use refusal::Refusal;
 use symbol::Operation;
 
 // The code that every fetch from the catalogue uses.
-#[derive(Clone, Copy)]
+#[derive(Clone, Copy, PartialEq, Eq)]
 pub enum Code {
     // The code of Tian, Sun and Chen.
     Short,
@@ -43,19 +43,11 @@ pub struct Catalogue {
     pub symbol: usize,
 }
 
-// The sizes of a catalogue, or why it is refused.
-#[derive(Clone, Copy)]
-pub enum Measured {
-    Of(Sizes),
-    Refused(Refusal),
-}
-
 // Whether the numbers of servers, messages and a symbol's bytes are within the bounds of the code.
 fn numbers_fit(c: Catalogue) -> bool
     ensures { result ≡ numbers_fit c }
 {
-    let code = c.code;
-    match code {
+    match c.code {
         Code::Short => parameters::short::fits(c.servers, c.messages, c.symbol),
         Code::Even => parameters::even::fits(c.servers, c.messages, c.symbol),
         Code::Turn => parameters::short::fits(c.servers, c.messages, c.symbol),
@@ -84,8 +76,7 @@ fn sizes_of(c: Catalogue) -> Sizes
     requires { numbers_fit c ≡ true }
     ensures { result ≡ sizes_of c }
 {
-    let code = c.code;
-    match code {
+    match c.code {
         Code::Short => parameters::short::sizes(c.servers, c.messages, c.symbol),
         Code::Even => parameters::even::sizes(c.servers, c.messages, c.symbol),
         Code::Turn => parameters::turn::sizes(c.servers, c.messages, c.symbol),
@@ -118,36 +109,35 @@ fn whole_words(sum: Operation, s: usize) -> bool
 }
 
 // Whether the catalogue is admitted: it breaks none of its bounds, has more than one message, and adds only whole words.
-pub fn verdict(c: Catalogue) -> Verdict
+pub fn verdict(c: Catalogue) -> Result<(), Refusal>
     ensures { result ≡ catalogue_verdict c }
 {
     if !in_bounds(c) {
-        return Verdict::Refused(Refusal::Bounds);
+        return Err(Refusal::Bounds);
     }
     if c.messages == 1 {
-        return Verdict::Refused(Refusal::OneMessage);
+        return Err(Refusal::OneMessage);
     }
-    let sum = c.sum;
-    if !whole_words(sum, c.symbol) {
-        return Verdict::Refused(Refusal::OddSymbol);
+    if !whole_words(c.sum, c.symbol) {
+        return Err(Refusal::OddSymbol);
     }
-    Verdict::Accepted
+    Ok(())
 }
 
 // Whether today is a day on which the catalogue is served: any day where it has no dates, else a real one in its season.
-pub fn day_verdict(c: Catalogue, today: Day) -> Verdict
+pub fn day_verdict(c: Catalogue, today: Day) -> Result<(), Refusal>
     ensures { result ≡ day_verdict c today }
 {
     if calendar::are_none(c.opening, c.closing) {
-        return Verdict::Accepted;
+        return Ok(());
     }
     if !calendar::is_real(today) {
-        return Verdict::Refused(Refusal::UnrealDay);
+        return Err(Refusal::UnrealDay);
     }
     if calendar::in_season(c.opening, c.closing, today) {
-        return Verdict::Accepted;
+        return Ok(());
     }
-    Verdict::Refused(Refusal::OutOfSeason)
+    Err(Refusal::OutOfSeason)
 }
 
 // The catalogue of zeros, its code short, its sum exclusive or.
@@ -166,12 +156,10 @@ pub fn zero() -> Catalogue
     }
 }
 
-// The sizes that follow from the catalogue, if it is admitted.
-pub fn sizes(c: Catalogue) -> Measured
+// The sizes that follow from the catalogue, or why it is refused.
+pub fn sizes(c: Catalogue) -> Result<Sizes, Refusal>
     ensures { result ≡ measured_of c }
 {
-    if let Verdict::Refused(refusal) = verdict(c) {
-        return Measured::Refused(refusal);
-    }
-    Measured::Of(sizes_of(c))
+    verdict(c)?;
+    Ok(sizes_of(c))
 }

@@ -8,10 +8,9 @@ use Prim.Native.Nat.{ℕ}
 use lib.Dec.{eqb}
 use lib.ListN.{length}
 use Rattle.lists.specs.Parts.{put}
+use Rattle.std.specs.Prelude.{Ok, Err}
+use Rattle.refusal.specs.Verdicts.{Verdict, accepted}
 use Rattle.refusal.specs.declared.Refusal.{Refusal}
-use Rattle.refusal.specs.declared.Verdict.{Verdict}
-use Rattle.refusal.specs.declared.Verdict.TheVariants.{Accepted, Refused}
-use Rattle.refusal.specs.declared.Outcome.TheVariants.{Value, Refused as NotWritten}
 use Rattle.refusal.specs.Foremost.{foremost}
 use Rattle.refusal.specs.Chain.{refuse_if, and_then}
 use Rattle.refusal.proofs.Foremost.{foremost-chain}
@@ -53,9 +52,9 @@ module _ (text : List ℕ) where
   lines-is = ap (λ (v : Verdict). lines_by v (catalogue_lines text)) lines-chain
 
 module _ (c : Catalogue) (buffer : List ℕ) where
-  pub wrote-refused : (refusal : Refusal) → Refused refusal ≡ write_verdict c (length buffer) → Wrote c buffer (NotWritten refusal) buffer
+  pub wrote-refused : (refusal : Refusal) → Err refusal ≡ write_verdict c (length buffer) → Wrote c buffer (Err refusal) buffer
   wrote-refused refusal e = record { outcome-is = rw (← e); after_is = rw (← e) }
 
-  pub wrote-text : (size : ℕ) (after : List ℕ) → Accepted ≡ write_verdict c (length buffer) → size ≡ length (text_of c) → after ≡ put 0 (text_of c) buffer
-      → Wrote c buffer (Value size) after
+  pub wrote-text : (size : ℕ) (after : List ℕ) → accepted ≡ write_verdict c (length buffer) → size ≡ length (text_of c) → after ≡ put 0 (text_of c) buffer
+      → Wrote c buffer (Ok size) after
   wrote-text size after e s a = record { outcome-is = rw (← e, s); after_is = rw (← e) a }

@@ -5,9 +5,8 @@ use mathlib.Core.List.{List, [], ◌∷◌, ◌++◌}
 use Prim.Native.Nat.{ℕ}
 use lib.ListN.{length}
 use Rattle.lists.specs.Distinct.{stands}
-use Rattle.refusal.specs.declared.Verdict.{Verdict}
-use Rattle.refusal.specs.declared.Verdict.TheVariants.{Accepted, Refused}
-use Rattle.refusal.specs.declared.Outcome.{Outcome}
+use Rattle.std.specs.Prelude.{Ok, Err}
+use Rattle.refusal.specs.Verdicts.{accepted, Verdict, Outcome}
 use Rattle.refusal.specs.Foremost.{foremost}
 use Rattle.refusal.specs.Chain.{refuses}
 use Rattle.refusal.specs.Within.{Within, ValueWithin}
@@ -29,17 +28,17 @@ read-verdict text = reading-verdict (foremost (read_faults text)) (catalogue_lin
 pub read-within : (numbers text : List ℕ) → faults_named numbers (read_faults text) ≡ true → Within numbers (read_of text).verdict
 read-within numbers text e = faults-within numbers (read_faults text) _ e (read-verdict text)
 
-not-refusing : (v : Verdict) → refuses v ≡ false → v ≡ Accepted
-not-refusing Accepted e = refl
-not-refusing (Refused refusal) e = absurd (true≢false e)
+not-refusing : (v : Verdict) → refuses v ≡ false → v ≡ accepted
+not-refusing (Ok _) e = refl
+not-refusing (Err refusal) e = absurd (true≢false e)
 
 lines-verdict : (text : List ℕ) → (lines_of text).verdict ≡ foremost (lines_faults text)
 unfolding lines_of
 lines-verdict text = go (foremost (lines_faults text)) refl
   where
     go : (v : Verdict) → foremost (lines_faults text) ≡ v → (lines_by v (catalogue_lines text)).verdict ≡ v
-    go Accepted e = not-refusing (catalogue_lines text).verdict (accepted-none (lines_faults text) e).0
-    go (Refused refusal) e = refl
+    go (Ok _) e = not-refusing (catalogue_lines text).verdict (accepted-none (lines_faults text) e).0
+    go (Err refusal) e = refl
 
 write-within : (c : Catalogue) (buffer after : List ℕ) (outcome : Outcome) → Wrote c buffer outcome after
     → ValueWithin (catalogue_numbers ++ (9 ∷ [])) outcome

@@ -11,9 +11,9 @@ use lib.Dec.{eqb}
 use lib.ListN.{length, drop}
 use lib.Seq.{drop-length}
 use Rattle.lists.specs.Distinct.{stands}
+use Rattle.std.specs.Prelude.{Ok, Err}
+use Rattle.refusal.specs.Verdicts.{Verdict, accepted}
 use Rattle.refusal.specs.declared.Refusal.{Refusal}
-use Rattle.refusal.specs.declared.Verdict.{Verdict}
-use Rattle.refusal.specs.declared.Verdict.TheVariants.{Accepted, Refused}
 use Rattle.refusal.specs.Numbers.{refusal_of}
 use Rattle.refusal.specs.Chain.{refused}
 use Rattle.refusal.specs.Within.{OneOf}
@@ -40,7 +40,7 @@ Said text = (c : Catalogue) × (ns : List ℕ) × Writable c ns × (text_with c 
 text-judged : (c : Catalogue) (ns : List ℕ) → Writable c ns → read_of (text_with c ns) ≡ reading_by (catalogue_verdict c) c
 text-judged c ns fit =
     let text = text_with c ns in
-    let found : catalogue_lines text ≡ record { verdict = Accepted; catalogue = c; next = length text } =
+    let found : catalogue_lines text ≡ record { verdict = accepted; catalogue = c; next = length text } =
     ap catalogue_lines (sym (append-nil text)) ∙ lines-written c ns [] fit (ends-nothing c ns) in
     read_is text ∙ simp (found, eq-eqb (length text) (length text) refl)
 
@@ -61,8 +61,8 @@ text-or-refused text = ⊎_elim no_lines (λ r. go r.0 r.1 (eqb (catalogue_lines
     go ns r false e = inr (read_is text ∙ simp (r.accepted, e))
 
 pub reading-verdict : (v : Verdict) (c : Catalogue) → (reading_by v c).verdict ≡ v
-reading-verdict Accepted c = refl
-reading-verdict (Refused refusal) c = refl
+reading-verdict (Ok _) c = refl
+reading-verdict (Err refusal) c = refl
 
 pub text-verdict : (c : Catalogue) (ns text : List ℕ) → Writable c ns → text_with c ns ≡ text → (read_of text).verdict ≡ catalogue_verdict c
 text-verdict c ns text fit e =
@@ -76,12 +76,12 @@ not-text c e = true≢false (sym (catalogue-within c (refusal_of 1) e))
 -- ---- the whole text
 
 -- what the writer writes reads back
-pub written-reads-back : (c : Catalogue) → Admitted c → read_of (text_of c) ≡ record { verdict = Accepted; catalogue = c }
+pub written-reads-back : (c : Catalogue) → Admitted c → read_of (text_of c) ≡ record { verdict = accepted; catalogue = c }
 unfolding text_of
 written-reads-back c a = text-judged c (own_numbers c) (admitted-writable c a) ∙ ap (λ (v : Verdict). reading_by v c) a
 
 -- what is read is what the writer writes for its value
-pub read-is-written : (text : List ℕ) → (read_of text).verdict ≡ Accepted → Admitted (read_of text).catalogue × (text_of (read_of text).catalogue ≡ text)
+pub read-is-written : (text : List ℕ) → (read_of text).verdict ≡ accepted → Admitted (read_of text).catalogue × (text_of (read_of text).catalogue ≡ text)
 unfolding text_of
 read-is-written text e = ⊎_elim of-value no_text (text-or-refused text)
   where
@@ -109,10 +109,10 @@ refused-text text = (no_value, no_text)
 
 -- refused with another number exactly if the text is that of a value which is refused with it
 pub refused-value : (text : List ℕ) (refusal : Refusal) → (refusal ≡ refusal_of 1 → ⊥)
-    → ((read_of text).verdict ≡ Refused refusal) ↔ ((v : Said text) × (catalogue_verdict v.0 ≡ Refused refusal))
+    → ((read_of text).verdict ≡ Err refusal) ↔ ((v : Said text) × (catalogue_verdict v.0 ≡ Err refusal))
 refused-value text refusal other = (of-value, λ v. text-verdict v.0.0 v.0.1 text v.0.2 v.0.3 ∙ v.1)
   where
-    of-value : (read_of text).verdict ≡ Refused refusal → (v : Said text) × (catalogue_verdict v.0 ≡ Refused refusal)
+    of-value : (read_of text).verdict ≡ Err refusal → (v : Said text) × (catalogue_verdict v.0 ≡ Err refusal)
     of-value e =
         ⊎_elim
         (λ v. (v, sym (text-verdict v.0 v.1 text v.2 v.3) ∙ e))
@@ -123,13 +123,13 @@ refused-value text refusal other = (of-value, λ v. text-verdict v.0.0 v.0.1 tex
 
 -- what the writer writes reads back, whatever follows it and does not go on with it
 pub written-lines-read-back : (c : Catalogue) (rest : List ℕ) → Admitted c → Ends c (own_numbers c) rest
-    → lines_of (text_of c ++ rest) ≡ record { verdict = Accepted; catalogue = c; next = length (text_of c) }
+    → lines_of (text_of c ++ rest) ≡ record { verdict = accepted; catalogue = c; next = length (text_of c) }
 unfolding text_of
 written-lines-read-back c rest a ends =
     lines-is (text_of c ++ rest) ∙ simp (lines-written c (own_numbers c) rest (admitted-writable c a) ends, a)
 
 -- lines that are read are what the writer writes for their value, which ends at `next`
-pub lines-are-written : (text : List ℕ) → (lines_of text).verdict ≡ Accepted
+pub lines-are-written : (text : List ℕ) → (lines_of text).verdict ≡ accepted
     → Admitted (lines_of text).catalogue × LinesRead text (lines_of text) (own_numbers (lines_of text).catalogue)
 lines-are-written text e = ⊎_elim no_lines (λ r. found r.0 r.1) (lines-cases text)
   where
@@ -143,11 +143,11 @@ lines-are-written text e = ⊎_elim no_lines (λ r. found r.0 r.1) (lines-cases 
     found ns r = go (catalogue_verdict (catalogue_lines text).catalogue) refl
       where
         go : (v : Verdict) → catalogue_verdict (catalogue_lines text).catalogue ≡ v → Written
-        go Accepted a =
+        go (Ok _) a =
             let same : lines_of text ≡ catalogue_lines text = lines-is text ∙ simp (r.accepted, a) in
             let own = own-numbers (catalogue_lines text).catalogue ns a r.writable in
             rw same (a, rw own at r)
-        go (Refused refusal) b = not-refused refusal (sym (ap (λ (l : Lines). l.verdict) (lines-is text) ∙ simp (r.accepted, b)) ∙ e)
+        go (Err refusal) b = not-refused refusal (sym (ap (λ (l : Lines). l.verdict) (lines-is text) ∙ simp (r.accepted, b)) ∙ e)
 
 -- the text of a value is judged as the value is, where it ends
 pub lines-verdict : (c : Catalogue) (ns rest text : List ℕ) → Writable c ns → Ends c ns rest → text_with c ns ++ rest ≡ text
@@ -157,9 +157,9 @@ lines-verdict c ns rest text fit ends e =
     ∙ ap (λ (l : Lines). l.verdict) (lines-is (text_with c ns ++ rest))
     ∙ simp (lines-written c ns rest fit ends) (by-verdict (catalogue_verdict c))
   where
-    by-verdict : (v : Verdict) → (lines_by v (record { verdict = Accepted; catalogue = c; next = length (text_with c ns) })).verdict ≡ v
-    by-verdict Accepted = refl
-    by-verdict (Refused refusal) = refl
+    by-verdict : (v : Verdict) → (lines_by v (record { verdict = accepted; catalogue = c; next = length (text_with c ns) })).verdict ≡ v
+    by-verdict (Ok _) = refl
+    by-verdict (Err refusal) = refl
 
 -- a value and lengths whose text stands at the start and ends there
 abbrev pub Begun : List ℕ → Type 0
@@ -188,10 +188,10 @@ lines-refused-text text = (no_value, no_text)
 
 -- refused with another number exactly if that of a value stands there which is refused with it
 pub lines-refused-value : (text : List ℕ) (refusal : Refusal) → (refusal ≡ refusal_of 1 → ⊥)
-    → ((lines_of text).verdict ≡ Refused refusal) ↔ ((v : Begun text) × (catalogue_verdict v.0 ≡ Refused refusal))
+    → ((lines_of text).verdict ≡ Err refusal) ↔ ((v : Begun text) × (catalogue_verdict v.0 ≡ Err refusal))
 lines-refused-value text refusal other = (of-value, λ v. begun-verdict text v.0 ∙ v.1)
   where
-    of-value : (lines_of text).verdict ≡ Refused refusal → (v : Begun text) × (catalogue_verdict v.0 ≡ Refused refusal)
+    of-value : (lines_of text).verdict ≡ Err refusal → (v : Begun text) × (catalogue_verdict v.0 ≡ Err refusal)
     of-value e =
         ⊎_elim
         (λ v. (v, sym (begun-verdict text v) ∙ e))

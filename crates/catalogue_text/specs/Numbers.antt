@@ -1,6 +1,6 @@
 -- The numbers that reading and writing catalogue text can give (document 01, 'Numbers a call can give'), for every input.
 use Rattle.std.specs.Prelude.{List, [], ◌∷◌, ◌++◌, ℕ}
-use Rattle.refusal.specs.declared.Outcome.{Outcome}
+use Rattle.refusal.specs.Verdicts.{Outcome}
 use Rattle.refusal.specs.Within.{Within, ValueWithin}
 use Rattle.catalogue.specs.declared.Catalogue.{Catalogue}
 use Rattle.catalogue.specs.Catalogue.{catalogue_numbers}

@@ -1,120 +1,89 @@
 // The lines of a catalogue's text that have a word behind their names: the first, of its code, and that of its sum. Read at their places, and
-// written.
-ghost use Rattle.std.specs.Prelude.{◌≡◌, ◌+◌, ◌≤◌, length};
-ghost use Rattle.lists.specs.Parts.{put};
+// as they are written.
+ghost use Rattle.std.specs.Prelude.{◌≡◌};
 ghost use Rattle.catalogue_text.specs.Text.{code_text, sum_text};
-ghost use Rattle.catalogue_text.specs.Parsing.{code_named, code_line, sum_named, sum_line};
+ghost use Rattle.catalogue_text.specs.Parsing.{code_line, sum_line};
 
 use catalogue::Code;
 use symbol::Operation;
 use text_lines::Line;
 
-// The first line of a catalogue: 0 for the short code, 1 for the even one, 2 for the turning one, 3 for the round one.
-pub fn code_line(text: &[u8]) -> Line
+// The first line of a catalogue, by its code.
+#[tactic(auto, unfolding(crate::specs::Parsing::code_line))]
+pub fn code_line(text: &[u8]) -> Option<Line<Code>>
     ensures { result ≡ code_line text.now }
 {
-    if text_lines::starts(b"code=short\n", text) {
-        return Line::Value { value: 0, next: 11 };
+    if text_lines::starts(code_text(Code::Short), text) {
+        return Some(Line {
+            value: Code::Short,
+            next: code_text(Code::Short).len(),
+        });
     }
-    if text_lines::starts(b"code=even\n", text) {
-        return Line::Value { value: 1, next: 10 };
+    if text_lines::starts(code_text(Code::Even), text) {
+        return Some(Line {
+            value: Code::Even,
+            next: code_text(Code::Even).len(),
+        });
     }
-    if text_lines::starts(b"code=turn\n", text) {
-        return Line::Value { value: 2, next: 10 };
+    if text_lines::starts(code_text(Code::Turn), text) {
+        return Some(Line {
+            value: Code::Turn,
+            next: code_text(Code::Turn).len(),
+        });
     }
-    if text_lines::starts(b"code=round\n", text) {
-        return Line::Value { value: 3, next: 11 };
+    if text_lines::starts(code_text(Code::Round), text) {
+        return Some(Line {
+            value: Code::Round,
+            next: code_text(Code::Round).len(),
+        });
     }
-    Line::Refused
+    None
 }
 
-// The code of a first line's value.
-pub fn code_named(value: usize) -> Code
-    ensures { result ≡ code_named value }
-{
-    if value == 0 {
-        return Code::Short;
-    }
-    if value == 1 {
-        return Code::Even;
-    }
-    if value == 2 { Code::Turn } else { Code::Round }
-}
-
-// The line of the sum at place `at`: 0 if no line of that name begins there, 1 for addition.
-pub fn sum_line(text: &[u8], at: usize) -> Line
+// The line of the sum at place `at`: exclusive or if no line of that name begins there.
+#[tactic(auto, unfolding(crate::specs::Parsing::sum_line))]
+pub fn sum_line(text: &[u8], at: usize) -> Option<Line<Operation>>
     ensures { result ≡ sum_line text.now at }
 {
     if text.len() < at {
-        return Line::Value { value: 0, next: at };
+        return Some(Line {
+            value: Operation::ExclusiveOr,
+            next: at,
+        });
     }
     if !text_lines::starts(b"sum=", &text[at..]) {
-        return Line::Value { value: 0, next: at };
+        return Some(Line {
+            value: Operation::ExclusiveOr,
+            next: at,
+        });
     }
-    if text_lines::starts(b"sum=add\n", &text[at..]) {
-        return Line::Value {
-            value: 1,
-            next: at + 8,
-        };
+    if text_lines::starts(sum_text(Operation::Addition), &text[at..]) {
+        return Some(Line {
+            value: Operation::Addition,
+            next: at + sum_text(Operation::Addition).len(),
+        });
     }
-    Line::Refused
+    None
 }
 
-// The sum of its line's value.
-pub fn sum_named(value: usize) -> Operation
-    ensures { result ≡ sum_named value }
-{
-    if value == 0 {
-        Operation::ExclusiveOr
-    } else {
-        Operation::Addition
-    }
-}
-
-// Writes the first line at the start, and gives the place after it.
-pub fn put_code(out: &mut [u8], code: Code) -> usize
-    requires { length (code_text code) ≤ length out.old }
-    ensures value { result ≡ length (code_text code) }
-    ensures out_after { out.new ≡ put 0 (code_text code) out.old }
+// The first line of a code.
+pub fn code_text(code: Code) -> &'static [u8]
+    ensures { result.now ≡ code_text code }
 {
     match code {
-        Code::Short => text_lines::put_bytes(out, 0, b"code=short\n"),
-        Code::Even => text_lines::put_bytes(out, 0, b"code=even\n"),
-        Code::Turn => text_lines::put_bytes(out, 0, b"code=turn\n"),
-        Code::Round => text_lines::put_bytes(out, 0, b"code=round\n"),
+        Code::Short => b"code=short\n",
+        Code::Even => b"code=even\n",
+        Code::Turn => b"code=turn\n",
+        Code::Round => b"code=round\n",
     }
 }
 
-// Writes the line of the sum from place `at` on, and gives the place after it.
-pub fn put_sum(out: &mut [u8], at: usize, sum: Operation) -> usize
-    requires { at + length (sum_text sum) ≤ length out.old }
-    ensures value { result ≡ at + length (sum_text sum) }
-    ensures out_after { out.new ≡ put at (sum_text sum) out.old }
+// The line of a sum; exclusive or has none.
+pub fn sum_text(sum: Operation) -> &'static [u8]
+    ensures { result.now ≡ sum_text sum }
 {
     match sum {
-        Operation::ExclusiveOr => at,
-        Operation::Addition => text_lines::put_bytes(out, at, b"sum=add\n"),
-    }
-}
-
-// The bytes of the first line.
-pub fn code_length(code: Code) -> usize
-    ensures { result ≡ length (code_text code) }
-{
-    match code {
-        Code::Short => 11,
-        Code::Even => 10,
-        Code::Turn => 10,
-        Code::Round => 11,
-    }
-}
-
-// The bytes of the line of the sum.
-pub fn sum_length(sum: Operation) -> usize
-    ensures { result ≡ length (sum_text sum) }
-{
-    match sum {
-        Operation::ExclusiveOr => 0,
-        Operation::Addition => 8,
+        Operation::ExclusiveOr => b"",
+        Operation::Addition => b"sum=add\n",
     }
 }

@@ -9,8 +9,7 @@ ghost use Rattle.scheme.specs.Asked.{place_naming};
 ghost use Rattle.codes.specs.Codes.{scheme_of};
 ghost use Rattle.codes.specs.Asked.{rows_of};
 
-use catalogue::{Catalogue, Code, Measured};
-use scheme::Place;
+use catalogue::{Catalogue, Code};
 
 // Whether a key of the right length has only entries that it may have.
 pub fn key_good(c: Catalogue, key: &[u8]) -> bool
@@ -18,8 +17,7 @@ pub fn key_good(c: Catalogue, key: &[u8]) -> bool
     requires key_len { length key.now ≡ (scheme_of c).sizes.key }
     ensures { result ≡ (scheme_of c).key_good key.now }
 {
-    let code = c.code;
-    match code {
+    match c.code {
         Code::Short => short_code::key_good(c.servers, key),
         Code::Even => even_key::key_good(c.servers, c.messages, key),
         Code::Turn => short_code::key_good(c.servers, key),
@@ -35,8 +33,7 @@ pub fn query(c: Catalogue, wanted: usize, server: usize, key: &[u8], out: &mut [
     requires c_in_bounds { (scheme_of c).sizes.query ≤ length out.old }
     ensures { out.new ≡ put 0 ((scheme_of c).query wanted server key.now) out.old }
 {
-    let code = c.code;
-    match code {
+    match c.code {
         Code::Short => short_code::query(c.servers, wanted, server, key, out),
         Code::Even => even_query::query(c.servers, c.messages, wanted, server, key, out),
         Code::Turn => turn_code::query(c.servers, wanted, server, key, out),
@@ -49,8 +46,7 @@ pub fn admits(c: Catalogue, server: usize, query: &[u8]) -> bool
     requires { Admitted c }
     ensures { result ≡ (scheme_of c).admits server query.now }
 {
-    let code = c.code;
-    match code {
+    match c.code {
         Code::Short => short_code::admits(c.servers, c.messages, server, query),
         Code::Even => even_admission::admits(c.servers, c.messages, server, query),
         Code::Turn => turn_code::admits(c.servers, c.messages, query),
@@ -63,9 +59,7 @@ fn slot(c: Catalogue) -> usize
     requires { Admitted c }
     ensures { result ≡ (scheme_of c).sizes.slot }
 {
-    let Measured::Of(sizes) = catalogue::sizes(c) else {
-        return 0;
-    };
+    let sizes = catalogue::sizes(c).unwrap();
     sizes.slot
 }
 
@@ -74,8 +68,7 @@ pub fn answer_length(c: Catalogue, query: &[u8]) -> usize
     requires { Admitted c }
     ensures { result ≡ (scheme_of c).answer_length query.now }
 {
-    let code = c.code;
-    match code {
+    match c.code {
         Code::Short => short_code::answer_length(c.symbol, query),
         Code::Even => slot(c),
         Code::Turn => short_code::answer_length(c.symbol, query),
@@ -90,8 +83,7 @@ pub fn expected_length(c: Catalogue, wanted: usize, server: usize, key: &[u8]) -
     requires valid { Valid (scheme_of c) key.now }
     ensures { result ≡ (scheme_of c).answer_length ((scheme_of c).query wanted server key.now) }
 {
-    let code = c.code;
-    match code {
+    match c.code {
         Code::Short => short_code::expected_length(c.servers, c.symbol, wanted, server, key),
         Code::Even => slot(c),
         Code::Turn => turn_code::expected_length(c.servers, c.symbol, wanted, server, key),
@@ -110,8 +102,7 @@ pub fn answer(c: Catalogue, server: usize, store: &[u8], query: &[u8], out: &mut
     ensures { out.new ≡ put 0 ((scheme_of c).answer store.now query.now) out.old }
 {
     let op = c.sum;
-    let code = c.code;
-    match code {
+    match c.code {
         Code::Short => short_code::answer(op, c.servers, c.messages, c.symbol, store, query, out),
         Code::Even => even_answer::answer(op, c.servers, c.messages, c.symbol, store, query, out),
         Code::Turn => short_code::answer(op, c.servers, c.messages, c.symbol, store, query, out),
@@ -120,14 +111,19 @@ pub fn answer(c: Catalogue, server: usize, store: &[u8], query: &[u8], out: &mut
 }
 
 // Where the answer to the row begins that names a symbol of a message, if a row of the query does, which `server` admits.
-pub fn locate(c: Catalogue, server: usize, query: &[u8], message: usize, symbol: usize) -> Place
+pub fn locate(
+    c: Catalogue,
+    server: usize,
+    query: &[u8],
+    message: usize,
+    symbol: usize,
+) -> Option<usize>
     requires admitted { Admitted c }
     requires query_value { (scheme_of c).admits server query.now ≡ true }
     requires message_lt_messages { (message < c.messages) × (symbol < (scheme_of c).sizes.symbols) }
     ensures { result ≡ place_naming c.symbol message symbol (rows_of c query.now) }
 {
-    let code = c.code;
-    match code {
+    match c.code {
         Code::Short => short_code::locate(c.symbol, query, message, symbol),
         Code::Even => even_locate::locate(c.servers, c.messages, c.symbol, query, message, symbol),
         Code::Turn => short_code::locate(c.symbol, query, message, symbol),
@@ -144,20 +140,18 @@ pub fn recover(c: Catalogue, wanted: usize, key: &[u8], answers: &[u8], message:
     ensures { message.new
         ≡ lay 0 (recover_in (scheme_of c) c.servers wanted key.now answers.now) message.old }
 {
-    let op = c.sum;
-    let code = c.code;
-    match code {
+    match c.code {
         Code::Short => short_code::recover(
-            op, c.servers, c.messages, c.symbol, wanted, key, answers, message,
+            c.sum, c.servers, c.messages, c.symbol, wanted, key, answers, message,
         ),
         Code::Even => even_recover::recover(
-            op, c.servers, c.messages, c.symbol, wanted, key, answers, message,
+            c.sum, c.servers, c.messages, c.symbol, wanted, key, answers, message,
         ),
         Code::Turn => turn_code::recover(
-            op, c.servers, c.messages, c.symbol, wanted, key, answers, message,
+            c.sum, c.servers, c.messages, c.symbol, wanted, key, answers, message,
         ),
         Code::Round => round_code::recover(
-            op, c.servers, c.messages, c.symbol, wanted, key, answers, message,
+            c.sum, c.servers, c.messages, c.symbol, wanted, key, answers, message,
         ),
     }
 }

@@ -1,5 +1,7 @@
 // The conformance program of corrections, line by line: each makes its call, or sets what later calls are given. It reads `stdin` and prints `stdout`, both
 // of which the second implementation writes.
+// Buffers are lent one by one: the borrow checker does not cover a struct of lent buffers of which one is lent on while another is read, and one of
+// arrays would ask more of callers.
 #![tactic(auto)]
 
 use trial_bytes::input::Line;
@@ -68,6 +70,7 @@ fn on_line(
 fn run(text: &[u8], store: &mut [u8], queries: &mut [u8], answers: &mut [u8], fresh: &mut [u8]) {
     let mut s = state::first();
     let mut at: usize = 0;
+    // A `while`: only the line that was read says where the next one begins.
     while at < text.len() {
         let line = input::line_at(text, at);
         s = on_line(s, line, text, store, queries, answers, fresh);

@@ -41,6 +41,7 @@ fn on_line(s: State, line: Line, text: &[u8], store: &mut [u8]) -> State {
 fn run(text: &[u8], store: &mut [u8]) {
     let mut s = state::first();
     let mut at: usize = 0;
+    // A `while`: only the line that was read says where the next one begins.
     while at < text.len() {
         let line = input::line_at(text, at);
         s = on_line(s, line, text, store);

@@ -7,7 +7,7 @@ use Prim.Native.Nat.{ℕ, ◌≤◌, ◌<◌}
 use borrow.Author.Tests.{le-leb, lt-leb, leb-false, eq-eqb, ne_eqb, eqb-true, not-false}
 use lib.Dec.{leb}
 use Rattle.lists.specs.Distinct.{stands}
-use Rattle.refusal.specs.declared.Verdict.TheVariants.{Accepted}
+use Rattle.refusal.specs.Verdicts.{accepted}
 use Rattle.refusal.specs.Chain.{refused}
 use Rattle.refusal.specs.Within.{Within}
 use Rattle.refusal.proofs.Within.{faults-within}
@@ -52,7 +52,7 @@ module _ (c : Catalogue) (server stored : ℕ) (query : List ℕ) (e : Edit) (sa
     pub inside : outside c e ≡ false
     pub saved-long : saved ≡ (scheme_of c).answer_length query
 
-  pub correct-passed : correct_verdict c server stored query e saved ≡ Accepted → Corrects
+  pub correct-passed : correct_verdict c server stored query e saved ≡ accepted → Corrects
   unfolding correct_verdict
   correct-passed v =
       let p = call-passed c _ v in
@@ -66,7 +66,7 @@ module _ (c : Catalogue) (server stored : ℕ) (query : List ℕ) (e : Edit) (sa
         saved-long = eqb-true saved ((scheme_of c).answer_length query) (not-false _ n.1.1.1.1.0);
       }
 
-  pub correct-accepted : Corrects → correct_verdict c server stored query e saved ≡ Accepted
+  pub correct-accepted : Corrects → correct_verdict c server stored query e saved ≡ accepted
   unfolding correct_verdict
   correct-accepted a =
       call-accepted c _ a.admitted (
@@ -87,32 +87,32 @@ module _ (c : Catalogue) (server stored : ℕ) (query : List ℕ) (e : Edit) (sa
   module _ (admitted : Admitted c) where
     pub server-refused : c.servers ≤ server → refused 3 ≡ correct_verdict c server stored query e saved
     unfolding correct_verdict
-    server-refused unknown = after-catalogue c _ refl Accepted _ (sym admitted) (rw (le-leb c.servers server unknown))
+    server-refused unknown = after-catalogue c _ refl accepted _ (sym admitted) (rw (le-leb c.servers server unknown))
 
     module _ (known : server < c.servers) where
       pub query-refused : (scheme_of c).admits server query ≡ false → refused 7 ≡ correct_verdict c server stored query e saved
       unfolding correct_verdict
-      query-refused bad = after-catalogue c _ refl Accepted _ (sym admitted) (rw (lt-leb c.servers server known, bad))
+      query-refused bad = after-catalogue c _ refl accepted _ (sym admitted) (rw (lt-leb c.servers server known, bad))
 
       module _ (good : (scheme_of c).admits server query ≡ true) where
         pub store-refused : (stored ≡ (scheme_of c).sizes.store → ⊥) → refused 8 ≡ correct_verdict c server stored query e saved
         unfolding correct_verdict
         store-refused other =
-            after-catalogue c _ refl Accepted _ (sym admitted)
+            after-catalogue c _ refl accepted _ (sym admitted)
             (rw (lt-leb c.servers server known, good, ne_eqb stored (scheme_of c).sizes.store other))
 
         module _ (whole : stored ≡ (scheme_of c).sizes.store) where
           pub edit-refused : outside c e ≡ true → refused 19 ≡ correct_verdict c server stored query e saved
           unfolding correct_verdict
           edit-refused out =
-              after-catalogue c _ refl Accepted _ (sym admitted)
+              after-catalogue c _ refl accepted _ (sym admitted)
               (rw (lt-leb c.servers server known, good, eq-eqb stored (scheme_of c).sizes.store whole, out))
 
           pub length-refused : outside c e ≡ false → (saved ≡ (scheme_of c).answer_length query → ⊥)
               → refused 10 ≡ correct_verdict c server stored query e saved
           unfolding correct_verdict
           length-refused inside other =
-              after-catalogue c _ refl Accepted _ (sym admitted)
+              after-catalogue c _ refl accepted _ (sym admitted)
               (rw (
                 lt-leb c.servers server known,
                 good,

@@ -1,7 +1,6 @@
 -- The two calls of a correction (document 02, item 13): the whole result, and the final bytes of the store and of the saved answer, for every input.
-use Rattle.std.specs.Prelude.{◌≡◌, Bool, not, ◌||◌, List, [], ◌∷◌, ◌++◌, ℕ, leb, eqb, length}
-use Rattle.refusal.specs.declared.Verdict.{Verdict}
-use Rattle.refusal.specs.declared.Verdict.TheVariants.{Accepted, Refused}
+use Rattle.std.specs.Prelude.{◌≡◌, Bool, not, ◌||◌, List, [], ◌∷◌, ◌++◌, ℕ, leb, eqb, length, Err, Ok}
+use Rattle.refusal.specs.Verdicts.{Verdict, accepted}
 use Rattle.refusal.specs.Foremost.{Fault, fault, foremost}
 use Rattle.catalogue.specs.declared.Catalogue.{Catalogue}
 use Rattle.catalogue.specs.Catalogue.{catalogue_faults, catalogue_numbers}
@@ -48,9 +47,9 @@ pub record DidCorrect (corrected : Corrected) (result : Verdict) (stored saved :
 
 -- refused, both stay
 abbrev pub correct_by : Catalogue → List ℕ → List ℕ → Edit → List ℕ → Verdict → Corrected
-correct_by c store query e answer Accepted =
-    record { verdict = Accepted; store = corrected_store c e store; answer = corrected_answer c e store query answer }
-correct_by c store query e answer (Refused refusal) = record { verdict = Refused refusal; store = store; answer = answer }
+correct_by c store query e answer (Ok _) =
+    record { verdict = accepted; store = corrected_store c e store; answer = corrected_answer c e store query answer }
+correct_by c store query e answer (Err refusal) = record { verdict = Err refusal; store = store; answer = answer }
 
 -- correcting c server store query edit answer
 unfoldable pub correcting : Catalogue → ℕ → List ℕ → List ℕ → Edit → List ℕ → Corrected

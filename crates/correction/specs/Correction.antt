@@ -1,6 +1,5 @@
 -- One corrected byte (document 02, item 13), over the code of each catalogue: the store after it, and a saved answer brought up to date.
 use Rattle.std.specs.Prelude.{ℕ, ◌+◌, ◌*◌, ◌<◌, List, get_or, set}
-use Rattle.lists.specs.Sums.{sum}
 use Rattle.symbol.specs.Operations.{sum_of}
 use Rattle.catalogue.specs.declared.Catalogue.{Catalogue}
 use Rattle.codes.specs.Codes.{scheme_of}

@@ -2,7 +2,7 @@
 // the one byte is read, of an answer the one word.
 #![tactic(auto)]
 
-ghost use Rattle.std.specs.Prelude.{◌≡◌, true, ◌<◌, min, length};
+ghost use Rattle.std.specs.Prelude.{◌≡◌, true, ◌<◌, length};
 ghost use Rattle.symbol.specs.Operations.{sum_of};
 ghost use Rattle.catalogue.specs.Catalogue.{Admitted};
 ghost use Rattle.codes.specs.Codes.{scheme_of};
@@ -12,9 +12,8 @@ ghost use Rattle.codes.specs.Asked.{rows_of};
 ghost use Rattle.correction.specs.Correction.{EditIn, place_of};
 ghost use Rattle.correction.specs.Calls.{outside_of, correct_verdict, DidCorrect, correcting, correcting_answer};
 
-use catalogue::{Catalogue, Measured};
-use refusal::{Refusal, Verdict};
-use scheme::Place;
+use catalogue::Catalogue;
+use refusal::Refusal;
 use symbol::Operation;
 
 // One corrected byte (02: pack, piece, byte of the piece, new value).
@@ -26,16 +25,6 @@ pub struct Edit {
     pub value: u8,
 }
 
-// The smaller of two numbers.
-fn smaller(a: usize, b: usize) -> usize
-    ensures { result ≡ min a b }
-{
-    if a <= b {
-        return a;
-    }
-    b
-}
-
 // Moves a symbol by the new value of one of its bytes, less the old one: of its bytes, the two of that word are looked at.
 fn move_symbol(op: Operation, byte: usize, new: u8, old: u8, part: &mut [u8])
     requires { byte < length part.old }
@@ -44,7 +33,7 @@ fn move_symbol(op: Operation, byte: usize, new: u8, old: u8, part: &mut [u8])
 {
     let offset = byte % 2;
     let at = byte / 2 * 2;
-    let size = smaller(2, part.len() - at);
+    let size = 2_usize.min(part.len() - at);
     let end = at + size;
     let shift = shift_of(op, offset, new, old);
     symbol::combine(op, &mut part[at..end], &shift[..size]);
@@ -73,12 +62,11 @@ fn update(c: Catalogue, server: usize, query: &[u8], edit: Edit, old: u8, answer
         ≡ moved (sum_of c.sum) c.symbol (place_naming c.symbol edit.message edit.symbol (rows_of c query.now))
         (shift_of (sum_of c.sum) c.symbol edit.byte edit.value old) answer.old }
 {
-    let Place::At(at) = codes::locate(c, server, query, edit.message, edit.symbol) else {
+    let Some(at) = codes::locate(c, server, query, edit.message, edit.symbol) else {
         return;
     };
-    let op = c.sum;
     let end = at + c.symbol;
-    move_symbol(op, edit.byte, edit.value, old, &mut answer[at..end]);
+    move_symbol(c.sum, edit.byte, edit.value, old, &mut answer[at..end]);
 }
 
 // The place of the edit's byte in the store.
@@ -87,9 +75,7 @@ fn place_of(c: Catalogue, edit: Edit) -> usize
     requires edit_in { EditIn c edit }
     ensures { result ≡ place_of c edit }
 {
-    let Measured::Of(sizes) = catalogue::sizes(c) else {
-        return 0;
-    };
+    let sizes = catalogue::sizes(c).unwrap();
     (edit.message * sizes.symbols + edit.symbol) * c.symbol + edit.byte
 }
 
@@ -97,13 +83,7 @@ fn place_of(c: Catalogue, edit: Edit) -> usize
 fn is_outside(messages: usize, symbols: usize, size: usize, edit: Edit) -> bool
     ensures { result ≡ outside_of messages symbols size edit }
 {
-    if messages <= edit.message {
-        return true;
-    }
-    if symbols <= edit.symbol {
-        return true;
-    }
-    size <= edit.byte
+    messages <= edit.message || symbols <= edit.symbol || size <= edit.byte
 }
 
 // Whether the byte is corrected, in a store of `stored` bytes, for a saved answer of `saved` bytes.
@@ -114,28 +94,26 @@ fn verdict(
     query: &[u8],
     edit: Edit,
     saved: usize,
-) -> Verdict
+) -> Result<(), Refusal>
     ensures { result ≡ correct_verdict c server stored query.now edit saved }
 {
-    let Measured::Of(sizes) = catalogue::sizes(c) else {
-        return catalogue::verdict(c);
-    };
+    let sizes = catalogue::sizes(c)?;
     if c.servers <= server {
-        return Verdict::Refused(Refusal::Server);
+        return Err(Refusal::Server);
     }
     if !codes::admits(c, server, query) {
-        return Verdict::Refused(Refusal::Query);
+        return Err(Refusal::Query);
     }
     if stored != sizes.store {
-        return Verdict::Refused(Refusal::StoreLength);
+        return Err(Refusal::StoreLength);
     }
     if is_outside(c.messages, sizes.symbols, c.symbol, edit) {
-        return Verdict::Refused(Refusal::EditPlace);
+        return Err(Refusal::EditPlace);
     }
     if saved != codes::answer_length(c, query) {
-        return Verdict::Refused(Refusal::AnswerLength);
+        return Err(Refusal::AnswerLength);
     }
-    Verdict::Accepted
+    Ok(())
 }
 
 // Brings a saved answer up to date with an edit, from the store as it was before the edit, which stays. An operator who has saved several answers corrects
@@ -148,17 +126,14 @@ pub fn correct_answer(
     query: &[u8],
     edit: Edit,
     answer: &mut [u8],
-) -> Verdict
+) -> Result<(), Refusal>
     ensures { DidCorrect (correcting_answer c server store.now query.now edit answer.old)
         result store.now answer.new }
 {
-    let told = verdict(c, server, store.len(), query, edit, answer.len());
-    if let Verdict::Refused(refusal) = told {
-        return Verdict::Refused(refusal);
-    }
+    verdict(c, server, store.len(), query, edit, answer.len())?;
     let old = store[place_of(c, edit)];
     update(c, server, query, edit, old, answer);
-    Verdict::Accepted
+    Ok(())
 }
 
 // Sets the edit's byte of the store and no other, and brings the saved answer up to date. Where several answers are saved, this is the last call.
@@ -169,16 +144,12 @@ pub fn correct(
     query: &[u8],
     edit: Edit,
     answer: &mut [u8],
-) -> Verdict
+) -> Result<(), Refusal>
     ensures { DidCorrect (correcting c server store.old query.now edit answer.old)
         result store.new answer.new }
 {
-    let told = verdict(c, server, store.len(), query, edit, answer.len());
-    if let Verdict::Refused(refusal) = told {
-        return Verdict::Refused(refusal);
-    }
+    correct_answer(c, server, store, query, edit, answer)?;
     let place = place_of(c, edit);
-    update(c, server, query, edit, store[place], answer);
     store[place] = edit.value;
-    Verdict::Accepted
+    Ok(())
 }

@@ -13,8 +13,7 @@ use lib.ListN.{length, get_or}
 use Rattle.lists.specs.Below.{Below}
 use Rattle.lists.specs.Sums.{sum}
 use Rattle.symbol.specs.Operations.{sum_of}
-use Rattle.scheme.specs.declared.Place.{Place}
-use Rattle.scheme.specs.declared.Place.TheVariants.{At}
+use Rattle.std.specs.Prelude.{Option, Some}
 use Rattle.scheme.specs.Asked.{cell_symbol, times_in, place_naming}
 use Rattle.scheme.proofs.Places.{place-within, place_found, placed-none}
 use Rattle.catalogue.specs.declared.Catalogue.{Catalogue}
@@ -32,7 +31,7 @@ use Rattle.correction_laws.proofs.Store.{only_one}
 use Rattle.correction_laws.proofs.Moved.{shift-difference, moved-fresh, moved-long, moved-there, rows_few}
 
 -- where the answer to the row that names the edit's symbol begins, if a row names it
-abbrev place_in : Catalogue → Edit → List ℕ → Place
+abbrev place_in : Catalogue → Edit → List ℕ → Option ℕ
 place_in c e query = place_naming c.symbol e.message e.symbol (rows_of c query)
 
 -- the new value less the old, which stands in the store
@@ -74,7 +73,7 @@ module _ (c : Catalogue) (admitted : Admitted c) (e : Edit) (store : List ℕ) w
 
   -- any answer of the length that the query calls for
   module _ (query answer : List ℕ) (long : length answer ≡ (scheme_of c).answer_length query) where
-    inside-answer : (at : ℕ) → place_in c e query ≡ At at → at + c.symbol ≤ length answer
+    inside-answer : (at : ℕ) → place_in c e query ≡ Some at → at + c.symbol ≤ length answer
     inside-answer at p =
         omega (arith, place-within c.symbol e.message e.symbol (rows_of c query) at p, long, (asks_of c admitted).lengths query)
 
@@ -88,7 +87,7 @@ module _ (c : Catalogue) (admitted : Admitted c) (e : Edit) (store : List ℕ) w
     unnamed-stays n =
         let low = ltb-false _ (sum (times_in e.message e.symbol) (rows_of c query)) n in
         let none : sum (times_in e.message e.symbol) (rows_of c query) ≡ 0 = omega (arith, low) in
-        ap (λ (place : Place). moved (sum_of c.sum) c.symbol place (shift_by c e store) answer)
+        ap (λ (place : Option ℕ). moved (sum_of c.sum) c.symbol place (shift_by c e store) answer)
         (placed-none c.symbol e.message e.symbol (rows_of c query) none)
 
     -- it does

@@ -2,8 +2,7 @@
 use mathlib.Core.Path.{◌≡◌, refl, sym, ap, ap₂, ◌∙◌, subst}
 use mathlib.Core.Bool.{not}
 use mathlib.Core.List.{List, [], ◌∷◌, ◌++◌}
-use Rattle.scheme.specs.declared.Place.{Place}
-use Rattle.scheme.specs.declared.Place.TheVariants.{At, Nowhere}
+use Rattle.std.specs.Prelude.{Option, Some, None}
 use Rattle.correction.specs.Moved.{shift_of, moved}
 use Rattle.correction_laws.specs.Few.{differing, most_moved}
 use Rattle.correction.proofs.Bytes.{behind-one, behind-two, as-symbol, shift-long, rest-stays}
@@ -116,11 +115,11 @@ put-differing at S bytes buffer h long =
       differing-none rest,
     )
 
-pub few-moved : (op : Operation) (S byte new old : ℕ) (answer : List ℕ) → Below 256 answer → (place : Place) → Within S place (length answer)
+pub few-moved : (op : Operation) (S byte new old : ℕ) (answer : List ℕ) → Below 256 answer → (place : Option ℕ) → Within S place (length answer)
     → differing answer (moved (sum_of op) S place (shift_of (sum_of op) S byte new old) answer) ≤ most_moved op
 unfolding moved
-few-moved op S byte new old answer bytes Nowhere h = omega (arith, differing-none answer)
-few-moved op S byte new old answer bytes (At at) h =
+few-moved op S byte new old answer bytes None h = omega (arith, differing-none answer)
+few-moved op S byte new old answer bytes (Some at) h =
     let inside : at + S ≤ length answer = h at refl in
     let part = cut at S answer in
     let long : length part ≡ S = cut-length at S answer inside in

@@ -4,8 +4,7 @@
 use mathlib.Core.Path.{◌≡◌, refl, sym, ap, ap₂, ◌∙◌}
 use mathlib.Core.Bool.{true}
 use mathlib.Core.List.{List}
-use Rattle.scheme.specs.declared.Place.{Place}
-use Rattle.scheme.specs.declared.Place.TheVariants.{At, Nowhere}
+use Rattle.std.specs.Prelude.{Option, Some, None}
 use Rattle.scheme.specs.Asked.{Cell, cell_symbol, rows_answer, is_cell, times_in, place_naming}
 use Rattle.correction.specs.Moved.{lone, shift_of, moved}
 use Rattle.correction_laws.specs.Few.{differing, most_moved}
@@ -114,19 +113,19 @@ module _ (op : Operation) (S byte new old : ℕ) (answer : List ℕ) where
   abbrev by-shift : List ℕ
   by-shift = shift_of (sum_of op) S byte new old
 
-  abbrev after-move : Place → List ℕ
+  abbrev after-move : Option ℕ → List ℕ
   after-move at = moved (sum_of op) S at (shift_of (sum_of op) S byte new old) answer
 
   part-long : (at : ℕ) → at + S ≤ length answer → length ((sum_of op).plus (cut at S answer) by-shift) ≡ S
   part-long at h = (group_of op S).plus-length (cut at S answer) by-shift (cut-length at S answer h) (shift-long op S byte new old)
 
-  pub moved-long : (at : Place) → Within S at (length answer) → length (after-move at) ≡ length answer
+  pub moved-long : (at : Option ℕ) → Within S at (length answer) → length (after-move at) ≡ length answer
   unfolding moved
-  moved-long Nowhere h = refl
-  moved-long (At at) h =
+  moved-long None h = refl
+  moved-long (Some at) h =
       put-length at ((sum_of op).plus (cut at S answer) by-shift) answer (omega (arith, part-long at (h at refl), h at refl))
 
-  pub moved-there : (at : ℕ) → at + S ≤ length answer → MovedAt (sum_of op) S at by-shift answer (after-move (At at))
+  pub moved-there : (at : ℕ) → at + S ≤ length answer → MovedAt (sum_of op) S at by-shift answer (after-move (Some at))
   unfolding moved
   moved-there at h =
       let part = (sum_of op).plus (cut at S answer) by-shift in

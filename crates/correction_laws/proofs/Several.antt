@@ -17,7 +17,7 @@ use Rattle.lists.specs.Distinct.{stands, distinct, is_permutation}
 use Rattle.lists.proofs.Arranged.{permutation-facts, permutation-tests, covers}
 use Rattle.lists.proofs.Both.{both_true}
 use Rattle.lists.proofs.Distinct.{stands_at}
-use Rattle.refusal.specs.declared.Verdict.TheVariants.{Accepted}
+use Rattle.refusal.specs.Verdicts.{accepted}
 use Rattle.catalogue.specs.declared.Catalogue.{Catalogue}
 use Rattle.codes.proofs.Promises.{promises}
 use Rattle.correction.specs.declared.Edit.{Edit}
@@ -112,7 +112,7 @@ module _ (c : Catalogue) (e : Edit) (store : List ℕ) where
 
   -- a call for this answer is accepted
   abbrev pub Taken : Saved → Type 0
-  Taken one = correct_verdict c one.server (length store) one.query e (length one.answer) ≡ Accepted
+  Taken one = correct_verdict c one.server (length store) one.query e (length one.answer) ≡ accepted
 
   abbrev call-done : Saved → Type 0
   call-done one =
@@ -121,7 +121,7 @@ module _ (c : Catalogue) (e : Edit) (store : List ℕ) where
 
   taken-done : (one : Saved) → Taken one → call-done one
   taken-done one taken =
-      let did = correct-done c one.server store one.query e one.answer Accepted (sym taken) (corrected_store c e store)
+      let did = correct-done c one.server store one.query e one.answer accepted (sym taken) (corrected_store c e store)
       (corrected_answer c e store one.query one.answer) refl refl refl in
       (sym did.store, sym did.answer)
 

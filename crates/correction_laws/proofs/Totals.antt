@@ -2,8 +2,7 @@
 use mathlib.Core.Path.{◌≡◌, refl, sym, ap, ap₂, ◌∙◌}
 use mathlib.Core.Bool.{Bool, true, false, not, cond}
 use mathlib.Core.List.{List, ◌∷◌, ◌++◌, map, flat_map}
-use Rattle.scheme.specs.declared.Place.{Place}
-use Rattle.scheme.specs.declared.Place.TheVariants.{At, Nowhere}
+use Rattle.std.specs.Prelude.{Option, Some, None}
 use Rattle.scheme.specs.Asked.{Cell, rows_total, is_cell, times_in, later, place_naming}
 use Rattle.correction.specs.Moved.{moved}
 use Rattle.lists.proofs.Places.{cut_later, put-later}
@@ -90,10 +89,10 @@ module _ (by : Sum) (S : ℕ) (group : AbelianGroup by S) (before after : Cell �
         ∙ ap (λ (l : List ℕ). by.plus first shift ++ l)
         (drop_at first rest (length (by.plus first shift)) (long ∙ sym (group.plus-length first shift long changed.shift-symbol.long)))
 
-    moved_later : (place : Place) → first ++ moved by S place shift rest ≡ moved by S (later S place) shift (first ++ rest)
+    moved_later : (place : Option ℕ) → first ++ moved by S place shift rest ≡ moved by S (later S place) shift (first ++ rest)
     unfolding moved
-    moved_later Nowhere = refl
-    moved_later (At at) =
+    moved_later None = refl
+    moved_later (Some at) =
         sym (ap (λ (x : List ℕ). put (S + at) (by.plus x shift) (first ++ rest)) (cut_later S first rest long at S)
         ∙ put-later S first rest long at (by.plus (cut at S rest) shift))
 
@@ -106,7 +105,7 @@ module _ (by : Sum) (S : ℕ) (group : AbelianGroup by S) (before after : Cell �
     where
       go : (t : Bool) → eqb (times_in p i cells) 0 ≡ t → rows_total by S after rows ≡ moved by S (place_naming S p i rows) shift (rows_total by S before rows)
           → total by S (map after cells) ++ rows_total by S after rows
-          ≡ moved by S (cond (not t) (At 0) (later S (place_naming S p i rows))) shift (total by S (map before cells) ++ rows_total by S before rows)
+          ≡ moved by S (cond (not t) (Some 0) (later S (place_naming S p i rows))) shift (total by S (map before cells) ++ rows_total by S before rows)
       go true e ih =
           ap₂ (λ (x y : List ℕ). x ++ y) (ap (total by S) (row_same a (eqb-true (times_in p i cells) 0 e))) ih
           ∙ moved_later (total by S (map before cells)) (rows_total by S before rows) (total-long a) (place_naming S p i rows)

@@ -2,9 +2,7 @@
 use mathlib.Core.Path.{◌≡◌, refl, sym, ◌∙◌}
 use mathlib.Core.Bool.{Bool, true, false, ◌&&◌}
 use mathlib.Core.List.{List, zip_with}
-use Prim.Native.Nat.{ℕ, ◌-◌, ◌*◌, ◌^◌, ◌≤◌, ◌<◌}
-use native.Mathlib.Nat.{pow-le-pow_right}
-use native.Mathlib.Omega.{arith}
+use Prim.Native.Nat.{ℕ, ◌-◌, ◌*◌, ◌^◌}
 use borrow.Author.Tests.{eq-eqb}
 use lib.ListN.{length, take, replicate}
 use Rattle.lists.specs.Below.{all_below}
@@ -12,7 +10,7 @@ use Rattle.lists.specs.Distinct.{distinct}
 use Rattle.lists.specs.Padded.{padded}
 use Rattle.lists.specs.Ranges.{every}
 use Rattle.lists.proofs.Below.{all_below-below}
-use Rattle.lists.proofs.Cuts.{front-is, front_fits}
+use Rattle.lists.proofs.Cuts.{front-is}
 use Rattle.even_places.specs.Rule.{positions}
 use Rattle.even_places.proofs.Positions.{positions-length, positions-below}
 use Rattle.even_scheme.specs.Even.{numbers_of, even_admits}
@@ -20,26 +18,11 @@ use Rattle.even_sets.specs.Sets.{LayoutBounds}
 use Rattle.even_admission.specs.Cells.{cell_of}
 use Rattle.even_admission.proofs.Fresh.{distinct-cells}
 
-pub power-less : (N K : ℕ) → LayoutBounds N K → N ^ (K - 1) ≤ 256
-power-less N K bounds =
-    omega (
-      arith,
-      pow-le-pow_right {n = N} (let w : 0 < N = omega (arith, bounds.servers-low) in w)
-          (let w : K - 1 ≤ K = omega arith in w),
-      bounds.symbols-high,
-    )
-
 -- the positions of a query of the right length, from the table
 pub positions-front : (N K : ℕ) (table query : List ℕ) → LayoutBounds N K → table ≡ padded 1024 (positions N K) → length query ≡ K * N ^ (K - 1)
     → take (length query) table ≡ positions N K
 positions-front N K table query bounds e f =
     front-is (length query) table (positions N K) (replicate (1024 - length (positions N K)) 0) e
-    (positions-length N K bounds.servers-low bounds.messages-low ∙ sym f)
-
-pub positions-fit : (N K : ℕ) (table query : List ℕ) → LayoutBounds N K → table ≡ padded 1024 (positions N K) → length query ≡ K * N ^ (K - 1)
-    → length query ≤ length table
-positions-fit N K table query bounds e f =
-    front_fits (length query) table (positions N K) (replicate (1024 - length (positions N K)) 0) e
     (positions-length N K bounds.servers-low bounds.messages-low ∙ sym f)
 
 -- the pass over a query of the right length decides

@@ -6,13 +6,11 @@ use mathlib.Core.Bool.{Bool, true, false, not, ◌&&◌, ◌||◌}
 use mathlib.Core.List.{List, [], ◌∷◌, map, zip, zip_with}
 use Prim.Native.Nat.{ℕ, suc, ◌+◌, ◌*◌, ◌/◌, ◌≤◌, ◌<◌}
 use native.Mathlib.Nat.{mul-le-mul, le_of_suc-le-suc}
-use native.Mathlib.Numerals.{add-one}
 use native.Mathlib.Omega.{arith}
 use borrow.Author.Tests.{lt-ltb, le-ltb, eqb-true, eqb-false, eq-eqb, ne_eqb}
 use lib.Arith.{digits_div}
 use lib.Dec.{eqb}
-use lib.ListN.{length, get_or, set, replicate, drop, drop_of_length-le}
-use lib.Seq.{drop-cons}
+use lib.ListN.{length, get_or, set, replicate}
 use Rattle.lists.specs.Below.{all_below, Below}
 use Rattle.lists.specs.Distinct.{stands, distinct}
 use Rattle.lists.specs.Pairs.{under}
@@ -35,37 +33,33 @@ fresh_start size count messages numbers = ap (λ (t : Bool). all_below size numb
 pub cell_room : (size p x : ℕ) → size ≤ 256 → p < 8 → x < size → cell_of size p x < 2048
 cell_room size p x h l m = omega (arith, mul-le-mul (le_of_suc-le-suc l) h)
 
-module _ (size : ℕ) (marks : List Bool) (messages numbers : List ℕ) (i : ℕ) (h : i < length numbers) (same : length messages ≡ length numbers) where
-  pub fresh-high : size ≤ get_or numbers i 0 → fresh size marks (drop i messages) (drop i numbers) ≡ false
+-- the next number, x for message p
+module _ (size : ℕ) (marks : List Bool) (p x : ℕ) (messages numbers : List ℕ) where
+  pub fresh-high : size ≤ x → fresh size marks (p ∷ messages) (x ∷ numbers) ≡ false
   unfolding fresh all_below
-  fresh-high high = rw (drop-cons numbers i 0 h, le-ltb (get_or numbers i 0) size high)
+  fresh-high high = rw (le-ltb x size high)
 
-  pub fresh-marked : get_or numbers i 0 < size → get_or marks (cell_of size (get_or messages i 0) (get_or numbers i 0)) false ≡ true
-      → fresh size marks (drop i messages) (drop i numbers) ≡ false
+  pub fresh-marked : x < size → get_or marks (cell_of size p x) false ≡ true → fresh size marks (p ∷ messages) (x ∷ numbers) ≡ false
   unfolding fresh all_below unmarked zip_with
-  fresh-marked low marked =
-      rw (drop-cons numbers i 0 h, drop-cons messages i 0 (omega arith), lt-ltb (get_or numbers i 0) size low, marked)
-      (last (all_below size (drop (suc i) numbers)))
+  fresh-marked low marked = rw (lt-ltb x size low, marked) (last (all_below size numbers))
     where
       last : (t : Bool) → t && false ≡ false
       last true = refl
       last false = refl
 
-  pub fresh-more : get_or numbers i 0 < size → cell_of size (get_or messages i 0) (get_or numbers i 0) < length marks
-      → get_or marks (cell_of size (get_or messages i 0) (get_or numbers i 0)) false ≡ false
-      → fresh size marks (drop i messages) (drop i numbers)
-      ≡ fresh size (set marks (cell_of size (get_or messages i 0) (get_or numbers i 0)) true) (drop (i + 1) messages) (drop (i + 1) numbers)
+  pub fresh-more : x < size → cell_of size p x < length marks → get_or marks (cell_of size p x) false ≡ false
+      → fresh size marks (p ∷ messages) (x ∷ numbers) ≡ fresh size (set marks (cell_of size p x) true) messages numbers
   unfolding fresh all_below unmarked zip_with
   fresh-more low inside left =
-      let cell = cell_of size (get_or messages i 0) (get_or numbers i 0) in
-      let cells = zip_with (cell_of size) (drop (suc i) messages) (drop (suc i) numbers) in
-      rw (add-one i, drop-cons numbers i 0 h, drop-cons messages i 0 (omega arith), lt-ltb (get_or numbers i 0) size low, left)
-      (ap (λ (t : Bool). all_below size (drop (suc i) numbers) && t) (sym (unmarked-set marks cell cells inside)))
+      rw (lt-ltb x size low, left)
+      (ap (λ (t : Bool). all_below size numbers && t) (sym (unmarked-set marks (cell_of size p x) (zip_with (cell_of size) messages numbers) inside)))
 
-pub fresh-end : (size : ℕ) (marks : List Bool) (messages numbers : List ℕ) (i : ℕ) → length numbers ≤ i → length messages ≡ length numbers
-    → fresh size marks (drop i messages) (drop i numbers) ≡ true
+pub fresh-end : (size : ℕ) (marks : List Bool) (messages numbers : List ℕ) → length messages ≡ 0 → length numbers ≡ 0
+    → fresh size marks messages numbers ≡ true
 unfolding fresh all_below unmarked zip_with
-fresh-end size marks messages numbers i h same = rw (drop_of_length-le numbers h, drop_of_length-le messages {i = i} (omega arith))
+fresh-end size marks [] [] h k = refl
+fresh-end size marks [] (x ∷ numbers) h k = absurd (let w : ⊥ = omega arith in w)
+fresh-end size marks (p ∷ messages) numbers h k = absurd (let w : ⊥ = omega arith in w)
 
 cell_apart : (size p q x y : ℕ) → x < size → y < size → cell_of size p x ≡ cell_of size q y → p ≡ q
 cell_apart size p q x y h k e = sym (digits_div p h) ∙ ap (λ (n : ℕ). n / size) e ∙ digits_div q k

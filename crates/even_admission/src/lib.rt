@@ -15,18 +15,16 @@ fn all_fresh(size: usize, messages: &[u8], numbers: &[u8]) -> bool
     ensures { result ≡ all_below size numbers.now && distinct (zip_with (cell_of size) messages.now numbers.now) }
 {
     let mut marks = [false; 2048];
-    let mut i = 0;
-    while i < numbers.len() {
-        let number = numbers[i] as usize;
+    for (message, number) in messages.iter().zip(numbers) {
+        let number = *number as usize;
         if size <= number {
             return false;
         }
-        let cell = messages[i] as usize * size + number;
+        let cell = *message as usize * size + number;
         if marks[cell] {
             return false;
         }
         marks[cell] = true;
-        i += 1;
     }
     true
 }

@@ -1,27 +1,24 @@
--- One turn of each loop of the answering end: what it reads, what it writes, and what is left after it: `symbol-turn`, `row-turn`,
+-- One turn of each loop of the answering end: what it reads, what it writes, and what is left after it: `symbol-turn`, `row_done`,
 -- `set-turn`.
 use mathlib.Core.Path.{◌≡◌, refl, sym, ap, ap₂, ◌∙◌}
 use mathlib.Core.Bool.{Bool}
-use mathlib.Core.List.{List, [], ◌++◌, map}
+use mathlib.Core.List.{List, [], ◌++◌}
 use Prim.Native.Nat.{ℕ, suc, ◌+◌, ◌-◌, ◌*◌, ◌/◌, ◌%◌, ◌^◌, ◌≤◌, ◌<◌}
-use native.Mathlib.Nat.{suc-mul, one-mul}
+use native.Mathlib.Nat.{suc-mul}
 use native.Mathlib.Numerals.{add-one}
 use native.Mathlib.Omega.{arith}
 use lib.Count.{ones as count}
 use lib.ListN.{length, get_or, drop, replicate, length-append, length-drop}
 use Rattle.lists.specs.Below.{Below}
-use Rattle.lists.specs.Padded.{padded}
 use Rattle.lists.specs.Parts.{put}
 use Rattle.lists.proofs.Below.{below-drop}
-use Rattle.lists.proofs.Cuts.{slot-end}
 use Rattle.lists.proofs.Writing.{Pending, pending-part, pending-as}
 use Rattle.symbol.specs.Sum.{Sum}
 use Rattle.symbol.specs.Group.{KeepsLength, AbelianGroup}
-use Rattle.even_places.specs.Rule.{byte_of, ones_in, all_sets}
+use Rattle.even_places.specs.Rule.{ones_in, all_sets}
 use Rattle.even_scheme.specs.Even.{row_answer, row_answers, even_answer}
 use Rattle.even_sets.specs.Sets.{set_in, rows_of}
-use Rattle.even_sets.proofs.Fits.{layout-fits}
-use Rattle.even_sets.proofs.SetBytes.{set_in-length, byte_at}
+use Rattle.even_sets.proofs.SetBytes.{SetByte, set_in-length}
 use Rattle.even_layout.proofs.Bytes.{members_from, members_kept}
 use Rattle.even_layout.proofs.Tables.{positions_from}
 use Rattle.even_answer.specs.Answering.{Answerable, SetAnswerable}
@@ -48,27 +45,6 @@ symbol-turn {N} {K} {S} {set} {symbols} {store} {numbers} p taken rest given e h
       room = symbol-room N K S store given.whole symbols p (get_or numbers taken 0) e h below;
       left = omega arith;
     }
-
--- a row of a set has its numbers, and its part of the buffer
-pub record RowTurn (S set row : ℕ) (numbers : List ℕ) (size : ℕ) : Type 0 where
-  pub read : row * count set + count set ≤ length numbers
-  pub written : row * S + S ≤ size
-
-pub row-turn : {N K S set rows size : ℕ} {store numbers : List ℕ} (row : ℕ) → SetAnswerable N K S store set rows numbers → rows * S ≤ size → row < rows
-    → RowTurn S set row numbers size
-row-turn {N} {K} {S} {set} {rows} {size} {store} {numbers} row given room h =
-    record { read = omega (arith, slot-end row rows (count set) h, given.enough); written = omega (arith, slot-end row rows S h) }
-
-pub row-given : {N K S set rows size : ℕ} {store numbers : List ℕ} {row : ℕ} → SetAnswerable N K S store set rows numbers → RowTurn S set row numbers size
-    → SetAnswerable N K S store set 1 (drop (row * count set) numbers)
-row-given {N} {K} {S} {set} {rows} {size} {store} {numbers} {row} given turn = record {
-  fits = given.fits;
-  whole = given.whole;
-  named = below-drop (N ^ K) (row * count set) numbers given.named;
-  some = given.some;
-  inside = given.inside;
-  enough = omega (arith, one-mul (count set), length-drop (row * count set) numbers, turn.read);
-}
 
 module _ {sum : Sum} {N K S set rows : ℕ} {store numbers : List ℕ} (group : AbelianGroup sum S) (given : SetAnswerable N K S store set rows numbers)
     (bytes : Below 256 store) where
@@ -100,15 +76,13 @@ pub record SetTurn (sum : Sum) (N K S : ℕ) (store query buffer : List ℕ) (i 
       (row_answers sum N K S store (rows_from N K (i + 1)) (drop (at + rows * count set) query))
       (put end (row_answers sum N K S store (replicate rows (set_in K set)) (drop at query)) out)
 
-pub set-turn : {sum : Sum} {N K S end rows : ℕ} {store query buffer out table : List ℕ} (i at : ℕ) → KeepsLength sum.plus S
-    → Answerable N K S store query buffer → table ≡ padded 256 (map byte_of (all_sets K)) → i < length (all_sets K)
-    → rows ≡ (N - 1) ^ (count (get_or table i 0) - 1) → at + length (positions_from N K i) ≡ length query
+pub set-turn : {sum : Sum} {N K S end set rows : ℕ} {store query buffer out : List ℕ} (i at : ℕ) → KeepsLength sum.plus S
+    → Answerable N K S store query buffer → SetByte N K set (get_or (all_sets K) i []) → i < length (all_sets K)
+    → rows ≡ (N - 1) ^ (count set - 1) → at + length (positions_from N K i) ≡ length query
     → Pending 0 (even_answer sum N K S store query) buffer end (row_answers sum N K S store (rows_from N K i) (drop at query)) out
-    → SetTurn sum N K S store query buffer i at end (get_or table i 0) rows out
-set-turn {sum} {N} {K} {S} {end} {rows} {store} {query} {buffer} {out} {table} i at keeps given e h called read p =
+    → SetTurn sum N K S store query buffer i at end set rows out
+set-turn {sum} {N} {K} {S} {end} {set} {rows} {store} {query} {buffer} {out} i at keeps given b h called read p =
     let A = get_or (all_sets K) i [] in
-    let set = get_or table i 0 in
-    let b = byte_at N K i table _ (layout-fits N K S given.fits) e h in
     let many : rows ≡ rows_of N A = called ∙ b.rows in
     let taken : rows * count set ≡ rows_of N A * ones_in A = ap₂ (λ (x y : ℕ). x * y) many b.counted in
     let numbers = numbers_more N K i h in

@@ -12,12 +12,10 @@ fn permutations_good(size: usize, k: usize, key: &[u8]) -> bool
     requires { length key.now ≡ k * size }
     ensures { result ≡ every k (λ p. is_permutation size (cut (p * size) size key.now)) }
 {
-    let mut p = 0;
-    while p < k {
+    for p in 0..k {
         if !permutation::is_permutation(size, &key[p * size..p * size + size]) {
             return false;
         }
-        p += 1;
     }
     true
 }

@@ -17,14 +17,12 @@ fn write_members(k: usize, set: u8, out: &mut [u8], at: usize) -> usize
 {
     let mut rest = set;
     let mut end = at;
-    let mut p = 0;
-    while p < k {
+    for p in 0..k {
         if rest % 2 == 1 {
             out[end] = p as u8;
             end += 1;
         }
         rest /= 2;
-        p += 1;
     }
     end
 }
@@ -36,10 +34,8 @@ fn write_rows(k: usize, set: u8, count: usize, out: &mut [u8], at: usize) -> usi
         × (out.new ≡ put at (flat_map (members 0) (replicate count (set_in k set))) out.old) }
 {
     let mut end = at;
-    let mut i = 0;
-    while i < count {
+    for _ in 0..count {
         end = write_members(k, set, out, end);
-        i += 1;
     }
     end
 }
@@ -53,11 +49,8 @@ pub fn positions(n: usize, k: usize) -> [u8; 1024]
     let count = parameters::power(2, k) - 1;
     let mut out = [0u8; 1024];
     let mut at = 0;
-    let mut i = 0;
-    while i < count {
-        let set = sets[i];
+    for &set in &sets[..count] {
         at = write_rows(k, set, even_sets::rows_of(n, set), &mut out, at);
-        i += 1;
     }
     out
 }
@@ -71,12 +64,9 @@ pub fn first_rows(n: usize, k: usize) -> [usize; 256]
     let count = parameters::power(2, k) - 1;
     let mut firsts = [0usize; 256];
     let mut row = 0;
-    let mut i = 0;
-    while i < count {
-        let set = sets[i];
+    for &set in &sets[..count] {
         firsts[set as usize] = row;
         row += even_sets::rows_of(n, set);
-        i += 1;
     }
     firsts
 }

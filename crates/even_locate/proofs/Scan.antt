@@ -1,25 +1,25 @@
 -- The rows that are left decide where a symbol is named, row by row (`row_next`) and set by set (`set_next`).
 use mathlib.Core.Path.{◌≡◌, refl, sym, ap, ap₂, ◌∙◌}
 use mathlib.Core.Bool.{Bool, true, false, not, cond}
-use mathlib.Core.List.{List, [], ◌∷◌, ◌++◌, map, zip, zip_with}
+use mathlib.Core.List.{List, [], ◌∷◌, ◌++◌, map, append-nil, zip, zip_with}
 use Prim.Native.Nat.{ℕ, zero, suc, ◌+◌, ◌-◌, ◌*◌, ◌/◌, ◌%◌, ◌^◌, ◌<◌}
 use native.Mathlib.Nat.{zero-mul, suc-mul, add-mul}
 use native.Mathlib.Numerals.{add-one}
 use native.Mathlib.Omega.{arith}
 use borrow.Author.Tests.{eq-eqb, ne_eqb}
 use lib.Count.{ones as count}
-use lib.ListN.{length, get_or, drop, replicate, length-append, length-replicate}
-use lib.Seq.{drop-cons, drop-drop}
+use lib.ListN.{length, get_or, take, drop, replicate, length-append, length-map, length-replicate}
+use lib.Seq.{drop-cons, drop-drop, take-append_seam}
 use Rattle.lists.specs.Padded.{padded}
 use Rattle.lists.specs.Sums.{bit, sum}
 use Rattle.even_places.specs.Rule.{byte_of, ones_in, members, all_sets, layout}
 use Rattle.even_sets.specs.Sets.{LayoutBounds, set_in, rows_of}
+use Rattle.even_sets.proofs.Blocks.{all-bytes}
 use Rattle.even_sets.proofs.SetBytes.{byte_at}
 use Rattle.even_layout.proofs.Bytes.{members_from, members_kept}
 use Rattle.even_layout.proofs.Tables.{positions_from}
 use Rattle.even_layout.proofs.RowRuns.{rows_from, rows_more, numbers_more}
-use Rattle.scheme.specs.declared.Place.{Place}
-use Rattle.scheme.specs.declared.Place.TheVariants.{At}
+use Rattle.std.specs.Prelude.{Option, Some}
 use Rattle.scheme.specs.Asked.{Cell, is_cell, times_in, named_in, later, place_naming}
 use Rattle.even_scheme.specs.Asked.{set_rows}
 use Rattle.even_scheme.proofs.Asks.{sets-many}
@@ -48,14 +48,14 @@ no_cells m y numbers = refl
 -- one row more
 pub row_next : (S p i : ℕ) (A : List Bool) (rows row size : ℕ) (numbers : List ℕ) → row < rows → ones_in A ≡ size
     → place_naming S p i (set_rows (replicate (rows - row) A) (drop (row * size) numbers))
-    ≡ cond (named_in p i (zip (members 0 A) (drop (row * size) numbers))) (At 0)
+    ≡ cond (named_in p i (zip (members 0 A) (drop (row * size) numbers))) (Some 0)
     (later S (place_naming S p i (set_rows (replicate (rows - (row + 1)) A) (drop ((row + 1) * size) numbers))))
 unfolding place_naming set_rows
 row_next S p i A rows row size numbers h e =
     let many : rows - row ≡ suc (rows - (row + 1)) = omega arith in
     let next : row * size + ones_in A ≡ (row + 1) * size = omega (arith, e, suc-mul row size, ap (λ (n : ℕ). n * size) (add-one row)) in
     ap (λ (n : ℕ). place_naming S p i (set_rows (replicate n A) (drop (row * size) numbers))) many
-    ∙ ap (λ (l : List ℕ). cond (named_in p i (zip (members 0 A) (drop (row * size) numbers))) (At 0)
+    ∙ ap (λ (l : List ℕ). cond (named_in p i (zip (members 0 A) (drop (row * size) numbers))) (Some 0)
     (later S (place_naming S p i (set_rows (replicate (rows - (row + 1)) A) l))))
     (drop-drop (ones_in A) (row * size) numbers ∙ ap (λ (n : ℕ). drop n numbers) next)
 
@@ -106,12 +106,22 @@ pub record Turn (N K S : ℕ) (query : List ℕ) (i at end set rows : ℕ) : Typ
   pub read : at + rows * count set + length (positions_from N K (i + 1)) ≡ length query
   pub placed : end + rows * S + length (rows_from N K (i + 1)) * S ≡ length (layout N K) * S
 
-pub set-turn : (N K S : ℕ) (query table : List ℕ) (i at end rows : ℕ) → LayoutBounds N K → table ≡ padded 256 (map byte_of (all_sets K)) → i < length (all_sets K)
+-- what is gone over of the table
+pub sets-taken : (K power : ℕ) (table : List ℕ) → power ≡ 2 ^ K → table ≡ padded 256 (map byte_of (all_sets K)) → take (power - 1) table ≡ map byte_of (all_sets K)
+sets-taken K power table e made =
+    let bytes = map byte_of (all_sets K) in
+    ap₂ (λ (n : ℕ) (l : List ℕ). take n l) (sym (all-bytes K power e)) made ∙ take-append_seam bytes (replicate (256 - length bytes) 0)
+
+pub sets-counted : (K power : ℕ) (table : List ℕ) → power ≡ 2 ^ K → table ≡ padded 256 (map byte_of (all_sets K))
+    → length (take (power - 1) table) ≡ length (all_sets K)
+sets-counted K power table e made = ap length (sets-taken K power table e made) ∙ length-map (all_sets K) byte_of
+
+pub set-turn : (N K S : ℕ) (query table : List ℕ) (i at end rows : ℕ) → LayoutBounds N K → table ≡ map byte_of (all_sets K) → i < length (all_sets K)
     → rows ≡ (N - 1) ^ (count (get_or table i 0) - 1) → at + length (positions_from N K i) ≡ length query
     → end + length (rows_from N K i) * S ≡ length (layout N K) * S → Turn N K S query i at end (get_or table i 0) rows
 set-turn N K S query table i at end rows bounds e h called read placed =
     let A = get_or (all_sets K) i [] in
-    let b = byte_at N K i table _ bounds e h in
+    let b = byte_at N K i table [] bounds (e ∙ sym (append-nil (map byte_of (all_sets K)))) h in
     let many : rows ≡ rows_of N A = called ∙ b.rows in
     let taken : rows * count (get_or table i 0) ≡ rows_of N A * ones_in A = ap₂ (λ (x y : ℕ). x * y) many b.counted in
     let more : length (rows_from N K i) * S ≡ rows * S + length (rows_from N K (i + 1)) * S =
@@ -128,13 +138,13 @@ set-turn N K S query table i at end rows bounds e h called read placed =
     }
 
 -- after it: what the rows of set i tell, or those after them
-pub set-decides : (N K S p y : ℕ) (query : List ℕ) (i at end set rows : ℕ) (whole told : Place) → Turn N K S query i at end set rows
+pub set-decides : (N K S p y : ℕ) (query : List ℕ) (i at end set rows : ℕ) (whole told : Option ℕ) → Turn N K S query i at end set rows
     → whole ≡ later end (place_naming S p y (set_rows (rows_from N K i) (drop at query)))
     → place_naming S p y (set_rows (replicate rows (set_in K set)) (drop at query)) ≡ told
     → whole ≡ later end (or_later (rows * S) told (place_naming S p y (set_rows (rows_from N K (i + 1)) (drop (at + rows * count set) query))))
 set-decides N K S p y query i at end set rows whole told turn e t =
-    let next : ℕ → Place = λ n. place_naming S p y (set_rows (rows_from N K (i + 1)) (drop (at + rows * n) query)) in
+    let next : ℕ → Option ℕ = λ n. place_naming S p y (set_rows (rows_from N K (i + 1)) (drop (at + rows * n) query)) in
     e
     ∙ ap (later end)
     (set_next S p y N K i at rows (set_in K set) query turn.inside turn.decoded turn.many
-    ∙ ap₂ (λ (x : Place) (n : ℕ). or_later (rows * S) x (next n)) t turn.ones-in)
+    ∙ ap₂ (λ (x : Option ℕ) (n : ℕ). or_later (rows * S) x (next n)) t turn.ones-in)

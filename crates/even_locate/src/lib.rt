@@ -11,16 +11,11 @@ ghost use Rattle.even_places.specs.Rule.{ones_in, members};
 ghost use Rattle.even_sets.specs.Sets.{set_in};
 ghost use Rattle.even_scheme.specs.Asked.{set_rows, layout_rows};
 
-use scheme::Place;
-
 // Whether a message and the number of its symbol are those that are looked for.
 fn is_cell(p: usize, number: usize, message: usize, symbol: usize) -> bool
     ensures { result ≡ is_cell message symbol (p, number) }
 {
-    if p != message {
-        return false;
-    }
-    number == symbol
+    p == message && number == symbol
 }
 
 // Whether a row of the set, whose numbers are the first of `numbers`, names the symbol.
@@ -30,8 +25,7 @@ fn row_names(k: usize, set: u8, message: usize, symbol: usize, numbers: &[u8]) -
 {
     let mut rest = set;
     let mut taken = 0;
-    let mut p = 0;
-    while p < k {
+    for p in 0..k {
         if rest % 2 == 1 {
             if is_cell(p, numbers[taken] as usize, message, symbol) {
                 return true;
@@ -39,12 +33,12 @@ fn row_names(k: usize, set: u8, message: usize, symbol: usize, numbers: &[u8]) -
             taken += 1;
         }
         rest /= 2;
-        p += 1;
     }
     false
 }
 
-// Where the first of `rows` rows of the set is answered that names the symbol, among the answers to these rows.
+// Where the first of `rows` rows of the set is answered that names the symbol, among the answers to these rows. Seven parameters: no two of them
+// travel together to a third function.
 fn set_place(
     k: usize,
     s: usize,
@@ -53,25 +47,30 @@ fn set_place(
     message: usize,
     symbol: usize,
     numbers: &[u8],
-) -> Place
+) -> Option<usize>
     requires set_value { (ones_in (set_in k set) ≡ ones set) × (rows * ones set ≤ length numbers.now) }
     requires s_bound { rows * s < 2 ^ 64 }
     ensures { result ≡ place_naming s message symbol (set_rows (replicate rows (set_in k set)) numbers.now) }
 {
     let size = u8::count_ones(set) as usize;
-    let mut row = 0;
-    while row < rows {
+    for row in 0..rows {
         let at = row * size;
         if row_names(k, set, message, symbol, &numbers[at..]) {
-            return Place::At(row * s);
+            return Some(row * s);
         }
-        row += 1;
     }
-    Place::Nowhere
+    None
 }
 
 // Where the query names a symbol of a message: the answer to the row that does begins there. One pass over the query, which ends where the symbol is found.
-pub fn locate(n: usize, k: usize, s: usize, query: &[u8], message: usize, symbol: usize) -> Place
+pub fn locate(
+    n: usize,
+    k: usize,
+    s: usize,
+    query: &[u8],
+    message: usize,
+    symbol: usize,
+) -> Option<usize>
     requires s_value { even_fits n k s ≡ true }
     requires query_len { length query.now ≡ (even_sizes n k s).query }
     ensures { result ≡ place_naming s message symbol (layout_rows n k query.now) }
@@ -80,16 +79,13 @@ pub fn locate(n: usize, k: usize, s: usize, query: &[u8], message: usize, symbol
     let count = parameters::power(2, k) - 1;
     let mut at = 0;
     let mut end = 0;
-    let mut i = 0;
-    while i < count {
-        let set = sets[i];
-        let rows = even_sets::rows_of(n, set);
-        if let Place::At(place) = set_place(k, s, set, rows, message, symbol, &query[at..]) {
-            return Place::At(end + place);
+    for set in &sets[..count] {
+        let rows = even_sets::rows_of(n, *set);
+        if let Some(place) = set_place(k, s, *set, rows, message, symbol, &query[at..]) {
+            return Some(end + place);
         }
-        at += rows * u8::count_ones(set) as usize;
+        at += rows * u8::count_ones(*set) as usize;
         end += rows * s;
-        i += 1;
     }
-    Place::Nowhere
+    None
 }

@@ -54,10 +54,16 @@ pub record Parts (N t rows turn T rank number : ℕ) : Type 0 where
   pub sum : N * t + rows * (turn * T + rank) < 256
   pub whole : N * t + rows * (turn * T + rank) + number < 256
 
-pub parts : (N t rows turn T rank number : ℕ) → 1 ≤ rows → N * t + rows * (turn * T + rank) + number < 256 → Parts N t rows turn T rank number
+parts : (N t rows turn T rank number : ℕ) → 1 ≤ rows → N * t + rows * (turn * T + rank) + number < 256 → Parts N t rows turn T rank number
 parts N t rows turn T rank number h small =
     let scaled = factor-small rows (turn * T + rank) h in
     record { first = omega arith; turns = omega arith; sets = omega arith; scaled = omega arith; sum = omega arith; whole = small }
+
+pub place-parts : (N k b p rows turn rank number : ℕ) (totals table : List ℕ) → Tables N k totals table → b < 8 → p < 8 → 1 ≤ rows
+    → place_among N k totals b p rows turn rank number < 256 → Parts N (get_or table (b * 8 + p) 0) rows turn (takers k totals b p) rank number
+place-parts N k b p rows turn rank number totals table t hb hp some small =
+    parts N (get_or table (b * 8 + p) 0) rows turn (takers k totals b p) rank number some
+    (omega (arith, place_read N k b p rows turn rank number totals table t hb hp))
 
 -- the rows of the block before, of a set of m messages, and which of the other servers row i is joined from
 pub record Before (N m i : ℕ) : Type 0 where

@@ -5,9 +5,10 @@ use native.Mathlib.Omega.{arith}
 use mathlib.Core.Path.{◌≡◌, refl, sym, ap₂, ◌∙◌}
 use mathlib.Core.List.{List, [], ◌∷◌, map, zip_with}
 use lib.Arith.{digits_lt}
-use lib.ListN.{length, get_or, length-map, get_or-map}
+use lib.ListN.{length, get_or, take, replicate, length-map, get_or-map}
 use Rattle.lists.specs.Below.{Below}
-use Rattle.lists.proofs.Cuts.{cut_at}
+use Rattle.lists.specs.Padded.{padded}
+use Rattle.lists.proofs.Cuts.{cut_at, front-is}
 use Rattle.even_places.specs.Rule.{query_cells, all_sets, positions}
 use Rattle.even_places.proofs.Flat.{inside, query-length}
 use Rattle.even_places.proofs.Positions.{same-members, positions-length}
@@ -54,6 +55,17 @@ module _ (N K k server : ℕ) (asks : Asks N K k server) where
 
   pub messages-length : length (positions N K) ≡ K * N ^ (K - 1)
   messages-length = positions-length N K wide asks.bounds.messages-low
+
+  -- the fronts of the tables of messages and of places, as long as a query
+  module _ {table : List ℕ} {many : ℕ} (whole : many ≡ K * N ^ (K - 1)) where
+    pub messages-front : table ≡ padded 1024 (positions N K) → take many table ≡ positions N K
+    messages-front e =
+        front-is many table (positions N K) (replicate (1024 - length (positions N K)) 0) e (messages-length ∙ sym whole)
+
+    pub places-front : table ≡ padded 1024 (map (λ cell. cell.1) (query_cells N K k server)) → take many table ≡ map (λ cell. cell.1) (query_cells N K k server)
+    places-front e =
+        let places = map (λ cell. cell.1) (query_cells N K k server) in
+        front-is many table places (replicate (1024 - length places) 0) e (places-length ∙ sym whole)
 
   pub keyed : (key : List ℕ) → length key ≡ K * N ^ K → Keyed (N ^ K) key (positions N K) (map (λ cell. cell.1) (query_cells N K k server))
   keyed key e = record {

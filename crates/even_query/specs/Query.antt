@@ -1,6 +1,6 @@
 -- What the steps of an even query ask for and write (document 01, 'Even code'): N servers, K messages, wanted message k. Which places
 -- they write is told in even_ranks/specs/Walk.antt.
-use Rattle.std.specs.Prelude.{◌≡◌, ℕ, ◌+◌, ◌-◌, ◌*◌, ◌≤◌, ◌<◌, length, get_or}
+use Rattle.std.specs.Prelude.{◌≡◌, ℕ, ◌+◌, ◌*◌, ◌≤◌, ◌<◌, length, get_or}
 use mathlib.Core.List.{List, zip_with}
 use Rattle.even_sets.specs.Sets.{LayoutBounds}
 use Rattle.even_ranks.specs.Counts.{taken_table}

@@ -43,15 +43,13 @@ pub fn is_joined(wanted: usize, set: u8) -> bool
     requires { wanted < 8 }
     ensures { result ≡ eqb (set / 2 ^ wanted % 2) 1 && ltb 1 (count set) }
 {
-    if (set >> wanted) % 2 == 1 {
-        return 1 < u8::count_ones(set);
-    }
-    false
+    (set >> wanted) % 2 == 1 && 1 < u8::count_ones(set)
 }
 
-// A row's origin, by whether its set's rows are joined.
+// A row's origin, by whether its set's rows are joined. A flag, and no closure: it is asked once for all rows of a set.
 pub fn origin(n: usize, server: usize, joins: bool, ones: usize, i: usize) -> Origin
-    requires { (2 ≤ n) × (n ≤ 16) × (server < n) × (1 ≤ ones) × (joins ≡ true → 2 ≤ ones) × (i < (n - 1) ^ (ones - 1)) × ((n - 1) ^ (ones - 1) ≤ 256) }
+    requires { (2 ≤ n) × (n ≤ 16) × (server < n) × (1 ≤ ones) × (joins ≡ true → 2 ≤ ones) × (i < (n - 1) ^ (ones - 1))
+        × ((n - 1) ^ (ones - 1) ≤ 256) }
     ensures { result ≡ cond joins (joinedOf n server ones i) (plain_of n server ones i) }
 {
     if joins {

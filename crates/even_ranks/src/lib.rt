@@ -1,5 +1,6 @@
 // The sets of an even query counted, and the places that follow from the counts without search.
-// A set of messages is one byte, bit p for message p.
+// A set of messages is one byte, bit p for message p. Counts stand in flat arrays of fixed size, no heap, at the places that the definitions
+// give them (`counter`).
 #![tactic(auto)]
 
 ghost use Rattle.std.specs.Prelude.{◌≡◌, map, ◌-◌, ◌%◌, ◌/◌, ◌^◌, ◌≤◌, ◌<◌, eqb, length};
@@ -38,17 +39,15 @@ pub fn counters_of(wanted: usize, set: u8) -> usize
     block * 8
 }
 
-// Adds one to the counter of each message in the set, where `counts` are the counters of its block and kind.
-fn count_members(k: usize, set: u8, counts: &mut [usize])
-    requires { (length counts.old ≡ k) × Below 65536 counts.old }
-    ensures { counts.new ≡ after (set_in k set) counts.old }
+// Adds one to the counter of each message in the set, where `counts` are the counters of its block and kind, one for each message.
+fn count_members(set: u8, counts: &mut [usize])
+    requires { Below 65536 counts.old }
+    ensures { counts.new ≡ after (set_in (length counts.old) set) counts.old }
 {
     let mut rest = set;
-    let mut p = 0;
-    while p < k {
-        counts[p] += (rest % 2) as usize;
+    for count in counts.iter_mut() {
+        *count += (rest % 2) as usize;
         rest /= 2;
-        p += 1;
     }
 }
 
@@ -58,7 +57,7 @@ pub fn count_set(k: usize, wanted: usize, set: u8, counts: &mut [usize])
     ensures { counts.new ≡ set_counted wanted (set_in k set) counts.old }
 {
     let at = counters_of(wanted, set);
-    count_members(k, set, &mut counts[at..at + k]);
+    count_members(set, &mut counts[at..at + k]);
 }
 
 // The counts of all sets, which are given in order.
@@ -67,10 +66,8 @@ pub fn totals(k: usize, wanted: usize, sets: &[u8]) -> [usize; 128]
     ensures { result ≡ totals_of k wanted }
 {
     let mut counts = [0usize; 128];
-    let mut i = 0;
-    while i < sets.len() {
-        count_set(k, wanted, sets[i], &mut counts);
-        i += 1;
+    for set in sets {
+        count_set(k, wanted, *set, &mut counts);
     }
     counts
 }
@@ -93,11 +90,9 @@ fn taken_before(n: usize, wanted: usize, totals: &[usize], block: usize, p: usiz
 {
     let mut sum = 0;
     let mut rows = 1;
-    let mut j = 0;
-    while j < block {
+    for j in 0..block {
         sum += rows * takers(wanted, totals, j, p);
         rows *= n - 1;
-        j += 1;
     }
     sum
 }
@@ -108,10 +103,8 @@ pub fn takings(n: usize, wanted: usize, totals: &[usize]) -> [usize; 64]
     ensures { result ≡ taken_table n wanted totals.now }
 {
     let mut table = [0usize; 64];
-    let mut i = 0;
-    while i < 64 {
-        table[i] = taken_before(n, wanted, totals, i / 8, i % 8);
-        i += 1;
+    for (i, entry) in table.iter_mut().enumerate() {
+        *entry = taken_before(n, wanted, totals, i / 8, i % 8);
     }
     table
 }

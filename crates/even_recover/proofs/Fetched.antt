@@ -1,5 +1,6 @@
--- Recovery from one server, set by set: what holds before set j is recovered (`Fetched`), that its group is ready (`set-ready`), that
--- the same holds of the next set then (`fetched-more`), and that in the end the scheme's `server_parts` are written (`fetched-done`).
+-- Recovery from one server, set by set: what is at hand (`AtHand`), what holds before set j is recovered (`Fetched`), that its group is
+-- ready (`set-ready`), that the same holds of the next set then (`fetched-more`), and that in the end the scheme's `server_parts` are
+-- written (`fetched-done`).
 use Prim.Native.Nat.{ℕ, ◌+◌, ◌-◌, ◌*◌, ◌/◌, ◌%◌, ◌^◌, ◌≤◌, ◌<◌}
 use native.Mathlib.Nat.{mul-le-mul}
 use native.Mathlib.Numerals.{add-one}
@@ -31,7 +32,7 @@ use Rattle.even_sets.proofs.Blocks.{all-length, subsets-few}
 use Rattle.even_sets.proofs.Fits.{layout-bounds}
 use Rattle.even_sets.proofs.SetBytes.{SetByte, byte_at}
 use Rattle.even_recover.specs.declared.ServerRows.{ServerRows}
-use Rattle.even_recover.specs.Rows.{server_rows_of, group_parts, group_of, set_parts, Held, Ready}
+use Rattle.even_recover.specs.Rows.{server_rows_of, group_parts, group_of, set_parts, Ready}
 use Rattle.even_recover.proofs.Groups.{Reads, WantedSet, group-grouped}
 use Rattle.even_recover.proofs.GroupParts.{HasQuery, group-named, group-parts}
 use Rattle.even_recover.proofs.Sized.{Sized, sized}
@@ -61,41 +62,38 @@ module _ (sum : Sum) (N K S wanted server : ℕ) (key answers : List ℕ) where
       go true = append-nil (parts_of_set A)
       go false = refl
 
--- sets 0 to j - 1 are recovered
-pub record Fetched (sum : Sum) (N K S wanted server : ℕ) (key sets firsts answers start : List ℕ) (here : ServerRows) (query message : List ℕ)
-    (cell j : ℕ) : Type 0 where
+-- the server's query, all sets in order, the table of first rows, and what is the same for all rows
+pub record AtHand (N K S wanted server : ℕ) (key sets firsts : List ℕ) (here : ServerRows) (query : List ℕ) : Type 0 where
   pub reads : Reads N K S wanted server firsts
   pub asked : HasQuery N K wanted server key query
   pub sets-are : sets ≡ map byte_of (all_sets K)
   pub table : length firsts ≡ 256
   pub here-is : here ≡ server_rows_of N K S wanted server
-  pub held : Held here answers
-  pub within : j ≤ length (all_sets K)
-  pub long : length message ≡ length start
+
+-- sets 0 to j - 1 are recovered
+pub record Fetched (sum : Sum) (N K S wanted server : ℕ) (key answers start message : List ℕ) (cell j : ℕ) : Type 0 where
   pub cell-is : cell ≡ summed (cells_of N) (take j (all_sets K))
   pub near : cell ≤ j * 2048
   pub written : message ≡ lay_all (parts_of sum N K S wanted server key answers (take j (all_sets K))) start
 
-module _ {sum : Sum} {N K S wanted server : ℕ} {key sets firsts answers start : List ℕ} {here : ServerRows} {query message : List ℕ} {cell j : ℕ}
-    (fetched : Fetched sum N K S wanted server key sets firsts answers start here query message cell j) (more : j < length sets) where
+module _ {sum : Sum} {N K S wanted server : ℕ} {key sets firsts answers start message : List ℕ} {here : ServerRows} {query : List ℕ} {cell j : ℕ}
+    (hand : AtHand N K S wanted server key sets firsts here query) (fetched : Fetched sum N K S wanted server key answers start message cell j)
+    (more : j < length sets) where
   abbrev A : List Bool
   A = get_or (all_sets K) j []
 
   more-sets : j < length (all_sets K)
-  more-sets = omega (arith, ap length fetched.sets-are, length-map (all_sets K) byte_of)
+  more-sets = omega (arith, ap length hand.sets-are, length-map (all_sets K) byte_of)
 
   pub set-near : j < 256
-  set-near = omega (arith, more-sets, all-length K, subsets-few K fetched.reads.bounds.messages-high)
+  set-near = omega (arith, more-sets, all-length K, subsets-few K hand.reads.bounds.messages-high)
 
   pub set_is : SetByte N K (get_or sets j 0) A
-  set_is = byte_at N K j sets [] (layout-bounds fetched.reads.bounds) (fetched.sets-are ∙ sym (append-nil (map byte_of (all_sets K)))) more-sets
-
-  pub bit-some : 1 ≤ here.bit
-  bit-some = omega (arith, (sized fetched.reads.bounds fetched.reads.wanted-known).bit-low, ap (λ (r : ServerRows). r.bit) fetched.here-is)
+  set_is = byte_at N K j sets [] (layout-bounds hand.reads.bounds) (hand.sets-are ∙ sym (append-nil (map byte_of (all_sets K)))) more-sets
 
   few-cells : cells_of N A ≤ 2048
   unfolding cells_of rows_of
-  few-cells = mul-le-mul set_is.high (let few : ones_in A ≤ 8 = omega (arith, ones-most A, set_is.is.long, fetched.reads.bounds.messages-high) in few)
+  few-cells = mul-le-mul set_is.high (let few : ones_in A ≤ 8 = omega (arith, ones-most A, set_is.is.long, hand.reads.bounds.messages-high) in few)
 
   cells_are : (N - 1) ^ (count (get_or sets j 0) - 1) * count (get_or sets j 0) ≡ cells_of N A
   unfolding cells_of
@@ -106,64 +104,56 @@ module _ {sum : Sum} {N K S wanted server : ℕ} {key sets firsts answers start 
 
   -- the bit of the wanted message
   bit_is : get_or sets j 0 / here.bit % 2 ≡ bit (has wanted A)
-  bit_is = ap₂ (λ (set b : ℕ). set / b % 2) set_is.byte (ap (λ (r : ServerRows). r.bit) fetched.here-is) ∙ byte-has A wanted
+  bit_is = ap₂ (λ (set b : ℕ). set / b % 2) set_is.byte (ap (λ (r : ServerRows). r.bit) hand.here-is) ∙ byte-has A wanted
 
   wanted-set : has wanted A ≡ true → WantedSet K wanted A
   wanted-set e = record { good = record { long = set_is.is.long; some = set_is.is.some }; has-wanted = e }
 
   set-parts : set_parts sum here (get_or sets j 0) cell firsts query answers ≡ cond (has wanted A) (parts_of_set sum N K S wanted server key answers A) []
   unfolding set_parts parts_of_set bit
-  set-parts = rw (bit_is, fetched.here-is, set_is.byte, fetched.cell-is) (go (has wanted A) refl)
+  set-parts = rw (bit_is, hand.here-is, set_is.byte, fetched.cell-is) (go (has wanted A) refl)
     where
       parts : List (ℕ × List ℕ)
       parts = group_parts sum (server_rows_of N K S wanted server)
           (group_of (server_rows_of N K S wanted server) (byte_of A) (summed (cells_of N) (take j (all_sets K))) firsts) query answers
 
       go : (t : Bool) → has wanted A ≡ t → cond (eqb (bit t) 1) parts [] ≡ cond t (parts_of_set sum N K S wanted server key answers A) []
-      go true e = group-parts sum fetched.reads fetched.asked j more-sets (wanted-set e) answers
+      go true e = group-parts sum hand.reads hand.asked j more-sets (wanted-set e) answers
       go false e = refl
 
   pub set-ready : get_or sets j 0 / here.bit % 2 ≡ 1 → Ready here (get_or sets j 0) cell firsts query
   unfolding bit
-  set-ready e = rw (fetched.here-is, set_is.byte, fetched.cell-is) (go (has wanted A) refl (sym bit_is ∙ e))
+  set-ready e = rw (hand.here-is, set_is.byte, fetched.cell-is) (go (has wanted A) refl (sym bit_is ∙ e))
     where
       small : Sized N K wanted
-      small = sized fetched.reads.bounds fetched.reads.wanted-known
+      small = sized hand.reads.bounds hand.reads.wanted-known
 
       go : (t : Bool) → has wanted A ≡ t → bit t ≡ 1
           → Ready (server_rows_of N K S wanted server) (byte_of A) (summed (cells_of N) (take j (all_sets K))) firsts query
       go false f g = absurd (let w : ⊥ = omega arith in w)
       go true f g = record {
         given = record {
-          two = fetched.reads.bounds.servers-low;
+          two = hand.reads.bounds.servers-low;
           wanted-low = small.bit-low;
           wanted-high = byte-covers A wanted f;
           some = omega (arith, set_is.some, ap count set_is.byte);
           few = omega (arith, set_is.high, set_is.rows, ap (λ (set : ℕ). (N - 1) ^ (count set - 1)) set_is.byte);
           near = omega (arith, cells-near, fetched.cell-is);
-          table = fetched.table;
+          table = hand.table;
         };
-        grouped = group-grouped fetched.reads (wanted-set f) (summed (cells_of N) (take j (all_sets K)));
-        named = group-named sum fetched.reads fetched.asked j more-sets (wanted-set f);
+        grouped = group-grouped hand.reads (wanted-set f) (summed (cells_of N) (take j (all_sets K)));
+        named = group-named sum hand.reads hand.asked j more-sets (wanted-set f);
       }
 
   next-sets : take (j + 1) (all_sets K) ≡ take j (all_sets K) ++ (A ∷ [])
   next-sets = ap (λ (n : ℕ). take n (all_sets K)) (add-one j) ∙ take-suc (all_sets K) j [] more-sets
 
-  pub fetched-more : (done : List ℕ) (next : ℕ) → length done ≡ length message
+  pub fetched-more : (done : List ℕ) (next : ℕ)
       → done ≡ lay_all (set_parts sum here (get_or sets j 0) cell firsts query answers) message
       → next ≡ cell + (N - 1) ^ (count (get_or sets j 0) - 1) * count (get_or sets j 0)
-      → Fetched sum N K S wanted server key sets firsts answers start here query done next (j + 1)
+      → Fetched sum N K S wanted server key answers start done next (j + 1)
   unfolding summed
-  fetched-more done next long e f = record {
-    reads = fetched.reads;
-    asked = fetched.asked;
-    sets-are = fetched.sets-are;
-    table = fetched.table;
-    here-is = fetched.here-is;
-    held = fetched.held;
-    within = omega (arith, more-sets);
-    long = long ∙ fetched.long;
+  fetched-more done next e f = record {
     cell-is = rw next-sets (omega (arith, cells_are, fetched.cell-is, sum-append (cells_of N) (take j (all_sets K)) (A ∷ [])));
     near = omega (arith, cells_are, few-cells, fetched.near);
     written =
@@ -175,11 +165,11 @@ module _ {sum : Sum} {N K S wanted server : ℕ} {key sets firsts answers start 
         (sym (ap (parts_of sum N K S wanted server key answers) next-sets ∙ parts_more sum N K S wanted server key answers (take j (all_sets K)) A));
   }
 
-pub fetched-done : {sum : Sum} {N K S wanted server : ℕ} {key sets firsts answers start : List ℕ} {here : ServerRows} {query message : List ℕ} {cell j : ℕ}
-    → Fetched sum N K S wanted server key sets firsts answers start here query message cell j → length sets ≤ j
+pub fetched-done : {sum : Sum} {N K S wanted server : ℕ} {key sets answers start message : List ℕ} {cell j : ℕ}
+    → Fetched sum N K S wanted server key answers start message cell j → sets ≡ map byte_of (all_sets K) → length sets ≤ j
     → message ≡ lay_all (server_parts sum N K S wanted key (answers_in (even_scheme sum N K S) N wanted key answers) server) start
-fetched-done {sum} {N} {K} {S} {wanted} {server} {key} {sets} {answers} {start} {j} fetched end =
-    let all : length (all_sets K) ≤ j = omega (arith, ap length fetched.sets-are, length-map (all_sets K) byte_of) in
+fetched-done {sum} {N} {K} {S} {wanted} {server} {key} {sets} {answers} {start} {j} fetched sets-are end =
+    let all : length (all_sets K) ≤ j = omega (arith, ap length sets-are, length-map (all_sets K) byte_of) in
     fetched.written
     ∙ ap (λ (l : List (List Bool)). lay_all (parts_of sum N K S wanted server key answers l) start) (take_all j (all_sets K) all)
     ∙ ap (λ (l : List (ℕ × List ℕ)). lay_all l start) (parts_all sum N K S wanted server key answers)

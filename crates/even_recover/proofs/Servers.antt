@@ -1,30 +1,14 @@
--- Recovery server by server: the front of the table of sets is all sets (`sets-front`), and one server's parts more are written:
--- `before_more`.
-use Prim.Native.Nat.{ℕ, ◌+◌, ◌-◌, ◌^◌, ◌≤◌}
+-- Recovery server by server: one server's parts more are written (`before_more`).
+use Prim.Native.Nat.{ℕ, ◌+◌}
 use mathlib.Core.Path.{◌≡◌, refl, sym, ap, ◌∙◌}
-use mathlib.Core.List.{List, ◌++◌, map, flat_map}
-use lib.ListN.{length, take}
+use mathlib.Core.List.{List, flat_map}
 use Rattle.lists.specs.Ranges.{range}
-use Rattle.lists.proofs.Cuts.{front-is, front_fits}
 use Rattle.symbol.specs.Sum.{Sum}
 use Rattle.scheme.specs.Scheme.{answers_in}
-use Rattle.even_places.specs.Rule.{byte_of, all_sets}
 use Rattle.lists.specs.Parts.{lay}
 use Rattle.lists.specs.Assembled.{assemble_by, lay_all}
 use Rattle.even_scheme.specs.Even.{server_parts, recovered_parts, even_scheme}
-use Rattle.even_sets.proofs.Blocks.{all-bytes}
 use Rattle.lists.proofs.Assembled.{assemble-list}
-
-pub record Front (K count : ℕ) (table : List ℕ) : Type 0 where
-  pub inside : count ≤ length table
-  pub is : take count table ≡ map byte_of (all_sets K)
-
--- a table of all sets, whatever follows them
-pub sets-front : (K whole : ℕ) (table rest : List ℕ) → whole ≡ 2 ^ K → table ≡ map byte_of (all_sets K) ++ rest → Front K (whole - 1) table
-sets-front K whole table rest e f =
-    let bytes = map byte_of (all_sets K) in
-    let count = all-bytes K whole e in
-    record { inside = front_fits (whole - 1) table bytes rest f count; is = front-is (whole - 1) table bytes rest f count }
 
 module _ (sum : Sum) (N K S wanted : ℕ) (key answers : List ℕ) where
   -- the parts of the first servers

@@ -1,5 +1,5 @@
--- Before the first set of a server is recovered, the query, the table of first rows and what is the same for all rows are as they
--- should be: `fetched-none`.
+-- Before the first set of a server is recovered: the query, the table of first rows and what is the same for all rows are as they
+-- should be (`at_hand`), the answer buffer holds the rows of all (`started-held`), and nothing is written (`fetched-none`).
 use Prim.Native.Nat.{ℕ, ◌*◌, ◌≤◌, ◌<◌}
 use native.Mathlib.Nat.{mul_assoc}
 use native.Mathlib.Omega.{arith}
@@ -24,7 +24,7 @@ use Rattle.even_recover.specs.Rows.{server_rows_of, Held}
 use Rattle.even_recover.proofs.Groups.{Reads}
 use Rattle.even_recover.proofs.GroupParts.{HasQuery}
 use Rattle.even_recover.proofs.Sized.{sized}
-use Rattle.even_recover.proofs.Fetched.{Fetched, parts_of}
+use Rattle.even_recover.proofs.Fetched.{AtHand, Fetched, parts_of}
 
 -- a query written to the front of a buffer
 has-query : (N K wanted server : ℕ) (key query space : List ℕ) → query ≡ put 0 (even_query N K wanted server key) space
@@ -53,8 +53,8 @@ module _ (N K S wanted server : ℕ) (fits : even_fits N K S ≡ true) (wanted-k
     firsts-are = λ A good. ap (λ (l : List ℕ). get_or l (byte_of A) 0) e ∙ first-rows-at N K A bounds.messages-high good.long good.some;
   }
 
-  held : (answers : List ℕ) → N * (even_rows N K * S) ≤ length answers → Held (server_rows_of N K S wanted server) answers
-  held answers h = record {
+  pub started-held : (answers : List ℕ) → N * (even_rows N K * S) ≤ length answers → Held (server_rows_of N K S wanted server) answers
+  started-held answers h = record {
     bounded = record {
       known = server-known;
       few = bounds.servers-high;
@@ -64,21 +64,18 @@ module _ (N K S wanted server : ℕ) (fits : even_fits N K S ≡ true) (wanted-k
     held = omega (arith, mul_assoc N (even_rows N K) S);
   }
 
-  pub fetched-none : (sum : Sum) (key sets firsts answers start : List ℕ) (here : ServerRows) (query space : List ℕ)
-      → sets ≡ map byte_of (all_sets K) → firsts ≡ first_rows N K → N * (even_rows N K * S) ≤ length answers
+  pub at_hand : (key sets firsts : List ℕ) (here : ServerRows) (query space : List ℕ)
+      → sets ≡ map byte_of (all_sets K) → firsts ≡ first_rows N K
       → here ≡ server_rows_of N K S wanted server → query ≡ put 0 (even_query N K wanted server key) space
-      → Fetched sum N K S wanted server key sets firsts answers start here query start 0 0
-  unfolding summed parts_of keep flat_map assemble_by
-  fetched-none sum key sets firsts answers start here query space sets-are firsts-are slots here-is query-is = record {
+      → AtHand N K S wanted server key sets firsts here query
+  at_hand key sets firsts here query space sets-are firsts-are here-is query-is = record {
     reads = reads firsts firsts-are;
     asked = has-query N K wanted server key query space query-is;
     sets-are = sets-are;
     table = ap length firsts-are ∙ firsts-length N K;
     here-is = here-is;
-    held = rw here-is (held answers slots);
-    within = omega arith;
-    long = refl;
-    cell-is = refl;
-    near = omega arith;
-    written = refl;
   }
+
+pub fetched-none : {sum : Sum} {N K S wanted server : ℕ} {key answers start : List ℕ} → Fetched sum N K S wanted server key answers start start 0 0
+unfolding summed parts_of keep flat_map assemble_by
+fetched-none = record { cell-is = refl; near = omega arith; written = refl }

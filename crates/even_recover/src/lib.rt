@@ -1,4 +1,5 @@
-// Recovery of the even code (01: 'Even code', recovery): the wanted message from the answers of all servers.
+// Recovery of the even code (01: 'Even code', recovery): the wanted message from the answers of all servers. N, K and S stay parameters of `recover`:
+// its clauses name them one by one, as the papers' formulas do.
 #![tactic(auto)]
 
 ghost use Rattle.std.specs.Prelude.{◌≡◌, true, map, ◌*◌, ◌/◌, ◌%◌, ◌^◌, ◌≤◌, ◌<◌, length};
@@ -50,29 +51,20 @@ struct Group {
     cell: usize,
 }
 
-// Recovers the symbols of the group's rows, in order.
-fn from_group(
+// What the rows of one server's query are recovered from.
+#[derive(Clone, Copy)]
+struct Answered<'a> {
+    // How symbols are combined.
     op: Operation,
+    // What is the same for all rows.
     here: ServerRows,
-    group: Group,
-    query: &[u8],
-    answers: &[u8],
-    message: &mut [u8],
-)
-    requires held { Held here answers.now }
-    requires grouped { Grouped here group }
-    requires named { Named group query.now }
-    ensures { message.new ≡ lay_all (group_parts (sum_of op) here group query.now answers.now) message.old }
-{
-    let count = group.count;
-    let mut cell = group.cell;
-    let mut i = 0;
-    while i < count {
-        let number = query[cell] as usize;
-        rows::from_row(op, here, group, i, number, answers, message);
-        cell += group.messages;
-        i += 1;
-    }
+    // The first row of each set, at the set's byte.
+    firsts: &'a [usize],
+    // The server's query.
+    query: &'a [u8],
+    // The slots of all servers.
+    answers: &'a [u8],
+    ghost held: { Held here answers.now },
 }
 
 // The group of a set with the wanted message, whose first row starts at position `cell` of the query.
@@ -91,84 +83,108 @@ fn group_of(here: ServerRows, set: u8, cell: usize, firsts: &[usize]) -> Group
     }
 }
 
-// Recovers the symbols of the rows of a set, if it has the wanted message.
-fn from_set(
-    op: Operation,
-    here: ServerRows,
-    set: u8,
-    cell: usize,
-    firsts: &[usize],
-    query: &[u8],
-    answers: &[u8],
-    message: &mut [u8],
-)
-    requires le_bit { 1 ≤ here.bit }
-    requires held { Held here answers.now }
-    requires ready { set / here.bit % 2 ≡ 1 → Ready here set cell firsts.now query.now }
-    ensures { message.new
-        ≡ lay_all (set_parts (sum_of op) here set cell firsts.now query.now answers.now) message.old }
-{
-    if set / here.bit % 2 == 1 {
-        from_group(
-            op,
-            here,
-            group_of(here, set, cell, firsts),
-            query,
-            answers,
-            message,
-        );
+impl Answered<'_> {
+    // Recovers the symbols of the group's rows, in order.
+    fn from_group(&self, group: Group, message: &mut [u8])
+        requires grouped { Grouped self.now.here group }
+        requires named { Named group self.now.query.now }
+        ensures { message.new
+            ≡ lay_all (group_parts (sum_of self.now.op) self.now.here group self.now.query.now self.now.answers.now) message.old }
+    {
+        let mut cell = group.cell;
+        for i in 0..group.count {
+            let number = self.query[cell] as usize;
+            self.from_row(group, i, number, message);
+            cell += group.messages;
+        }
+    }
+
+    // Recovers the symbols of the rows of a set, whose first row starts at position `cell` of the query, if it has the wanted message.
+    fn from_set(&self, set: u8, cell: usize, message: &mut [u8])
+        requires le_bit { 1 ≤ self.now.here.bit }
+        requires ready { set / self.now.here.bit % 2 ≡ 1 → Ready self.now.here set cell self.now.firsts.now self.now.query.now }
+        ensures { message.new
+            ≡ lay_all (set_parts (sum_of self.now.op) self.now.here set cell self.now.firsts.now self.now.query.now self.now.answers.now) message.old }
+    {
+        if set / self.here.bit % 2 == 1 {
+            self.from_group(group_of(self.here, set, cell, self.firsts), message);
+        }
     }
 }
 
-// What is the same for all rows of a server's query.
-fn server_rows_of(n: usize, k: usize, s: usize, wanted: usize, server: usize) -> ServerRows
-    requires s_value { even_fits n k s ≡ true }
-    requires wanted_lt_k { wanted < k }
-    ensures { result ≡ server_rows_of n k s wanted server }
-{
-    let whole = parameters::power(n, k - 1);
-    ServerRows {
-        servers: n,
-        symbol: s,
-        rows: whole + (whole - 1) / (n - 1),
-        bit: parameters::power(2, wanted) as u8,
-        server,
-    }
-}
-
-// Recovers the symbols of the rows with the wanted message of one server's query.
-fn from_server(
+// What a message is recovered from.
+#[derive(Clone, Copy)]
+struct Fetch<'a> {
+    // How symbols are combined.
     op: Operation,
-    n: usize,
-    k: usize,
-    s: usize,
+    // How many servers there are.
+    servers: usize,
+    // How many messages there are.
+    messages: usize,
+    // Bytes of a symbol.
+    symbol: usize,
+    // The wanted message.
     wanted: usize,
-    server: usize,
-    key: &[u8],
-    sets: &[u8],
-    firsts: &[usize],
-    answers: &[u8],
-    message: &mut [u8],
-)
-    requires s_value { even_fits n k s ≡ true }
-    requires wanted_lt_k { (wanted < k) × (server < n) }
-    requires key_len { length key.now ≡ k * n ^ k }
-    requires sets_value { (sets.now ≡ map byte_of (all_sets k)) × (firsts.now ≡ first_rows n k) }
-    requires s_in_bounds { n * (even_rows n k * s) ≤ length answers.now }
-    ensures { message.new
-        ≡ lay_all (server_parts (sum_of op) n k s wanted key.now
-        (answers_in (even_scheme (sum_of op) n k s) n wanted key.now answers.now) server) message.old }
-{
-    let here = server_rows_of(n, k, s, wanted, server);
-    let mut asked = [0u8; 1024];
-    even_query::query(n, k, wanted, server, key, &mut asked);
-    let mut cell = 0;
-    let mut j = 0;
-    while j < sets.len() {
-        let set = sets[j];
-        from_set(op, here, set, cell, firsts, &asked, answers, message);
-        cell += even_sets::rows_of(n, set) * u8::count_ones(set) as usize;
-        j += 1;
+    // The key that the queries were made with.
+    key: &'a [u8],
+    // All sets of messages, in order.
+    sets: &'a [u8],
+    // The first row of each set, at the set's byte.
+    firsts: &'a [usize],
+    // The slots of all servers.
+    answers: &'a [u8],
+    ghost fits: { even_fits servers messages symbol ≡ true },
+    ghost known: { wanted < messages },
+    ghost long: { length key.now ≡ messages * servers ^ messages },
+    ghost ordered: { sets.now ≡ map byte_of (all_sets messages) },
+    ghost table: { firsts.now ≡ first_rows servers messages },
+    ghost slots: { servers * (even_rows servers messages * symbol) ≤ length answers.now },
+}
+
+impl Fetch<'_> {
+    // What is the same for all rows of a server's query.
+    fn server_rows_of(&self, server: usize) -> ServerRows
+        ensures { result ≡ server_rows_of self.now.servers self.now.messages self.now.symbol self.now.wanted server }
+    {
+        let whole = parameters::power(self.servers, self.messages - 1);
+        ServerRows {
+            servers: self.servers,
+            symbol: self.symbol,
+            rows: whole + (whole - 1) / (self.servers - 1),
+            bit: parameters::power(2, self.wanted) as u8,
+            server,
+        }
+    }
+
+    // Recovers the symbols of the rows with the wanted message of one server's query.
+    fn from_server(&self, server: usize, message: &mut [u8])
+        requires { server < self.now.servers }
+        ensures { message.new
+            ≡ lay_all (server_parts (sum_of self.now.op) self.now.servers self.now.messages self.now.symbol self.now.wanted self.now.key.now
+            (answers_in (even_scheme (sum_of self.now.op) self.now.servers self.now.messages self.now.symbol) self.now.servers self.now.wanted
+            self.now.key.now self.now.answers.now) server) message.old }
+    {
+        let mut asked = [0u8; 1024];
+        even_query::query(
+            self.servers,
+            self.messages,
+            self.wanted,
+            server,
+            self.key,
+            &mut asked,
+        );
+        let answered = Answered {
+            op: self.op,
+            here: self.server_rows_of(server),
+            firsts: self.firsts,
+            query: &asked,
+            answers: self.answers,
+        };
+        let mut cell = 0;
+        for &set in self.sets {
+            answered.from_set(set, cell, message);
+            cell += even_sets::rows_of(self.servers, set) * u8::count_ones(set) as usize;
+        }
     }
 }
 
@@ -193,21 +209,18 @@ pub fn recover(
     let sets = even_sets::ordered_sets(k);
     let count = parameters::power(2, k) - 1;
     let firsts = even_layout::first_rows(n, k);
-    let mut server = 0;
-    while server < n {
-        from_server(
-            op,
-            n,
-            k,
-            s,
-            wanted,
-            server,
-            key,
-            &sets[..count],
-            &firsts,
-            answers,
-            message,
-        );
-        server += 1;
+    let fetch = Fetch {
+        op,
+        servers: n,
+        messages: k,
+        symbol: s,
+        wanted,
+        key,
+        sets: &sets[..count],
+        firsts: &firsts,
+        answers,
+    };
+    for server in 0..n {
+        fetch.from_server(server, message);
     }
 }

@@ -1,19 +1,22 @@
--- The sets of a query one by one: their bytes (`byte_at`), and how many rows each has (`rows-low`, `rows-high`).
-use mathlib.Core.Path.{◌≡◌, refl, ap, ◌∙◌}
-use mathlib.Core.List.{List, [], ◌∷◌, ◌++◌, map}
+-- The sets of a query one by one: their bytes (`byte_at`, `front-byte`), and how many rows each has (`rows-low`, `rows-high`).
+use mathlib.Core.Path.{◌≡◌, refl, sym, ap, ◌∙◌}
+use mathlib.Core.List.{List, [], ◌∷◌, ◌++◌, map, append-nil}
 use mathlib.Core.Bool.{Bool, true, false}
 use Prim.Native.Nat.{ℕ, zero, suc, ◌-◌, ◌/◌, ◌^◌, ◌≤◌, ◌<◌}
 use native.Mathlib.Nat.{pow-le-pow_left, pow-le-pow_right, pow-zero}
 use native.Mathlib.Omega.{arith}
 use lib.Arith.{digits_mod, digits_div}
 use lib.Count.{ones as count}
-use lib.ListN.{length, get_or, length-map, get_or-append, get_or-map}
+use lib.ListN.{length, get_or, take, replicate, length-map, get_or-append, get_or-map}
+use Rattle.lists.specs.Padded.{padded}
 use Rattle.lists.specs.Sums.{bit}
+use Rattle.lists.proofs.Cuts.{front-is}
 use Rattle.lists.proofs.Each.{All-get}
 use Rattle.even_places.specs.Rule.{byte_of, ones_in, all_sets}
 use Rattle.even_places.proofs.AllSets.{IsSet, all-sets, ones-most}
 use Rattle.even_places.proofs.Bytes.{byte-ones, byte-below}
 use Rattle.even_sets.specs.Sets.{LayoutBounds, set_in, rows_of}
+use Rattle.even_sets.proofs.Blocks.{all-bytes}
 
 -- a set's byte stands for it
 set_in-byte : (A : List Bool) → set_in (length A) (byte_of A) ≡ A
@@ -81,3 +84,16 @@ byte_at N K i table more bounds e h =
     let bytes = map byte_of (all_sets K) in
     set-byte N K (get_or table i 0) (get_or (all_sets K) i []) bounds (All-get [] (all-sets K) i h)
     (ap (λ (l : List ℕ). get_or l i 0) e ∙ get_or-append bytes more 0 i (omega (arith, length-map (all_sets K) byte_of)) ∙ get_or-map byte_of (all_sets K) i [])
+
+-- the same of the front of the table of sets, up to the last set
+module _ (K : ℕ) {power : ℕ} {table : List ℕ} (two : power ≡ 2 ^ K) (whole : table ≡ padded 256 (map byte_of (all_sets K))) where
+  pub table-front : take (power - 1) table ≡ map byte_of (all_sets K)
+  table-front = front-is (power - 1) table (map byte_of (all_sets K)) (replicate (256 - length (map byte_of (all_sets K))) 0) whole (all-bytes K power two)
+
+  pub front-length : length (take (power - 1) table) ≡ length (all_sets K)
+  front-length = ap length table-front ∙ length-map (all_sets K) byte_of
+
+  pub front-byte : {N : ℕ} → LayoutBounds N K → (i : ℕ) → i < length (take (power - 1) table)
+      → SetByte N K (get_or (take (power - 1) table) i 0) (get_or (all_sets K) i [])
+  front-byte {N} bounds i h =
+      byte_at N K i (take (power - 1) table) [] bounds (table-front ∙ sym (append-nil (map byte_of (all_sets K)))) (omega (arith, front-length))

@@ -92,11 +92,9 @@ pub fn ordered_sets(k: usize) -> [u8; 256]
     let first = parameters::power(2, k);
     let count = first - 1;
     let mut sets = [0u8; 256];
-    let mut i = 0;
-    while i < count {
+    for i in 0..count {
         let place = first + i;
         sets[i] = table[place / 8][place % 8];
-        i += 1;
     }
     sets
 }

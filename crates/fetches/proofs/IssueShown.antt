@@ -8,11 +8,11 @@ use native.Mathlib.Omega.{arith}
 use borrow.Author.Tests.{lt-leb}
 use lib.ListN.{length, drop, replicate}
 use lib.Seq.{take_at, take_all}
-use Rattle.refusal.specs.declared.Verdict.{Verdict}
-use Rattle.refusal.specs.declared.Verdict.TheVariants.{Accepted, Refused}
 use Rattle.scheme.specs.Scheme.{Scheme, Valid}
 use Rattle.scheme.specs.Laws.{Laws}
 use Rattle.calendar.specs.declared.Day.{Day}
+use Rattle.std.specs.Prelude.{Err, Ok}
+use Rattle.refusal.specs.Verdicts.{Verdict, accepted}
 use Rattle.catalogue.specs.declared.Catalogue.{Catalogue}
 use Rattle.catalogue.specs.Catalogue.{Admitted}
 use Rattle.session_parts.specs.declared.Meters.{Meters}
@@ -56,12 +56,12 @@ module _ (scheme_of : Catalogue → Scheme) (c : Catalogue) (admitted : Admitted
         go : (v : Verdict) → v ≡ issue_verdict scheme_of s day n (length buffer) → let made = issue_made n day buffer answer_day answer in
             showing scheme_of c store n made.left answer_day answer made.verdict
             ≡ showing scheme_of c store n query answer_day (replicate (length answer) 0) v
-        go Accepted e =
+        go (Ok _) e =
             rw (
-              issue-by scheme_of s day n buffer Accepted e,
+              issue-by scheme_of s day n buffer accepted e,
               kept-query scheme_of c admitted laws wanted inside key valid issued taken meters n,
               take_at query (drop (length query) buffer) (scheme_of c).sizes.query long,
               take_all (scheme_of c).sizes.query query (omega (arith, long)),
             )
             (same-room scheme_of c laws store n query answer_day answer)
-        go (Refused refusal) e = rw (issue-by scheme_of s day n buffer (Refused refusal) e)
+        go (Err refusal) e = rw (issue-by scheme_of s day n buffer (Err refusal) e)

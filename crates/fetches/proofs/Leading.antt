@@ -13,10 +13,10 @@ use Rattle.lists.proofs.Every.{every-at}
 use Rattle.parameters.specs.Measures.{most_servers}
 use Rattle.scheme.specs.Scheme.{Scheme, Valid}
 use Rattle.scheme.specs.Laws.{Laws}
+use Rattle.refusal.specs.Verdicts.{accepted}
 use Rattle.catalogue.specs.declared.Catalogue.{Catalogue}
 use Rattle.catalogue.specs.Catalogue.{Admitted}
 use Rattle.catalogue.proofs.Season.{opening-served}
-use Rattle.refusal.specs.declared.Verdict.TheVariants.{Accepted}
 use Rattle.session.specs.declared.Session.{Session}
 use Rattle.session_parts.specs.declared.Meters.{Meters}
 use Rattle.session_parts.specs.Marks.{no_marks, marked, mark_good, marks_good}
@@ -75,7 +75,7 @@ module _ (scheme_of : Catalogue → Scheme) (c : Catalogue) (admitted : Admitted
 
       issue-after : (make scheme_of (state_of c wanted key first second m answers) (issuing i c.opening query c.opening [])).after
           ≡ state_of c wanted key (set first i true) second (count_issued m i size) answers
-      issue-after = rw (issue-by scheme_of s c.opening i query Accepted (sym (issue-accepted scheme_of s c.opening i (length query) (record {
+      issue-after = rw (issue-by scheme_of s c.opening i query accepted (sym (issue-accepted scheme_of s c.opening i (length query) (record {
         sound = sound scheme_of c admitted laws wanted inside key valid (slots_of scheme_of c) past first second m answers at.kept;
         served = opening-served c admitted;
         below = below;
@@ -111,7 +111,7 @@ module _ (scheme_of : Catalogue → Scheme) (c : Catalogue) (admitted : Admitted
 
       take_after : (make scheme_of (state_of c wanted key first second m answers) (taking i answer)).after
           ≡ state_of c wanted key first (set second i true) (count_taken m i (length answer)) kept-answers
-      take_after = rw (take_by_lem scheme_of s i answer answers Accepted (sym (take-accepted scheme_of s i (length answer) (length answers) takes)))
+      take_after = rw (take_by_lem scheme_of s i answer answers accepted (sym (take-accepted scheme_of s i (length answer) (length answers) takes)))
 
       take_at : At i (record { issued = past.issued; taken = i ∷ past.taken }) first (set second i true) (count_taken m i (length answer)) kept-answers
           x true a (b + length answer)

@@ -12,10 +12,10 @@ use lib.ListN.{length, drop}
 use lib.Seq.{take_at}
 use Rattle.lists.specs.Distinct.{stands}
 use Rattle.lists.proofs.Distinct.{eqb_comm}
-use Rattle.refusal.specs.declared.Verdict.{Verdict}
-use Rattle.refusal.specs.declared.Verdict.TheVariants.{Accepted, Refused}
 use Rattle.scheme.specs.Scheme.{Scheme, Valid}
 use Rattle.scheme.specs.Laws.{Laws}
+use Rattle.std.specs.Prelude.{Ok, Err}
+use Rattle.refusal.specs.Verdicts.{Verdict, accepted}
 use Rattle.catalogue.specs.declared.Catalogue.{Catalogue}
 use Rattle.catalogue.specs.Catalogue.{Admitted}
 use Rattle.session_parts.specs.declared.Meters.{Meters}
@@ -65,22 +65,22 @@ module _ (scheme_of : Catalogue → Scheme) (c : Catalogue) (admitted : Admitted
     sent-more (issuing server day query answer_day answer) = go (issue_verdict scheme_of s day server (length query)) refl
       where
         go : (v : Verdict) → v ≡ issue_verdict scheme_of s day server (length query) → SentMore (issuing server day query answer_day answer)
-        go Accepted e =
+        go (Ok _) e =
             let i = issue-passed scheme_of s day server (length query) (sym e) in
             let long = laws.query-length wanted server key inside i.below valid in
             rw (
-              issue-by scheme_of s day server query Accepted e,
+              issue-by scheme_of s day server query accepted e,
               kept-query scheme_of c admitted laws wanted inside key valid issued taken meters server,
               take_at ((scheme_of c).query wanted server key) (drop (length ((scheme_of c).query wanted server key)) query) (scheme_of c).sizes.query long,
               long,
               eqb_comm n server,
             )
-        go (Refused refusal) e = rw (issue-by scheme_of s day server query (Refused refusal) e) (sym (zero-add (sent_of past)))
+        go (Err refusal) e = rw (issue-by scheme_of s day server query (Err refusal) e) (sym (zero-add (sent_of past)))
     sent-more (taking server answer) = go (take_verdict scheme_of s server (length answer) (length answers)) refl
       where
         go : (v : Verdict) → v ≡ take_verdict scheme_of s server (length answer) (length answers) → SentMore (taking server answer)
-        go Accepted e = rw (take_by_lem scheme_of s server answer answers Accepted e) (sym (zero-add (sent_of past)))
-        go (Refused refusal) e = rw (take_by_lem scheme_of s server answer answers (Refused refusal) e) (sym (zero-add (sent_of past)))
+        go (Ok _) e = rw (take_by_lem scheme_of s server answer answers accepted e) (sym (zero-add (sent_of past)))
+        go (Err refusal) e = rw (take_by_lem scheme_of s server answer answers (Err refusal) e) (sym (zero-add (sent_of past)))
     sent-more (recovering message) = sym (zero-add (sent_of past))
 
     got-more : (call : Call) → GotMore call
@@ -88,8 +88,8 @@ module _ (scheme_of : Catalogue → Scheme) (c : Catalogue) (admitted : Admitted
     got-more (issuing server day query answer_day answer) = go (issue_verdict scheme_of s day server (length query)) refl
       where
         go : (v : Verdict) → v ≡ issue_verdict scheme_of s day server (length query) → GotMore (issuing server day query answer_day answer)
-        go Accepted e = rw (issue-by scheme_of s day server query Accepted e) (sym (zero-add (got_of past)))
-        go (Refused refusal) e = rw (issue-by scheme_of s day server query (Refused refusal) e) (sym (zero-add (got_of past)))
+        go (Ok _) e = rw (issue-by scheme_of s day server query accepted e) (sym (zero-add (got_of past)))
+        go (Err refusal) e = rw (issue-by scheme_of s day server query (Err refusal) e) (sym (zero-add (got_of past)))
     got-more (taking server answer) = go (take_verdict scheme_of s server (length answer) (length answers)) refl
       where
         one : (t : Bool) → eqb n server ≡ t → length answer ≡ answer_bytes scheme_of c wanted key server → stands server past.taken ≡ false
@@ -100,12 +100,12 @@ module _ (scheme_of : Catalogue → Scheme) (c : Catalogue) (admitted : Admitted
         one false e sized new = sym (zero-add (got_of past))
 
         go : (v : Verdict) → v ≡ take_verdict scheme_of s server (length answer) (length answers) → GotMore (taking server answer)
-        go Accepted e =
+        go (Ok _) e =
             let t = take-passed scheme_of s server (length answer) (length answers) (sym e) in
             let sized = t.sized ∙ ap (scheme_of c).answer_length (kept-query scheme_of c admitted laws wanted inside key valid issued taken meters server) in
-            rw (take_by_lem scheme_of s server answer answers Accepted e, eqb_comm server n)
+            rw (take_by_lem scheme_of s server answer answers accepted e, eqb_comm server n)
             (one (eqb n server) refl sized (sym (k.agree server) ∙ t.not_taken))
-        go (Refused refusal) e = rw (take_by_lem scheme_of s server answer answers (Refused refusal) e) (sym (zero-add (got_of past)))
+        go (Err refusal) e = rw (take_by_lem scheme_of s server answer answers (Err refusal) e) (sym (zero-add (got_of past)))
     got-more (recovering message) = sym (zero-add (got_of past))
 
   -- all calls

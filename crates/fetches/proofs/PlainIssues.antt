@@ -12,10 +12,10 @@ use Rattle.lists.specs.Parts.{put}
 use Rattle.lists.specs.Below.{Below}
 use Rattle.lists.specs.Distinct.{stands}
 use Rattle.lists.specs.Ranges.{range}
-use Rattle.refusal.specs.declared.Verdict.TheVariants.{Accepted}
 use Rattle.scheme.specs.Scheme.{Scheme, Valid}
 use Rattle.scheme.specs.Laws.{Laws}
 use Rattle.calendar.specs.declared.Day.{Day}
+use Rattle.refusal.specs.Verdicts.{accepted}
 use Rattle.catalogue.specs.declared.Catalogue.{Catalogue}
 use Rattle.catalogue.specs.Catalogue.{Admitted}
 use Rattle.catalogue.specs.Days.{Served}
@@ -71,14 +71,14 @@ module _ (scheme_of : Catalogue → Scheme) (c : Catalogue) (admitted : Admitted
       let s : Session = session_of c wanted key issued no_marks meters in
       let counts : counted meters.sent from + (scheme_of c).sizes.query ≤ most_bytes =
       let w = k.agree-sent from in let z = none from (omega arith) in omega (arith, w, z, small) in
-      let accepted : issue_verdict scheme_of s (day from) from (length query) ≡ Accepted = issue-accepted scheme_of s (day from) from (length query) (record {
+      let agrees : issue_verdict scheme_of s (day from) from (length query) ≡ accepted = issue-accepted scheme_of s (day from) from (length query) (record {
         sound = sound scheme_of c admitted laws wanted inside key valid room (record { issued = to; taken = [] }) issued no_marks meters answers k;
         served = (in-season from below).0;
         below = below;
         roomy = room_for;
         counts = counts;
       }) in
-      rw (issue-by scheme_of s (day from) from query Accepted (sym accepted))
+      rw (issue-by scheme_of s (day from) from query accepted (sym agrees))
       (later refl
       (issues-end query answer room_for count (suc from) (omega arith)
       (set issued from true) (count_issued meters from (scheme_of c).sizes.query) (from ∷ to) answers

@@ -11,10 +11,10 @@ use Rattle.lists.specs.Parts.{put}
 use Rattle.lists.specs.Below.{Below}
 use Rattle.lists.specs.Distinct.{stands}
 use Rattle.lists.specs.Ranges.{range}
-use Rattle.refusal.specs.declared.Verdict.TheVariants.{Accepted}
 use Rattle.scheme.specs.Scheme.{Scheme, Valid}
 use Rattle.scheme.specs.Laws.{Laws}
 use Rattle.calendar.specs.declared.Day.{Day}
+use Rattle.refusal.specs.Verdicts.{accepted}
 use Rattle.catalogue.specs.declared.Catalogue.{Catalogue}
 use Rattle.catalogue.specs.Catalogue.{Admitted}
 use Rattle.catalogue.specs.Days.{Served}
@@ -73,7 +73,7 @@ module _ (scheme_of : Catalogue → Scheme) (c : Catalogue) (admitted : Admitted
         was-issued = all from h;
         not_taken = k.agree from ∙ lacks from (omega arith);
       } in
-      let by = take_by_lem scheme_of (session_of c wanted key issued taken meters) from (answer_from from) answers Accepted
+      let by = take_by_lem scheme_of (session_of c wanted key issued taken meters) from (answer_from from) answers accepted
       (sym (take-accepted scheme_of (session_of c wanted key issued taken meters) from (length (answer_from from)) (length answers) t)) in
       rw by
       (later refl

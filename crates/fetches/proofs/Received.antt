@@ -10,10 +10,10 @@ use lib.Dec.{eqb}
 use lib.ListN.{length}
 use Rattle.lists.specs.Distinct.{stands}
 use Rattle.lists.specs.Ranges.{range}
-use Rattle.refusal.specs.declared.Verdict.{Verdict}
-use Rattle.refusal.specs.declared.Verdict.TheVariants.{Accepted, Refused}
 use Rattle.scheme.specs.Scheme.{Scheme, Valid, honest_answers}
 use Rattle.scheme.specs.Laws.{Laws}
+use Rattle.std.specs.Prelude.{Ok, Err}
+use Rattle.refusal.specs.Verdicts.{Verdict, accepted}
 use Rattle.catalogue.specs.declared.Catalogue.{Catalogue}
 use Rattle.catalogue.specs.Catalogue.{Admitted}
 use Rattle.session.specs.declared.Session.{Session}
@@ -92,20 +92,20 @@ module _ (scheme_of : Catalogue → Scheme) (c : Catalogue) (admitted : Admitted
         where
           issued-grows : (v : Verdict)
               → 0 + taken c.servers past.taken * slot ≤ taken c.servers (past_by (issuing server day query answer_day answer) v past).taken * slot
-          issued-grows Accepted = omega arith
-          issued-grows (Refused refusal) = omega arith
+          issued-grows (Ok _) = omega arith
+          issued-grows (Err refusal) = omega arith
       grows (recovering message) = omega arith
       grows (taking server answer) = go (take_verdict scheme_of s server (length answer) (length answers)) refl
         where
           go : (v : Verdict) → v ≡ take_verdict scheme_of s server (length answer) (length answers) → Grows (taking server answer)
-          go Accepted e =
+          go (Ok _) e =
               let t = take-passed scheme_of s server (length answer) (length answers) (sym e) in
               let sized : length answer ≡ (scheme_of c).answer_length ((scheme_of c).query wanted server key)
               = t.sized ∙ ap (scheme_of c).answer_length (kept-query scheme_of c admitted laws wanted inside key valid issued marks meters server) in
               let fits = fits-slot scheme_of c admitted laws wanted inside key valid server t.below in
               let count = taken_more c.servers server past.taken t.below (sym (k.agree server) ∙ t.not_taken) in
-              rw (take_by_lem scheme_of s server answer answers Accepted e, count, suc-mul) (omega arith)
-          go (Refused refusal) e = rw (take_by_lem scheme_of s server answer answers (Refused refusal) e) (omega arith)
+              rw (take_by_lem scheme_of s server answer answers accepted e, count, suc-mul) (omega arith)
+          go (Err refusal) e = rw (take_by_lem scheme_of s server answer answers (Err refusal) e) (omega arith)
 
     receives : (calls : List Call) (room : ℕ) (past : Past) (issued marks : List Bool) (meters : Meters) (answers : List ℕ)
         → Kept scheme_of c wanted key room past issued marks meters answers
@@ -134,7 +134,7 @@ module _ (scheme_of : Catalogue → Scheme) (c : Catalogue) (admitted : Admitted
   bounded : Bounded scheme_of c
   unfolding honest_answers
   bounded = record {
-    given = bound-done scheme_of c Accepted (sym admitted) refl;
+    given = bound-done scheme_of c accepted (sym admitted) refl;
     taken = λ f inside valid.
         let most = receives f.wanted inside f.key valid f.calls (length f.answers) nothing no_marks no_marks no_meters f.answers
         (kept-first scheme_of c f.wanted f.key f.answers) in

@@ -13,8 +13,7 @@ use Rattle.lists.specs.Parts.{put}
 use Rattle.lists.specs.Below.{Below}
 use Rattle.lists.proofs.Every.{every_true, every-false}
 use Rattle.lists.proofs.Mapped.{map_range}
-use Rattle.refusal.specs.declared.Verdict.{Verdict}
-use Rattle.refusal.specs.declared.Verdict.TheVariants.{Accepted}
+use Rattle.refusal.specs.Verdicts.{Verdict, accepted}
 use Rattle.refusal.specs.Chain.{refused, refuse_if}
 use Rattle.scheme.specs.Scheme.{Scheme, Valid, honest_answers, answers_in, recover_in}
 use Rattle.scheme.specs.Laws.{Laws}
@@ -50,14 +49,14 @@ module _ (scheme_of : Catalogue → Scheme) (c : Catalogue) (admitted : Admitted
 
     verdict-left : verdict
         ≡ refuse_if (ltb room (slots_of scheme_of c)) 9
-        (refuse_if (ltb (length message) (message_length scheme_of c wanted)) 9 (refuse_if (not (all_taken c.servers taken)) 12 Accepted))
+        (refuse_if (ltb (length message) (message_length scheme_of c wanted)) 9 (refuse_if (not (all_taken c.servers taken)) 12 accepted))
     verdict-left = rw (← k.room-kept)
         (recover-verdict scheme_of s (sound scheme_of c admitted laws wanted inside key valid room past issued taken meters answers k)
         (length answers) (length message))
 
     -- all are taken, by the calls and so by the marks
     all-verdict : AllTaken scheme_of c past → verdict
-        ≡ refuse_if (ltb (length message) (message_length scheme_of c wanted)) 9 Accepted
+        ≡ refuse_if (ltb (length message) (message_length scheme_of c wanted)) 9 accepted
     unfolding all_taken
     all-verdict all =
         verdict-left
@@ -95,9 +94,9 @@ module _ (scheme_of : Catalogue → Scheme) (c : Catalogue) (admitted : Admitted
       pub recover-message : message_length scheme_of c wanted ≤ length message
           → (recover scheme_of s answers message).buffer ≡ put 0 (message_in scheme_of c store wanted) message
       recover-message fits =
-          let e : verdict ≡ Accepted
+          let e : verdict ≡ accepted
           = rw (le-ltb (length message) (message_length scheme_of c wanted) fits) at (all-verdict all) in
-          rw (recover-by scheme_of s answers message Accepted (sym e), gives)
+          rw (recover-by scheme_of s answers message accepted (sym e), gives)
 
   -- over the calls of a fetch
   says : (room : ℕ) (past : Past) (issued taken : List Bool) (meters : Meters) (answers : List ℕ)

@@ -7,9 +7,8 @@ use Prim.Native.Nat.{ℕ, ◌+◌}
 use lib.Dec.{ltb, eqb}
 use lib.ListN.{length, replicate, length-replicate}
 use Rattle.lists.specs.Sums.{keep, keep_if}
-use Rattle.refusal.specs.declared.Verdict.{Verdict}
-use Rattle.refusal.specs.declared.Verdict.TheVariants.{Accepted, Refused}
-use Rattle.refusal.specs.declared.Outcome.TheVariants.{Value}
+use Rattle.std.specs.Prelude.{Ok, Err}
+use Rattle.refusal.specs.Verdicts.{Verdict, accepted}
 use Rattle.refusal.specs.Chain.{refuse_if, and_then}
 use Rattle.scheme.specs.Scheme.{Scheme}
 use Rattle.scheme.specs.Laws.{Laws}
@@ -18,18 +17,18 @@ use Rattle.catalogue.specs.declared.Catalogue.{Catalogue}
 use Rattle.catalogue.specs.Days.{day_verdict}
 use Rattle.server.specs.Answering.{answer_verdict}
 use Rattle.server.proofs.Laws.{answer-by, writes-answer}
-use Rattle.fetches.specs.Shown.{Shown, asked, Issue, issues, asking, showing}
+use Rattle.fetches.specs.Shown.{Shown, asked, Issue, asking, showing}
 use Rattle.session_parts.specs.Meters.{most_bytes}
 
 -- the verdict on an issue to a server that is there, where queries have `size` bytes and so many bytes were issued to it before
 abbrev pub verdict_on : Catalogue → ℕ → ℕ → Day → ℕ → Verdict
 verdict_on c size before day room =
-    and_then (day_verdict c day) (refuse_if (ltb room size) 9 (refuse_if (ltb most_bytes (before + size)) 16 Accepted))
+    and_then (day_verdict c day) (refuse_if (ltb room size) 9 (refuse_if (ltb most_bytes (before + size)) 16 accepted))
 
 -- the bytes issued to it after that
 abbrev pub sent_after : ℕ → ℕ → Verdict → ℕ
-sent_after size before Accepted = size + before
-sent_after size before (Refused refusal) = before
+sent_after size before (Ok _) = size + before
+sent_after size before (Err refusal) = before
 
 module _ (scheme_of : Catalogue → Scheme) (c : Catalogue) (store : List ℕ) (n : ℕ) (query : List ℕ) where
   -- the bytes of a query
@@ -70,13 +69,13 @@ module _ (scheme_of : Catalogue → Scheme) (c : Catalogue) (laws : Laws c.serve
   -- what answering shows goes by its verdict
   pub answer-shown : (answer : List ℕ) (v : Verdict) → v ≡ verdict answer → (other : List ℕ) → v ≡ verdict other
       → asking scheme_of c store n query day answer ≡ asking scheme_of c store n query day other
-  answer-shown answer Accepted e other f =
+  answer-shown answer (Ok _) e other f =
       let written = writes-answer scheme_of c laws day n store query answer (sym e) ∙ sym (writes-answer scheme_of c laws day n store query other (sym f)) in
-      let by = answer-by scheme_of c day n store query answer Accepted e in
-      let by' = answer-by scheme_of c day n store query other Accepted f in
-      rw (by, by') (ap (asked query (Value ((scheme_of c).answer_length query))) (rw (by, by') at written))
-  answer-shown answer (Refused refusal) e other f =
-      rw (answer-by scheme_of c day n store query answer (Refused refusal) e, answer-by scheme_of c day n store query other (Refused refusal) f)
+      let by = answer-by scheme_of c day n store query answer accepted e in
+      let by' = answer-by scheme_of c day n store query other accepted f in
+      rw (by, by') (ap (asked query (Ok ((scheme_of c).answer_length query))) (rw (by, by') at written))
+  answer-shown answer (Err refusal) e other f =
+      rw (answer-by scheme_of c day n store query answer (Err refusal) e, answer-by scheme_of c day n store query other (Err refusal) f)
 
   -- and so by the length of the buffer that the query is answered into
   pub same-room : (answer : List ℕ) → asking scheme_of c store n query day answer ≡ asking scheme_of c store n query day (replicate (length answer) 0)

@@ -12,11 +12,11 @@ use lib.ListN.{length, take, replicate, length-replicate}
 use lib.Seq.{take_all, length-take-le}
 use Rattle.lists.specs.Ranges.{range}
 use Rattle.lists.proofs.Cuts.{cut-length, slot-end}
-use Rattle.refusal.specs.declared.Verdict.TheVariants.{Accepted}
-use Rattle.refusal.specs.declared.Outcome.TheVariants.{Value}
 use Rattle.scheme.specs.Scheme.{Scheme, Valid, message_of}
 use Rattle.scheme.specs.Laws.{Laws}
 use Rattle.calendar.specs.declared.Day.{Day}
+use Rattle.std.specs.Prelude.{Ok}
+use Rattle.refusal.specs.Verdicts.{accepted}
 use Rattle.catalogue.specs.declared.Catalogue.{Catalogue}
 use Rattle.catalogue.specs.Catalogue.{Admitted}
 use Rattle.catalogue.specs.Days.{Served}
@@ -85,11 +85,11 @@ module _ (scheme_of : Catalogue → Scheme) (c : Catalogue) (admitted : Admitted
 
   -- a server answers the query honestly, on a day in season
   pub honest : (day : Day) → Served c day → (buffer : List ℕ) → (scheme_of c).sizes.slot ≤ length buffer
-      → asking scheme_of c store n query day buffer ≡ asked query (Value (length answer)) answer
+      → asking scheme_of c store n query day buffer ≡ asked query (Ok (length answer)) answer
   honest day in-season buffer roomy =
       let admits = laws.query-admitted wanted n key inside below valid in
       let sized : length answer ≡ (scheme_of c).answer_length query = laws.answer-length n store query long admits in
-      let accepted : answer_verdict scheme_of c day n (length store) query (length buffer) ≡ Accepted =
+      let agrees : answer_verdict scheme_of c day n (length store) query (length buffer) ≡ accepted =
       answer-accepted scheme_of c day n (length store) query (length buffer) (record {
         admitted = admitted;
         served = in-season;
@@ -98,16 +98,16 @@ module _ (scheme_of : Catalogue → Scheme) (c : Catalogue) (admitted : Admitted
         store_long = long;
         roomy = omega (arith, laws.answer-fits n query admits);
       }) in
-      let by = answer-by scheme_of c day n store query buffer Accepted (sym accepted) in
-      let written = writes-answer scheme_of c laws day n store query buffer accepted in
+      let by = answer-by scheme_of c day n store query buffer accepted (sym agrees) in
+      let written = writes-answer scheme_of c laws day n store query buffer agrees in
       rw by
-      (ap (asked query (Value ((scheme_of c).answer_length query))) (rw by at written) ∙ ap (λ (size : ℕ). asked query (Value size) answer) (sym sized))
+      (ap (asked query (Ok ((scheme_of c).answer_length query))) (rw by at written) ∙ ap (λ (size : ℕ). asked query (Ok size) answer) (sym sized))
 
   pub served : (day answer_day : ℕ → Day) → Served c (day n) → Served c (answer_day n)
       → (answers query_buffer answer_buffer message : List ℕ) → (scheme_of c).sizes.query ≤ length query_buffer
       → (scheme_of c).sizes.slot ≤ length answer_buffer
       → shown_to scheme_of c store n (history scheme_of c (plain_fetch scheme_of c store wanted key day answer_day answers query_buffer answer_buffer message))
-      ≡ asked query (Value (length answer)) answer ∷ []
+      ≡ asked query (Ok (length answer)) answer ∷ []
   served day answer_day issued-in answered-in answers query_buffer answer_buffer message query-fits answer-fits =
       fetch-shown scheme_of c admitted laws store n below
       (plain_fetch scheme_of c store wanted key day answer_day answers query_buffer answer_buffer message) inside valid
@@ -115,7 +115,7 @@ module _ (scheme_of : Catalogue → Scheme) (c : Catalogue) (admitted : Admitted
       (no-issues (answer_of scheme_of c store wanted key) message c.servers 0) c.servers 0 (omega arith) (omega (arith, zero-add c.servers))
       ∙ ap (λ (s : Shown). s ∷ []) once
     where
-      once : seen scheme_of c store n query 0 (day n) (length query_buffer) (answer_day n) (length answer_buffer) ≡ asked query (Value (length answer)) answer
+      once : seen scheme_of c store n query 0 (day n) (length query_buffer) (answer_day n) (length answer_buffer) ≡ asked query (Ok (length answer)) answer
       once =
           rw (
             issued-in,

@@ -10,11 +10,11 @@ use lib.Dec.{eqb}
 use lib.ListN.{length, set}
 use Rattle.lists.specs.Distinct.{stands}
 use Rattle.lists.specs.Parts.{cut, put}
-use Rattle.refusal.specs.declared.Verdict.{Verdict}
-use Rattle.refusal.specs.declared.Verdict.TheVariants.{Accepted, Refused}
 use Rattle.scheme.specs.Scheme.{Scheme, Valid}
 use Rattle.scheme.specs.Laws.{Laws}
 use Rattle.calendar.specs.declared.Day.{Day}
+use Rattle.std.specs.Prelude.{Err, Ok}
+use Rattle.refusal.specs.Verdicts.{Verdict, accepted}
 use Rattle.catalogue.specs.declared.Catalogue.{Catalogue}
 use Rattle.catalogue.specs.Catalogue.{Admitted}
 use Rattle.session.specs.declared.Session.{Session}
@@ -110,8 +110,8 @@ module _ (scheme_of : Catalogue → Scheme) (c : Catalogue) (admitted : Admitted
       where
         go : (v : Verdict) → v ≡ issue_verdict scheme_of s day server (length buffer)
             → Next scheme_of c wanted key room past at (issuing server day buffer answer_day answer)
-        go Accepted e =
-            let done = issue-by scheme_of s day server buffer Accepted e in
+        go (Ok _) e =
+            let done = issue-by scheme_of s day server buffer accepted e in
             let i = issue-passed scheme_of s day server (length buffer) (sym e) in
             record {
               issued = set issued server true;
@@ -122,8 +122,8 @@ module _ (scheme_of : Catalogue → Scheme) (c : Catalogue) (admitted : Admitted
               kept = rw done (issue-kept server i.below i.counts);
               held = rw done (λ store h honest. h);
             }
-        go (Refused refusal) e =
-            let done = issue-by scheme_of s day server buffer (Refused refusal) e in
+        go (Err refusal) e =
+            let done = issue-by scheme_of s day server buffer (Err refusal) e in
             record { issued = issued; taken = taken; meters = meters; answers = answers; is = rw done; kept = rw done k; held = rw done (λ store h honest. h) }
 
     next-recover : (message : List ℕ) → Next scheme_of c wanted key room past at (recovering message)
@@ -191,8 +191,8 @@ module _ (scheme_of : Catalogue → Scheme) (c : Catalogue) (admitted : Admitted
     next-take server answer = go (take_verdict scheme_of s server (length answer) (length answers)) refl
       where
         go : (v : Verdict) → v ≡ take_verdict scheme_of s server (length answer) (length answers) → Next scheme_of c wanted key room past at (taking server answer)
-        go Accepted e =
-            let by = take_by_lem scheme_of s server answer answers Accepted e in
+        go (Ok _) e =
+            let by = take_by_lem scheme_of s server answer answers accepted e in
             let t = take-passed scheme_of s server (length answer) (length answers) (sym e) in
             record {
               issued = issued;
@@ -203,8 +203,8 @@ module _ (scheme_of : Catalogue → Scheme) (c : Catalogue) (admitted : Admitted
               kept = rw by (take-kept server answer t);
               held = rw by (λ store h honest. take-held server answer t store h (honest server answer refl refl));
             }
-        go (Refused refusal) e =
-            let by = take_by_lem scheme_of s server answer answers (Refused refusal) e in
+        go (Err refusal) e =
+            let by = take_by_lem scheme_of s server answer answers (Err refusal) e in
             record { issued = issued; taken = taken; meters = meters; answers = answers; is = rw by; kept = rw by k; held = rw by (λ store h honest. h) }
 
     pub next : (call : Call) → Next scheme_of c wanted key room past at call

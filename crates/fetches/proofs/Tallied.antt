@@ -10,8 +10,8 @@ use lib.Dec.{ltb, eqb}
 use lib.ListN.{length}
 use Rattle.lists.specs.Distinct.{stands}
 use Rattle.lists.specs.Sums.{keep_if}
-use Rattle.refusal.specs.declared.Verdict.{Verdict}
-use Rattle.refusal.specs.declared.Verdict.TheVariants.{Accepted, Refused}
+use Rattle.std.specs.Prelude.{Ok, Err}
+use Rattle.refusal.specs.Verdicts.{Verdict, accepted}
 use Rattle.refusal.specs.Chain.{refuse_if}
 use Rattle.scheme.specs.Scheme.{Scheme, Valid}
 use Rattle.scheme.specs.Laws.{Laws}
@@ -23,7 +23,7 @@ use Rattle.session.specs.Calls.{slots_of}
 use Rattle.fetches.specs.Fetches.{Call, issuing, taking, recovering, State, Made, make, ended}
 use Rattle.fetches.specs.Past.{Past, past_by, since}
 use Rattle.fetches.specs.Told.{bytes_to, sent_to}
-use Rattle.fetches.specs.Metered.{Meter, meters_at, sent, got, Named, issue_to, take_from, named}
+use Rattle.fetches.specs.Metered.{Meter, meters_at, Named, issue_to, take_from, named}
 use Rattle.fetches.proofs.Kept.{state_of, Kept}
 use Rattle.fetches.proofs.Steps.{next}
 use Rattle.fetches.proofs.Told.{told}
@@ -39,17 +39,17 @@ abbrev pub none : Tally
 none = record { sent = 0; asked = false; had = false }
 
 abbrev pub after_issue : ℕ → Tally → Verdict → Tally
-after_issue size t Accepted = record { sent = size + t.sent; asked = true; had = t.had }
-after_issue size t (Refused refusal) = t
+after_issue size t (Ok _) = record { sent = size + t.sent; asked = true; had = t.had }
+after_issue size t (Err refusal) = t
 
 abbrev pub after_take : Tally → Verdict → Tally
-after_take t Accepted = record { sent = t.sent; asked = t.asked; had = true }
-after_take t (Refused refusal) = t
+after_take t (Ok _) = record { sent = t.sent; asked = t.asked; had = true }
+after_take t (Err refusal) = t
 
 -- the verdict on a take of `size` bytes, with an answer buffer of `room`, where N slots have `slots` bytes and `due` are due
 abbrev pub take_on : ℕ → ℕ → Tally → ℕ → ℕ → Verdict
 take_on slots due t size room =
-    refuse_if (ltb room slots) 9 (refuse_if (not (eqb size due)) 10 (refuse_if (not t.asked) 11 (refuse_if t.had 11 Accepted)))
+    refuse_if (ltb room slots) 9 (refuse_if (not (eqb size due)) 10 (refuse_if (not t.asked) 11 (refuse_if t.had 11 accepted)))
 
 module _ (scheme_of : Catalogue → Scheme) (c : Catalogue) (due : ℕ) where
   abbrev pub meters_by : Tally → List Named → Meter
@@ -78,24 +78,24 @@ module _ (scheme_of : Catalogue → Scheme) (c : Catalogue) (admitted : Admitted
       issue-here : (day answer_day : Day) (query answer : List ℕ) (v : Verdict)
           → tally_of (past_by (issuing n day query answer_day answer) v past) ≡ after_issue (scheme_of c).sizes.query (tally_of past) v
       unfolding bytes_to stands
-      issue-here day answer_day query answer Accepted = rw (eq-eqb n n refl)
-      issue-here day answer_day query answer (Refused refusal) = refl
+      issue-here day answer_day query answer (Ok _) = rw (eq-eqb n n refl)
+      issue-here day answer_day query answer (Err refusal) = refl
 
       issue-beside : (server : ℕ) (day answer_day : Day) (query answer : List ℕ) → (n ≡ server → ⊥) → (v : Verdict)
           → tally_of (past_by (issuing server day query answer_day answer) v past) ≡ tally_of past
       unfolding bytes_to stands
-      issue-beside server day answer_day query answer ne Accepted = rw (ne_eqb n server ne, zero-add (bytes_to (scheme_of c).sizes.query n past.issued))
-      issue-beside server day answer_day query answer ne (Refused refusal) = refl
+      issue-beside server day answer_day query answer ne (Ok _) = rw (ne_eqb n server ne, zero-add (bytes_to (scheme_of c).sizes.query n past.issued))
+      issue-beside server day answer_day query answer ne (Err refusal) = refl
 
       take-here : (answer : List ℕ) (v : Verdict) → tally_of (past_by (taking n answer) v past) ≡ after_take (tally_of past) v
       unfolding stands
-      take-here answer Accepted = rw (eq-eqb n n refl)
-      take-here answer (Refused refusal) = refl
+      take-here answer (Ok _) = rw (eq-eqb n n refl)
+      take-here answer (Err refusal) = refl
 
       take-beside : (server : ℕ) (answer : List ℕ) → (n ≡ server → ⊥) → (v : Verdict) → tally_of (past_by (taking server answer) v past) ≡ tally_of past
       unfolding stands
-      take-beside server answer ne Accepted = rw (ne_eqb n server ne)
-      take-beside server answer ne (Refused refusal) = refl
+      take-beside server answer ne (Ok _) = rw (ne_eqb n server ne)
+      take-beside server answer ne (Err refusal) = refl
 
       issue-tally : (server : ℕ) (day answer_day : Day) (query answer : List ℕ) (t : Bool) → eqb server n ≡ t
           → tally_of (since past (did (issuing server day query answer_day answer)))

@@ -12,9 +12,9 @@ use Rattle.lists.specs.Below.{Below}
 use Rattle.lists.specs.Sums.{All, all_nil, all_cons}
 use Rattle.lists.specs.Distinct.{stands}
 use Rattle.lists.specs.Sums.{keep}
-use Rattle.refusal.specs.declared.Verdict.TheVariants.{Accepted}
 use Rattle.scheme.specs.Scheme.{Scheme, Valid}
 use Rattle.scheme.specs.Laws.{Laws}
+use Rattle.refusal.specs.Verdicts.{accepted}
 use Rattle.catalogue.specs.declared.Catalogue.{Catalogue}
 use Rattle.catalogue.specs.Catalogue.{Admitted}
 use Rattle.session_parts.specs.Marks.{no_marks}
@@ -69,9 +69,9 @@ held_first scheme_of c store wanted key answers i h e = none-taken i e
 module _ (scheme_of : Catalogue → Scheme) (c : Catalogue) (admitted : Admitted c) (laws : Laws c.servers c.messages (scheme_of c)) where
   -- one fetch
   pub begun : (wanted : ℕ) → wanted < c.messages → (key : List ℕ) → Valid (scheme_of c) key
-      → begin scheme_of c wanted key ≡ record { verdict = Accepted; session = new_session c wanted key }
+      → begin scheme_of c wanted key ≡ record { verdict = accepted; session = new_session c wanted key }
   begun wanted inside key valid =
-      begin-by scheme_of c wanted key Accepted
+      begin-by scheme_of c wanted key accepted
       (sym (begin-accepted scheme_of c wanted key (record { admitted = admitted; inside = inside; valid = valid })))
 
   pub fetch-shown : (store : List ℕ) (n : ℕ) → n < c.servers → (f : Fetch) → f.wanted < c.messages → Valid (scheme_of c) f.key

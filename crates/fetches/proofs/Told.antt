@@ -9,7 +9,7 @@ use borrow.Author.Tests.{leb-false}
 use lib.Dec.{leb, ltb, eqb}
 use lib.ListN.{length}
 use Rattle.lists.specs.Parts.{put}
-use Rattle.refusal.specs.declared.Verdict.TheVariants.{Accepted}
+use Rattle.refusal.specs.Verdicts.{accepted}
 use Rattle.refusal.specs.Chain.{refuse_if}
 use Rattle.scheme.specs.Scheme.{Scheme, Valid}
 use Rattle.scheme.specs.Laws.{Laws}
@@ -70,11 +70,11 @@ module _ (scheme_of : Catalogue → Scheme) (c : Catalogue) (admitted : Admitted
         (issue-goes scheme_of s day server query).says ∙ issue-sound scheme_of s day server good (length query)
         ∙ ap (λ (before : ℕ). issue_says scheme_of c before day server (length query)) (k.agree-sent server)
 
-    query-told : (server : ℕ) (day answer_day : Day) (query answer : List ℕ) → (made (issuing server day query answer_day answer)).verdict ≡ Accepted
+    query-told : (server : ℕ) (day answer_day : Day) (query answer : List ℕ) → (made (issuing server day query answer_day answer)).verdict ≡ accepted
         → (made (issuing server day query answer_day answer)).left ≡ put 0 ((scheme_of c).query wanted server key) query
     query-told server day answer_day query answer e =
         rw (
-          issue-by scheme_of s day server query Accepted (sym e ∙ (issue-goes scheme_of s day server query).says),
+          issue-by scheme_of s day server query accepted (sym e ∙ (issue-goes scheme_of s day server query).says),
           kept-query scheme_of c admitted laws wanted inside key valid issued taken meters server,
         )
 
@@ -85,7 +85,7 @@ module _ (scheme_of : Catalogue → Scheme) (c : Catalogue) (admitted : Admitted
             → refuse_if (leb c.servers server) 3
             (refuse_if (ltb (length answers) (slots_of scheme_of c)) 9
             (refuse_if (not (eqb size ((scheme_of c).answer_length (query_of scheme_of s server)))) 10
-            (refuse_if (not (marked issued server)) 11 (refuse_if (marked taken server) 11 Accepted))))
+            (refuse_if (not (marked issued server)) 11 (refuse_if (marked taken server) 11 accepted))))
             ≡ take_says scheme_of c wanted key room past server size
         go true e = rw e
         go false e =

@@ -7,11 +7,11 @@ use Prim.Native.Nat.{ℕ, ◌<◌}
 use lib.Dec.{eqb}
 use lib.ListN.{length, take, replicate}
 use Rattle.lists.specs.Sums.{All, all_nil, all_cons}
-use Rattle.refusal.specs.declared.Verdict.{Verdict}
-use Rattle.refusal.specs.declared.Verdict.TheVariants.{Accepted, Refused}
 use Rattle.scheme.specs.Scheme.{Scheme, Valid}
 use Rattle.lengths.specs.declared.Lengths.{Lengths}
 use Rattle.calendar.specs.declared.Day.{Day}
+use Rattle.std.specs.Prelude.{Ok, Err}
+use Rattle.refusal.specs.Verdicts.{Verdict, accepted}
 use Rattle.catalogue.specs.declared.Catalogue.{Catalogue}
 use Rattle.catalogue.specs.Catalogue.{Admitted}
 use Rattle.catalogue.specs.Days.{day_verdict}
@@ -34,13 +34,13 @@ module _ (scheme_of : Catalogue → Scheme) where
         → answer_verdict scheme_of d day n (length store) query room ≡ answer_verdict scheme_of c day n (length store) query room
     unfolding answer_verdict
     verdict-same day query room =
-        sym (after-catalogue d _ refl Accepted _ (sym admitted') refl)
+        sym (after-catalogue d _ refl accepted _ (sym admitted') refl)
         ∙ rw same
-        (after-catalogue c _ refl Accepted _ (sym admitted) refl)
+        (after-catalogue c _ refl accepted _ (sym admitted) refl)
 
     by-same : (query buffer : List ℕ) (v : Verdict) → answer_by scheme_of d store query buffer v ≡ answer_by scheme_of c store query buffer v
-    by-same query buffer Accepted = rw same
-    by-same query buffer (Refused refusal) = refl
+    by-same query buffer (Ok _) = rw same
+    by-same query buffer (Err refusal) = refl
 
     answering-same : (day : Day) (query buffer : List ℕ)
         → answering scheme_of d day n store query buffer ≡ answering scheme_of c day n store query buffer
@@ -51,11 +51,11 @@ module _ (scheme_of : Catalogue → Scheme) where
 
     showing-same : (query : List ℕ) (answer_day : Day) (buffer : List ℕ) (v : Verdict)
         → showing scheme_of d store n query answer_day buffer v ≡ showing scheme_of c store n query answer_day buffer v
-    showing-same query answer_day buffer Accepted =
+    showing-same query answer_day buffer (Ok _) =
         ap₂ (asked_and scheme_of c store) (ap (λ (scheme : Scheme). take scheme.sizes.query query) same)
         (ap (λ (scheme : Scheme). answering scheme_of d answer_day n store (take scheme.sizes.query query) buffer) same
         ∙ answering-same answer_day (take (scheme_of c).sizes.query query) buffer)
-    showing-same query answer_day buffer (Refused refusal) = refl
+    showing-same query answer_day buffer (Err refusal) = refl
 
     -- the verdict on an issue
     says_same : (before : ℕ) (day : Day) (room : ℕ)

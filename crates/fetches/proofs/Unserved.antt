@@ -9,8 +9,8 @@ use lib.Dec.{leb, ltb, eqb}
 use lib.ListN.{length}
 use Rattle.lists.specs.Distinct.{stands}
 use Rattle.lists.specs.Sums.{All, all_nil, all_cons}
-use Rattle.refusal.specs.declared.Verdict.{Verdict}
-use Rattle.refusal.specs.declared.Verdict.TheVariants.{Refused}
+use Rattle.std.specs.Prelude.{Err}
+use Rattle.refusal.specs.Verdicts.{Verdict}
 use Rattle.refusal.specs.Chain.{refused, refuse_if}
 use Rattle.scheme.specs.Scheme.{Scheme}
 use Rattle.catalogue.specs.declared.Catalogue.{Catalogue}
@@ -38,7 +38,7 @@ module _ (scheme_of : Catalogue → Scheme) (c : Catalogue) (some : 0 < c.server
       → since nothing (make scheme_of at call) ≡ nothing
   unfolding stands
   still-nothing at (issuing server day query answer_day answer) u told =
-      let late : (make scheme_of at (issuing server day query answer_day answer)).verdict ≡ Refused u.0 =
+      let late : (make scheme_of at (issuing server day query answer_day answer)).verdict ≡ Err u.0 =
       rw u.1 at (told.issues server day answer_day query answer refl) in
       ap (λ (v : Verdict). past_by (issuing server day query answer_day answer) v nothing) late
   still-nothing at (taking server answer) u told =

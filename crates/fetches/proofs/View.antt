@@ -3,16 +3,16 @@
 use mathlib.Core.Path.{◌≡◌, refl, sym, ap, ◌∙◌}
 use mathlib.Core.Bool.{Bool, true, false, cond}
 use mathlib.Core.List.{List, [], ◌∷◌, ◌++◌}
-use Prim.Native.Nat.{ℕ, ◌+◌, ◌<◌}
+use Prim.Native.Nat.{ℕ, ◌<◌}
 use native.Mathlib.Nat.{zero-add}
 use borrow.Author.Tests.{eqb-true, eqb-false, eq-eqb, ne_eqb, lt-leb}
 use lib.Dec.{eqb}
 use lib.ListN.{length}
-use Rattle.refusal.specs.declared.Verdict.{Verdict}
-use Rattle.refusal.specs.declared.Verdict.TheVariants.{Accepted, Refused}
 use Rattle.scheme.specs.Scheme.{Scheme, Valid}
 use Rattle.scheme.specs.Laws.{Laws}
 use Rattle.calendar.specs.declared.Day.{Day}
+use Rattle.std.specs.Prelude.{Ok, Err}
+use Rattle.refusal.specs.Verdicts.{Verdict}
 use Rattle.catalogue.specs.declared.Catalogue.{Catalogue}
 use Rattle.catalogue.specs.Catalogue.{Admitted}
 use Rattle.session_parts.specs.declared.Meters.{Meters}
@@ -52,18 +52,18 @@ module _ (scheme_of : Catalogue → Scheme) (c : Catalogue) (admitted : Admitted
     issue-counts : (day answer_day : Day) (buffer answer : List ℕ) (v : Verdict)
         → sent (past_by (issuing n day buffer answer_day answer) v past) ≡ sent_after (scheme_of c).sizes.query (sent past) v
     unfolding bytes_to
-    issue-counts day answer_day buffer answer Accepted = rw (eq-eqb n n refl)
-    issue-counts day answer_day buffer answer (Refused refusal) = refl
+    issue-counts day answer_day buffer answer (Ok _) = rw (eq-eqb n n refl)
+    issue-counts day answer_day buffer answer (Err refusal) = refl
 
     issue-beside : (server : ℕ) (day answer_day : Day) (buffer answer : List ℕ) → (n ≡ server → ⊥) → (v : Verdict)
         → sent (past_by (issuing server day buffer answer_day answer) v past) ≡ sent past
     unfolding bytes_to
-    issue-beside server day answer_day buffer answer ne Accepted = rw (ne_eqb n server ne) (zero-add (bytes_to (scheme_of c).sizes.query n past.issued))
-    issue-beside server day answer_day buffer answer ne (Refused refusal) = refl
+    issue-beside server day answer_day buffer answer ne (Ok _) = rw (ne_eqb n server ne) (zero-add (bytes_to (scheme_of c).sizes.query n past.issued))
+    issue-beside server day answer_day buffer answer ne (Err refusal) = refl
 
     take-counts : (server : ℕ) (answer : List ℕ) (v : Verdict) → sent (past_by (taking server answer) v past) ≡ sent past
-    take-counts server answer Accepted = refl
-    take-counts server answer (Refused refusal) = refl
+    take-counts server answer (Ok _) = refl
+    take-counts server answer (Err refusal) = refl
 
     issue-sent : (server : ℕ) (day answer_day : Day) (buffer answer : List ℕ) (t : Bool) → eqb server n ≡ t
         → sent (since past (issue_made server day buffer answer_day answer))

@@ -1,9 +1,9 @@
 -- Fetches (document 01, 'Lists of fetches'): the calls that follow a begin, made one after another, and what each did.
 -- `make` makes one call, and `history` is what all calls of a fetch did, in order.
 use Rattle.std.specs.Prelude.{List, [], ◌∷◌, ℕ}
-use Rattle.refusal.specs.declared.Verdict.{Verdict}
 use Rattle.scheme.specs.Scheme.{Scheme}
 use Rattle.calendar.specs.declared.Day.{Day}
+use Rattle.refusal.specs.Verdicts.{Verdict}
 use Rattle.catalogue.specs.declared.Catalogue.{Catalogue}
 use Rattle.session.specs.declared.Session.{Session}
 use Rattle.session.specs.Calls.{Out, begin, issue, take_answer, recover}

@@ -1,11 +1,10 @@
 -- What a session's meters say (document 02, item 5): for each server, the sums over the calls made since begin (`Metered`); and the calls that two fetches
 -- must agree on for the meters of a server to agree (`MetersAgree`).
-use Rattle.std.specs.Prelude.{◌≡◌, cond, List, [], ◌∷◌, ℕ, ◌+◌, ◌≤◌, eqb, length, take}
+use Rattle.std.specs.Prelude.{◌≡◌, cond, List, [], ◌∷◌, ℕ, ◌+◌, ◌≤◌, eqb, length, take, Ok, Err}
 use Rattle.lists.specs.Sums.{keep_if}
-use Rattle.refusal.specs.declared.Verdict.{Verdict}
-use Rattle.refusal.specs.declared.Verdict.TheVariants.{Accepted, Refused}
 use Rattle.scheme.specs.Scheme.{Scheme}
 use Rattle.calendar.specs.declared.Day.{Day}
+use Rattle.refusal.specs.Verdicts.{Verdict}
 use Rattle.catalogue.specs.declared.Catalogue.{Catalogue}
 use Rattle.session_parts.specs.Meters.{most_bytes, counted}
 use Rattle.fetches.specs.Fetches.{Call, issuing, taking, recovering, Fetch, State, Made, history, start, ended}
@@ -22,8 +21,8 @@ meters_at n at = record { sent = counted at.session.meters.sent n; got = counted
 -- the bytes that a call took from server n: of its answer, if it was not refused
 abbrev pub got_by : ℕ → Call → Verdict → ℕ
 got_by n (issuing server day query answer_day answer) verdict = 0
-got_by n (taking server answer) Accepted = cond (eqb server n) (length answer) 0
-got_by n (taking server answer) (Refused refusal) = 0
+got_by n (taking server answer) (Ok _) = cond (eqb server n) (length answer) 0
+got_by n (taking server answer) (Err refusal) = 0
 got_by n (recovering message) verdict = 0
 
 abbrev pub got : ℕ → List Made → ℕ
@@ -54,8 +53,8 @@ pub data Alongside (P : Fetch → Fetch → Type 0) : List Fetch → List Fetch 
 module _ (scheme_of : Catalogue → Scheme) (c : Catalogue) where
   -- the bytes that a call issued to server n: of the query that it left at the start of its buffer, if it was not refused
   abbrev pub sent_by : ℕ → Call → List ℕ → Verdict → ℕ
-  sent_by n (issuing server day query answer_day answer) left Accepted = cond (eqb server n) (length (take (scheme_of c).sizes.query left)) 0
-  sent_by n (issuing server day query answer_day answer) left (Refused refusal) = 0
+  sent_by n (issuing server day query answer_day answer) left (Ok _) = cond (eqb server n) (length (take (scheme_of c).sizes.query left)) 0
+  sent_by n (issuing server day query answer_day answer) left (Err refusal) = 0
   sent_by n (taking server answer) left verdict = 0
   sent_by n (recovering message) left verdict = 0
 

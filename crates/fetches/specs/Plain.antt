@@ -1,14 +1,13 @@
 -- The plain fetch: a query issued to each server, the answer of each taken, the message recovered. What is promised of it, for every admitted catalogue,
 -- store of the catalogue's length, wanted message and valid key, and any days in the catalogue's season, shuts out ends that refuse everything, or ask or
 -- answer nothing (demand 2): `PlainFetches`.
-use Rattle.std.specs.Prelude.{◌≡◌, List, [], ◌∷◌, ◌++◌, map, ℕ, ◌≤◌, ◌<◌, length}
+use Rattle.std.specs.Prelude.{◌≡◌, List, [], ◌∷◌, ◌++◌, map, ℕ, ◌≤◌, ◌<◌, length, Ok}
 use Rattle.lists.specs.Parts.{put}
 use Rattle.lists.specs.Below.{Below}
 use Rattle.lists.specs.Ranges.{range}
-use Rattle.refusal.specs.declared.Verdict.TheVariants.{Accepted}
-use Rattle.refusal.specs.declared.Outcome.TheVariants.{Value}
 use Rattle.scheme.specs.Scheme.{Scheme, Valid}
 use Rattle.calendar.specs.declared.Day.{Day}
+use Rattle.refusal.specs.Verdicts.{accepted}
 use Rattle.catalogue.specs.declared.Catalogue.{Catalogue}
 use Rattle.catalogue.specs.Catalogue.{Admitted}
 use Rattle.catalogue.specs.Days.{Served}
@@ -19,8 +18,8 @@ use Rattle.fetches.specs.Shown.{asked, shown_to}
 
 -- every call is accepted, and P holds of the last one
 pub data Ends (P : Made → Type 0) : List Made → Type 0 where
-  last : {made : Made} → made.verdict ≡ Accepted → P made → Ends P (made ∷ [])
-  later : {made : Made} {rest : List Made} → made.verdict ≡ Accepted → Ends P rest → Ends P (made ∷ rest)
+  last : {made : Made} → made.verdict ≡ accepted → P made → Ends P (made ∷ [])
+  later : {made : Made} {rest : List Made} → made.verdict ≡ accepted → Ends P rest → Ends P (made ∷ rest)
 
 module _ (scheme_of : Catalogue → Scheme) (c : Catalogue) (store : List ℕ) (wanted : ℕ) (key : List ℕ) where
   -- the query that a server is asked, and its honest answer
@@ -46,7 +45,7 @@ module _ (scheme_of : Catalogue → Scheme) (c : Catalogue) (store : List ℕ) (
     pub whole : length (message_in scheme_of c store wanted) ≡ message_length scheme_of c wanted
     pub served : (n : ℕ) → n < c.servers
         → shown_to scheme_of c store n (history scheme_of c (plain_fetch day answer_day answers query answer message))
-        ≡ asked (query_to n) (Value (length (answer_of n))) (answer_of n) ∷ []
+        ≡ asked (query_to n) (Ok (length (answer_of n))) (answer_of n) ∷ []
     pub ends : Ends (λ (made : Made). made.left ≡ put 0 (message_in scheme_of c store wanted) message)
         (history scheme_of c (plain_fetch day answer_day answers query answer message))
 

@@ -1,9 +1,7 @@
 -- The bytes that a fetch receives, and the bound on them that the catalogue gives (document 01, 'Session'): `Bounded`.
-use Rattle.std.specs.Prelude.{◌≡◌, List, [], ◌∷◌, ℕ, ◌+◌, ◌≤◌, ◌<◌, length}
-use Rattle.refusal.specs.declared.Verdict.{Verdict}
-use Rattle.refusal.specs.declared.Verdict.TheVariants.{Accepted, Refused}
-use Rattle.refusal.specs.declared.Outcome.TheVariants.{Value}
+use Rattle.std.specs.Prelude.{◌≡◌, List, [], ◌∷◌, ℕ, ◌+◌, ◌≤◌, ◌<◌, length, Ok, Err}
 use Rattle.scheme.specs.Scheme.{Scheme, Valid, honest_answers}
+use Rattle.refusal.specs.Verdicts.{Verdict}
 use Rattle.catalogue.specs.declared.Catalogue.{Catalogue}
 use Rattle.session.specs.Calls.{slots_of, bound}
 use Rattle.fetches.specs.Fetches.{Call, issuing, taking, recovering, Fetch, Made, history}
@@ -11,8 +9,8 @@ use Rattle.fetches.specs.Fetches.{Call, issuing, taking, recovering, Fetch, Made
 -- the bytes of an answer that was taken
 abbrev pub received_by : Call → Verdict → ℕ
 received_by (issuing server day query answer_day answer) verdict = 0
-received_by (taking server answer) Accepted = length answer
-received_by (taking server answer) (Refused refusal) = 0
+received_by (taking server answer) (Ok _) = length answer
+received_by (taking server answer) (Err refusal) = 0
 received_by (recovering message) verdict = 0
 
 abbrev pub received : List Made → ℕ
@@ -25,7 +23,7 @@ bytes_of (answer ∷ rest) = length answer + bytes_of rest
 
 -- What the bound query gives, and what it bounds: the answers that any fetch takes, honest or not, and the honest answers of all servers
 pub record Bounded (scheme_of : Catalogue → Scheme) (c : Catalogue) : Type 0 where
-  pub given : bound scheme_of c ≡ Value (slots_of scheme_of c)
+  pub given : bound scheme_of c ≡ Ok (slots_of scheme_of c)
   pub taken : (f : Fetch) → f.wanted < c.messages → Valid (scheme_of c) f.key → received (history scheme_of c f) ≤ slots_of scheme_of c
   pub honest : (store : List ℕ) → length store ≡ (scheme_of c).sizes.store → (wanted : ℕ) → wanted < c.messages → (key : List ℕ)
       → Valid (scheme_of c) key → bytes_of (honest_answers (scheme_of c) c.servers store wanted key) ≤ slots_of scheme_of c

@@ -1,10 +1,8 @@
 -- What a server is shown of fetches (`shown`), and the issues that two lists of fetches must agree on (`issues_to`): document 01, 'Lists of fetches'.
-use Rattle.std.specs.Prelude.{cond, List, [], ◌∷◌, ◌++◌, map, ℕ, eqb, length, take}
+use Rattle.std.specs.Prelude.{cond, List, [], ◌∷◌, ◌++◌, map, ℕ, eqb, length, take, Ok, Err}
 use Rattle.lists.specs.Sums.{keep}
+use Rattle.refusal.specs.Verdicts.{Verdict, Outcome}
 use Rattle.refusal.specs.declared.Refusal.{Refusal}
-use Rattle.refusal.specs.declared.Verdict.{Verdict}
-use Rattle.refusal.specs.declared.Verdict.TheVariants.{Accepted, Refused}
-use Rattle.refusal.specs.declared.Outcome.{Outcome}
 use Rattle.scheme.specs.Scheme.{Scheme}
 use Rattle.calendar.specs.declared.Day.{Day}
 use Rattle.catalogue.specs.declared.Catalogue.{Catalogue}
@@ -50,8 +48,8 @@ module _ (scheme_of : Catalogue → Scheme) (c : Catalogue) (store : List ℕ) w
 
   -- the query is what an issue wrote at the start of its buffer
   abbrev pub showing : ℕ → List ℕ → Day → List ℕ → Verdict → Shown
-  showing server left answer_day answer Accepted = asking server (take (scheme_of c).sizes.query left) answer_day answer
-  showing server left answer_day answer (Refused refusal) = refused refusal
+  showing server left answer_day answer (Ok _) = asking server (take (scheme_of c).sizes.query left) answer_day answer
+  showing server left answer_day answer (Err refusal) = refused refusal
 
   -- what a call that was made shows server n: the issues that name it
   abbrev pub shown_by : ℕ → Call → List ℕ → Verdict → List Shown

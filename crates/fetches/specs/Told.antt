@@ -4,8 +4,7 @@
 use Rattle.std.specs.Prelude.{◌≡◌, not, cond, List, [], ◌∷◌, ℕ, ◌+◌, leb, ltb, eqb, length}
 use Rattle.lists.specs.Distinct.{stands}
 use Rattle.lists.specs.Parts.{put}
-use Rattle.refusal.specs.declared.Verdict.{Verdict}
-use Rattle.refusal.specs.declared.Verdict.TheVariants.{Accepted}
+use Rattle.refusal.specs.Verdicts.{Verdict, accepted}
 use Rattle.refusal.specs.Chain.{refuse_if, and_then}
 use Rattle.scheme.specs.Scheme.{Scheme}
 use Rattle.calendar.specs.declared.Day.{Day}
@@ -29,7 +28,7 @@ module _ (scheme_of : Catalogue → Scheme) (c : Catalogue) where
       (refuse_if (leb c.servers server) 3
       (refuse_if (ltb size (scheme_of c).sizes.query) 9
       (refuse_if (ltb most_bytes (before + (scheme_of c).sizes.query)) 16
-      Accepted)))
+      accepted)))
 
   abbrev pub sent_to : Past → ℕ → ℕ
   sent_to past server = bytes_to (scheme_of c).sizes.query server past.issued
@@ -43,11 +42,11 @@ module _ (scheme_of : Catalogue → Scheme) (c : Catalogue) where
         (refuse_if (not (eqb size ((scheme_of c).answer_length ((scheme_of c).query wanted server key)))) 10
         (refuse_if (not (stands server past.issued)) 11
         (refuse_if (stands server past.taken) 11
-        Accepted))))
+        accepted))))
 
     pub record Told (past : Past) (made : Made) : Type 0 where
       pub issues : (server : ℕ) (day answer_day : Day) (query answer : List ℕ) → made.call ≡ issuing server day query answer_day answer
           → made.verdict ≡ issue_says (sent_to past server) day server (length query)
       pub queries : (server : ℕ) (day answer_day : Day) (query answer : List ℕ) → made.call ≡ issuing server day query answer_day answer
-          → made.verdict ≡ Accepted → made.left ≡ put 0 ((scheme_of c).query wanted server key) query
+          → made.verdict ≡ accepted → made.left ≡ put 0 ((scheme_of c).query wanted server key) query
       pub takes : (server : ℕ) (answer : List ℕ) → made.call ≡ taking server answer → made.verdict ≡ take_says past server (length answer)

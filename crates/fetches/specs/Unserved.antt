@@ -1,9 +1,8 @@
 -- A fetch whose issues all come on days on which its catalogue is not served (document 02, item 1): it recovers nothing, and each of its recovers is
 -- refused, 9 if a buffer is too short, else 12 (`NothingRecovered`).
-use Rattle.std.specs.Prelude.{◌≡◌, List, ℕ, ◌<◌, ltb, length}
+use Rattle.std.specs.Prelude.{◌≡◌, List, ℕ, ◌<◌, ltb, length, Err}
 use Rattle.lists.specs.Sums.{All}
 use Rattle.refusal.specs.declared.Refusal.{Refusal}
-use Rattle.refusal.specs.declared.Verdict.TheVariants.{Refused}
 use Rattle.refusal.specs.Chain.{refused, refuse_if}
 use Rattle.scheme.specs.Scheme.{Scheme, Valid}
 use Rattle.catalogue.specs.declared.Catalogue.{Catalogue}
@@ -16,7 +15,7 @@ use Rattle.fetches.specs.Past.{Past, nothing, Throughout}
 
 -- a call that is no issue, or an issue on a day that is refused
 abbrev pub Unserved : Catalogue → Call → Type 0
-Unserved c (issuing server day query answer_day answer) = (refusal : Refusal) × (day_verdict c day ≡ Refused refusal)
+Unserved c (issuing server day query answer_day answer) = (refusal : Refusal) × (day_verdict c day ≡ Err refusal)
 Unserved c (taking server answer) = Unit {0}
 Unserved c (recovering message) = Unit {0}
 

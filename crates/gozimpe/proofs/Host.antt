@@ -4,8 +4,8 @@ use mathlib.Core.Path.{◌≡◌, refl, sym, ap, ◌∙◌}
 use mathlib.Core.List.{List}
 use Prim.Native.Nat.{ℕ}
 use lib.ListN.{length}
-use Rattle.refusal.specs.declared.Verdict.{Verdict}
-use Rattle.refusal.specs.declared.Verdict.TheVariants.{Accepted, Refused}
+use Rattle.std.specs.Prelude.{Ok, Err}
+use Rattle.refusal.specs.Verdicts.{Verdict, accepted}
 use Rattle.refusal.specs.Foremost.{foremost}
 use Rattle.refusal.proofs.Foremost.{after_first_lem}
 use Rattle.refusal.proofs.Accepted.{accepted-none, none-accepted}
@@ -40,17 +40,17 @@ module _ (text : List ℕ) where
 
       go : (v : Verdict) → v ≡ foremost (read_faults text)
           → answering_by (reading_by v c).verdict (reading_by v c).catalogue day server store query buffer ≡ answer_by scheme_of c store query buffer all
-      go Accepted e =
+      go (Ok _) e =
           let admitted = none-accepted (catalogue_faults c) (accepted-none (read_faults text) (sym e)).1.1 in
           ap (answer_by scheme_of c store query buffer)
-          (sym (after-catalogue c _ refl Accepted _ (sym admitted) refl) ∙ after_first_lem (read_faults text) _ refl refl Accepted _ e refl)
-      go (Refused refusal) e =
-          ap (answer_by scheme_of c store query buffer) (after_first_lem (read_faults text) _ refl refl (Refused refusal) (Refused refusal) e refl)
+          (sym (after-catalogue c _ refl accepted _ (sym admitted) refl) ∙ after_first_lem (read_faults text) _ refl refl accepted _ e refl)
+      go (Err refusal) e =
+          ap (answer_by scheme_of c store query buffer) (after_first_lem (read_faults text) _ refl refl (Err refusal) (Err refusal) e refl)
 
   pub longest-foremost : longest_answer text ≡ longest_by (foremost (read_faults text)) c
   unfolding longest_answer read_of
   longest-foremost = go (foremost (read_faults text))
     where
       go : (v : Verdict) → longest_by (reading_by v c).verdict (reading_by v c).catalogue ≡ longest_by v c
-      go Accepted = refl
-      go (Refused refusal) = refl
+      go (Ok _) = refl
+      go (Err refusal) = refl

@@ -4,8 +4,8 @@ use mathlib.Core.List.{List, ◌∷◌}
 use Prim.Native.Nat.{ℕ}
 use lib.ListN.{length}
 use Rattle.lists.specs.Distinct.{stands}
-use Rattle.refusal.specs.declared.Verdict.{Verdict}
-use Rattle.refusal.specs.declared.Verdict.TheVariants.{Accepted, Refused}
+use Rattle.std.specs.Prelude.{Ok, Err}
+use Rattle.refusal.specs.Verdicts.{Verdict}
 use Rattle.refusal.specs.Foremost.{foremost}
 use Rattle.refusal.specs.Within.{Within, ValueWithin}
 use Rattle.refusal.proofs.Within.{faults-within, value-within}
@@ -46,8 +46,8 @@ module _ (text : List ℕ) where
 
   module _ (server : ℕ) (store query : List ℕ) (e : Edit) (answer : List ℕ) where
     by-verdict : (v : Verdict) → (correct_by c store query e answer v).verdict ≡ v
-    by-verdict Accepted = refl
-    by-verdict (Refused refusal) = refl
+    by-verdict (Ok _) = refl
+    by-verdict (Err refusal) = refl
 
     correct-numbers : Within (1 ∷ correct_numbers) (correcting_text text server store query e answer).verdict
     unfolding stands

@@ -5,11 +5,9 @@ use mathlib.Core.List.{List}
 use Prim.Native.Nat.{ℕ, ◌^◌, ◌<◌}
 use native.Mathlib.Omega.{arith}
 use lib.ListN.{length}
+use Rattle.std.specs.Prelude.{Ok, Err}
+use Rattle.refusal.specs.Verdicts.{accepted, Verdict, Outcome}
 use Rattle.refusal.specs.declared.Refusal.{Refusal}
-use Rattle.refusal.specs.declared.Verdict.{Verdict}
-use Rattle.refusal.specs.declared.Verdict.TheVariants.{Accepted, Refused}
-use Rattle.refusal.specs.declared.Outcome.{Outcome}
-use Rattle.refusal.specs.declared.Outcome.TheVariants.{Value, Refused as NoValue}
 use Rattle.calendar.specs.declared.Day.{Day}
 use Rattle.catalogue.specs.declared.Catalogue.{Catalogue}
 use Rattle.catalogue.specs.Catalogue.{Admitted}
@@ -28,60 +26,60 @@ use Rattle.gozimpe.specs.Host.{answering_text, longest_answer}
 pub slot_small : (c : Catalogue) → Admitted c → (scheme_of c).sizes.slot < 2 ^ 32
 slot_small c a = rw (scheme-sizes c) (admitted-small c a).slot
 
-no_value : {A : Type 0} (refusal : Refusal) (size : ℕ) → NoValue refusal ≡ Value size → A
+no_value : {A : Type 0} (refusal : Refusal) (size : ℕ) → Err refusal ≡ Ok size → A
 no_value refusal size e = let z : ◌≡◌ {A = ℕ} 0 1 = cc in absurd (let w : ⊥ = omega arith in w)
 
-same-value : (a b : ℕ) → Value a ≡ Value b → a ≡ b
+same-value : (a b : ℕ) → ◌≡◌ {A = Outcome} (Ok a) (Ok b) → a ≡ b
 same-value a b e = cc
 
 -- the length that answering returns is at most a slot
 pub answer-small : (c : Catalogue) (day : Day) (server : ℕ) (store query buffer : List ℕ) (outcome : Outcome) (size : ℕ)
-    → outcome ≡ (answering scheme_of c day server store query buffer).outcome → outcome ≡ Value size → size < 2 ^ 32
+    → outcome ≡ (answering scheme_of c day server store query buffer).outcome → outcome ≡ Ok size → size < 2 ^ 32
 answer-small c day server store query buffer outcome size is e = go (answer_verdict scheme_of c day server (length store) query (length buffer)) refl
   where
-    given : (x : Answered) → answering scheme_of c day server store query buffer ≡ x → x.outcome ≡ Value size
+    given : (x : Answered) → answering scheme_of c day server store query buffer ≡ x → x.outcome ≡ Ok size
     given x by = ap (λ (y : Answered). y.outcome) (sym by) ∙ sym is ∙ e
 
     go : (v : Verdict) → v ≡ answer_verdict scheme_of c day server (length store) query (length buffer) → size < 2 ^ 32
-    go Accepted v =
+    go (Ok _) v =
         let a = answer-passed scheme_of c day server (length store) query (length buffer) (sym v) in
         let fits = (promises c a.admitted).answer-fits server query a.admits in
         let whole : (scheme_of c).answer_length query ≡ size =
-        same-value ((scheme_of c).answer_length query) size (given _ (answer-by scheme_of c day server store query buffer Accepted v)) in
+        same-value ((scheme_of c).answer_length query) size (given _ (answer-by scheme_of c day server store query buffer accepted v)) in
         omega (arith, slot_small c a.admitted)
-    go (Refused refusal) v = no_value refusal size (given _ (answer-by scheme_of c day server store query buffer (Refused refusal) v))
+    go (Err refusal) v = no_value refusal size (given _ (answer-by scheme_of c day server store query buffer (Err refusal) v))
 
 -- ---- by the verdict on the text, as it was read
 
 module _ (text : List ℕ) (reading : Reading) (read : reading ≡ read_of text) where
-  accepted : (v : Verdict) → reading.verdict ≡ v → (read_of text).verdict ≡ v
-  accepted v e = ap (λ (r : Reading). r.verdict) (sym read) ∙ e
+  agrees : (v : Verdict) → reading.verdict ≡ v → (read_of text).verdict ≡ v
+  agrees v e = ap (λ (r : Reading). r.verdict) (sym read) ∙ e
 
-  pub read-admitted : reading.verdict ≡ Accepted → Admitted reading.catalogue
-  read-admitted e = rw read (read-is-written text (accepted Accepted e)).0
+  pub read-admitted : reading.verdict ≡ accepted → Admitted reading.catalogue
+  read-admitted e = rw read (read-is-written text (agrees accepted e)).0
 
-  pub longest-refused : (refusal : Refusal) → reading.verdict ≡ Refused refusal → longest_answer text ≡ NoValue refusal
+  pub longest-refused : (refusal : Refusal) → reading.verdict ≡ Err refusal → longest_answer text ≡ Err refusal
   unfolding longest_answer
-  longest-refused refusal e = rw (accepted (Refused refusal) e)
+  longest-refused refusal e = rw (agrees (Err refusal) e)
 
-  pub longest-given : reading.verdict ≡ Accepted → longest_answer text ≡ Value (scheme_of reading.catalogue).sizes.slot
+  pub longest-given : reading.verdict ≡ accepted → longest_answer text ≡ Ok (scheme_of reading.catalogue).sizes.slot
   unfolding longest_answer
-  longest-given e = rw (accepted Accepted e, read)
+  longest-given e = rw (agrees accepted e, read)
 
   module _ (day : Day) (server : ℕ) (store query buffer : List ℕ) where
     -- refused, it leaves the buffer as it was
-    pub text-refused : (refusal : Refusal) → reading.verdict ≡ Refused refusal
-        → DidAnswer (answering_text text day server store query buffer) (NoValue refusal) buffer
+    pub text-refused : (refusal : Refusal) → reading.verdict ≡ Err refusal
+        → DidAnswer (answering_text text day server store query buffer) (Err refusal) buffer
     unfolding answering_text
-    text-refused refusal e = rw (accepted (Refused refusal) e) (record { outcome = refl; buffer = refl })
+    text-refused refusal e = rw (agrees (Err refusal) e) (record { outcome = refl; buffer = refl })
 
-    answers-text : reading.verdict ≡ Accepted
+    answers-text : reading.verdict ≡ accepted
         → answering_text text day server store query buffer ≡ answering scheme_of reading.catalogue day server store query buffer
     unfolding answering_text
-    answers-text e = rw (accepted Accepted e, read)
+    answers-text e = rw (agrees accepted e, read)
 
     -- else it does what the answering end does
-    pub text-answered : reading.verdict ≡ Accepted → (outcome : Outcome) (after : List ℕ)
+    pub text-answered : reading.verdict ≡ accepted → (outcome : Outcome) (after : List ℕ)
         → DidAnswer (answering scheme_of reading.catalogue day server store query buffer) outcome after
         → DidAnswer (answering_text text day server store query buffer) outcome after
     text-answered e outcome after did = rw (answers-text e) did

@@ -5,9 +5,9 @@ use mathlib.Core.Path.{◌≡◌, refl, sym, ap, ◌∙◌}
 use mathlib.Core.List.{List}
 use Prim.Native.Nat.{ℕ}
 use lib.ListN.{length}
+use Rattle.std.specs.Prelude.{Ok, Err}
+use Rattle.refusal.specs.Verdicts.{Verdict, accepted}
 use Rattle.refusal.specs.declared.Refusal.{Refusal}
-use Rattle.refusal.specs.declared.Verdict.{Verdict}
-use Rattle.refusal.specs.declared.Verdict.TheVariants.{Accepted, Refused}
 use Rattle.refusal.specs.Foremost.{foremost}
 use Rattle.refusal.proofs.Foremost.{after_first_lem}
 use Rattle.refusal.proofs.Accepted.{accepted-none, none-accepted}
@@ -27,27 +27,27 @@ module _ (server : ℕ) (store query : List ℕ) (e : Edit) (answer : List ℕ) 
     told : (v : Verdict) → reading.verdict ≡ v → (read_of text).verdict ≡ v
     told v q = ap (λ (r : Reading). r.verdict) (sym read) ∙ q
 
-    pub text-refused : (refusal : Refusal) → reading.verdict ≡ Refused refusal
-        → DidCorrect (correcting_text text server store query e answer) (Refused refusal) store answer
+    pub text-refused : (refusal : Refusal) → reading.verdict ≡ Err refusal
+        → DidCorrect (correcting_text text server store query e answer) (Err refusal) store answer
     unfolding correcting_text
-    text-refused refusal q = rw (told (Refused refusal) q) (record { verdict = refl; store = refl; answer = refl })
+    text-refused refusal q = rw (told (Err refusal) q) (record { verdict = refl; store = refl; answer = refl })
 
-    pub text-corrected : reading.verdict ≡ Accepted → (result : Verdict) (stored saved : List ℕ)
+    pub text-corrected : reading.verdict ≡ accepted → (result : Verdict) (stored saved : List ℕ)
         → DidCorrect (correcting reading.catalogue server store query e answer) result stored saved
         → DidCorrect (correcting_text text server store query e answer) result stored saved
     unfolding correcting_text
-    text-corrected q result stored saved did = rw (told Accepted q, ← read) did
+    text-corrected q result stored saved did = rw (told accepted q, ← read) did
 
-    pub answer-text-refused : (refusal : Refusal) → reading.verdict ≡ Refused refusal
-        → DidCorrect (correcting_answer_text text server store query e answer) (Refused refusal) store answer
+    pub answer-text-refused : (refusal : Refusal) → reading.verdict ≡ Err refusal
+        → DidCorrect (correcting_answer_text text server store query e answer) (Err refusal) store answer
     unfolding correcting_answer_text
-    answer-text-refused refusal q = rw (told (Refused refusal) q) (record { verdict = refl; store = refl; answer = refl })
+    answer-text-refused refusal q = rw (told (Err refusal) q) (record { verdict = refl; store = refl; answer = refl })
 
-    pub answer-text-corrected : reading.verdict ≡ Accepted → (result : Verdict) (stored saved : List ℕ)
+    pub answer-text-corrected : reading.verdict ≡ accepted → (result : Verdict) (stored saved : List ℕ)
         → DidCorrect (correcting_answer reading.catalogue server store query e answer) result stored saved
         → DidCorrect (correcting_answer_text text server store query e answer) result stored saved
     unfolding correcting_answer_text
-    answer-text-corrected q result stored saved did = rw (told Accepted q, ← read) did
+    answer-text-corrected q result stored saved did = rw (told accepted q, ← read) did
 
   pub host-corrects : (c : Catalogue) → Admitted c → correcting_text (text_of c) server store query e answer ≡ correcting c server store query e answer
   unfolding correcting_text
@@ -73,12 +73,12 @@ module _ (server : ℕ) (store query : List ℕ) (e : Edit) (answer : List ℕ) 
         go : (v : Verdict) → v ≡ foremost (read_faults text)
             → correcting_by (reading_by v c).verdict (reading_by v c).catalogue (λ d. correcting d server store query e answer) store answer
             ≡ correct_by c store query e answer all
-        go Accepted q =
+        go (Ok _) q =
             let admitted = none-accepted (catalogue_faults c) (accepted-none (read_faults text) (sym q)).1.1 in
             ap (correct_by c store query e answer)
-            (sym (after-catalogue c _ refl Accepted _ (sym admitted) refl) ∙ after_first_lem (read_faults text) _ refl refl Accepted _ q refl)
-        go (Refused refusal) q =
-            ap (correct_by c store query e answer) (after_first_lem (read_faults text) _ refl refl (Refused refusal) (Refused refusal) q refl)
+            (sym (after-catalogue c _ refl accepted _ (sym admitted) refl) ∙ after_first_lem (read_faults text) _ refl refl accepted _ q refl)
+        go (Err refusal) q =
+            ap (correct_by c store query e answer) (after_first_lem (read_faults text) _ refl refl (Err refusal) (Err refusal) q refl)
 
     pub same-verdict : (correcting_answer_text text server store query e answer).verdict ≡ (correcting_text text server store query e answer).verdict
     unfolding correcting_answer_text correcting_text correcting_answer
@@ -87,5 +87,5 @@ module _ (server : ℕ) (store query : List ℕ) (e : Edit) (answer : List ℕ) 
         go : (v : Verdict) (d : Catalogue)
             → (correcting_by v d (λ d. correcting_answer d server store query e answer) store answer).verdict
             ≡ (correcting_by v d (λ d. correcting d server store query e answer) store answer).verdict
-        go Accepted d = refl
-        go (Refused refusal) d = refl
+        go (Ok _) d = refl
+        go (Err refusal) d = refl

@@ -1,8 +1,7 @@
 -- The calls of a correction from C (document 02, item 13): the catalogue is read from its text, the edit is four numbers, and then the call is the correction
 -- (`correcting_text`; `correcting_answer_text` for the saved answer alone).
-use Rattle.std.specs.Prelude.{List, ◌∷◌, ℕ, ℤ, pos, neg_ℤ}
-use Rattle.refusal.specs.declared.Verdict.{Verdict}
-use Rattle.refusal.specs.declared.Verdict.TheVariants.{Accepted, Refused}
+use Rattle.std.specs.Prelude.{List, ◌∷◌, ℕ, ℤ, pos, neg_ℤ, Ok, Err}
+use Rattle.refusal.specs.Verdicts.{Verdict}
 use Rattle.refusal.specs.Numbers.{number_of}
 use Rattle.refusal.specs.Foremost.{Fault}
 use Rattle.catalogue.specs.declared.Catalogue.{Catalogue}
@@ -12,8 +11,8 @@ use Rattle.correction.specs.Calls.{Corrected, correct_faults, correcting, correc
 
 -- a verdict as one number: 0, or minus the refusal's number
 abbrev pub signed_verdict : Verdict → ℤ
-signed_verdict Accepted = pos 0
-signed_verdict (Refused refusal) = neg_ℤ (pos (number_of refusal))
+signed_verdict (Ok _) = pos 0
+signed_verdict (Err refusal) = neg_ℤ (pos (number_of refusal))
 
 -- the edit of four numbers
 abbrev pub edit_of : ℕ → ℕ → ℕ → ℕ → Edit
@@ -21,8 +20,8 @@ edit_of pack piece byte value = record { message = pack; symbol = piece; byte = 
 
 -- a text that is refused ends the call, and nothing is written
 abbrev pub correcting_by : Verdict → Catalogue → (Catalogue → Corrected) → List ℕ → List ℕ → Corrected
-correcting_by Accepted c call store answer = call c
-correcting_by (Refused refusal) c call store answer = record { verdict = Refused refusal; store = store; answer = answer }
+correcting_by (Ok _) c call store answer = call c
+correcting_by (Err refusal) c call store answer = record { verdict = Err refusal; store = store; answer = answer }
 
 -- a correction under the catalogue whose text this is
 unfoldable pub correcting_text : List ℕ → ℕ → List ℕ → List ℕ → Edit → List ℕ → Corrected

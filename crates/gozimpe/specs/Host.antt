@@ -1,10 +1,7 @@
 -- What a host program in C is given (document 01, 'Session', last paragraph): the catalogue is read from its text, the day is three numbers (document
 -- 02, item 1), and then the call is the answering end's (`answering_text`).
-use Rattle.std.specs.Prelude.{List, ◌∷◌, ℕ, ℤ, pos, neg_ℤ}
-use Rattle.refusal.specs.declared.Verdict.{Verdict}
-use Rattle.refusal.specs.declared.Verdict.TheVariants.{Accepted, Refused}
-use Rattle.refusal.specs.declared.Outcome.{Outcome}
-use Rattle.refusal.specs.declared.Outcome.TheVariants.{Value, Refused as NoValue}
+use Rattle.std.specs.Prelude.{List, ◌∷◌, ℕ, ℤ, pos, neg_ℤ, Ok, Err}
+use Rattle.refusal.specs.Verdicts.{Verdict, Outcome}
 use Rattle.refusal.specs.Numbers.{number_of}
 use Rattle.refusal.specs.Foremost.{Fault}
 use Rattle.calendar.specs.declared.Day.{Day}
@@ -15,16 +12,16 @@ use Rattle.server.specs.Answering.{Answered, answer_faults, answering}
 
 -- an outcome as one number: its value, or minus the refusal's number
 abbrev pub signed : Outcome → ℤ
-signed (Value value) = pos value
-signed (NoValue refusal) = neg_ℤ (pos (number_of refusal))
+signed (Ok value) = pos value
+signed (Err refusal) = neg_ℤ (pos (number_of refusal))
 
 -- the day of three numbers
 abbrev pub day_of : ℕ → ℕ → ℕ → Day
 day_of year month day = record { year = year; month = month; day = day }
 
 abbrev pub answering_by : Verdict → Catalogue → Day → ℕ → List ℕ → List ℕ → List ℕ → Answered
-answering_by Accepted c day server store query buffer = answering scheme_of c day server store query buffer
-answering_by (Refused refusal) c day server store query buffer = record { outcome = NoValue refusal; buffer = buffer }
+answering_by (Ok _) c day server store query buffer = answering scheme_of c day server store query buffer
+answering_by (Err refusal) c day server store query buffer = record { outcome = Err refusal; buffer = buffer }
 
 -- answering under the catalogue whose text this is
 unfoldable pub answering_text : List ℕ → Day → ℕ → List ℕ → List ℕ → List ℕ → Answered
@@ -36,8 +33,8 @@ host_faults text day server stored query room =
     line_fault text ∷ end_fault text ∷ answer_faults scheme_of (catalogue_lines text).catalogue day server stored query room
 
 abbrev pub longest_by : Verdict → Catalogue → Outcome
-longest_by Accepted c = Value (scheme_of c).sizes.slot
-longest_by (Refused refusal) c = NoValue refusal
+longest_by (Ok _) c = Ok (scheme_of c).sizes.slot
+longest_by (Err refusal) c = Err refusal
 
 -- the longest answer under the catalogue whose text this is: a slot
 unfoldable pub longest_answer : List ℕ → Outcome

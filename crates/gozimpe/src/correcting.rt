@@ -4,15 +4,27 @@ ghost use Rattle.std.specs.Prelude.{◌≡◌};
 ghost use Rattle.gozimpe.specs.Correcting.{signed_verdict, edit_of, correcting_text, correcting_answer_text};
 
 use correction::Edit;
-use refusal::Verdict;
+use refusal::Refusal;
 
 // A verdict as a number: 0, or minus the refusal's.
-fn told(verdict: Verdict) -> i64
+fn told(verdict: Result<(), Refusal>) -> i64
     ensures { result ≡ signed_verdict verdict }
 {
     match verdict {
-        Verdict::Accepted => 0,
-        Verdict::Refused(refusal) => crate::minus(refusal),
+        Ok(()) => 0,
+        Err(refusal) => crate::minus(refusal),
+    }
+}
+
+// The edit of four numbers.
+fn edit_of(pack: u64, piece: u64, byte: u64, value: u8) -> Edit
+    ensures { result ≡ edit_of pack piece byte value }
+{
+    Edit {
+        message: pack as usize,
+        symbol: piece as usize,
+        byte: byte as usize,
+        value,
     }
 }
 
@@ -40,20 +52,15 @@ pub fn gozimpe_correct(
         (edit_of pack piece byte value) answer.old).answer }
 {
     let reading = catalogue_text::read(catalogue);
-    let verdict = reading.verdict;
-    let c = reading.catalogue;
-    if let Verdict::Refused(fault) = verdict {
+    if let Err(fault) = reading.verdict {
         return crate::minus(fault);
     }
-    let edit = Edit {
-        message: pack as usize,
-        symbol: piece as usize,
-        byte: byte as usize,
-        value: value,
-    };
+    let c = reading.catalogue;
+    let edit = edit_of(pack, piece, byte, value);
     told(correction::correct(c, mirror as usize, store, request, edit, answer))
 }
 
+// A call beside `gozimpe_correct`, and not one of both, for the C interface: this one is lent a store that is `const`.
 // Brings a saved answer up to date with an edit from the store as it was before the edit, which stays. Any number of saved answers are corrected in this way,
 // in any order, before `gozimpe_correct` sets the store.
 pub fn gozimpe_correct_answer(
@@ -75,16 +82,10 @@ pub fn gozimpe_correct_answer(
         (edit_of pack piece byte value) answer.old).answer }
 {
     let reading = catalogue_text::read(catalogue);
-    let verdict = reading.verdict;
-    let c = reading.catalogue;
-    if let Verdict::Refused(fault) = verdict {
+    if let Err(fault) = reading.verdict {
         return crate::minus(fault);
     }
-    let edit = Edit {
-        message: pack as usize,
-        symbol: piece as usize,
-        byte: byte as usize,
-        value: value,
-    };
+    let c = reading.catalogue;
+    let edit = edit_of(pack, piece, byte, value);
     told(correction::correct_answer(c, mirror as usize, store, request, edit, answer))
 }

@@ -8,8 +8,7 @@ ghost use Rattle.refusal.specs.Numbers.{number_of};
 ghost use Rattle.gozimpe.specs.Host.{signed, day_of, answering_text, longest_answer};
 
 use calendar::Day;
-use catalogue::Measured;
-use refusal::{Outcome, Refusal, Verdict};
+use refusal::Refusal;
 
 // One corrected byte.
 pub mod correcting;
@@ -49,20 +48,15 @@ pub fn gozimpe_answer(
         store.now request.now answer.old).buffer }
 {
     let reading = catalogue_text::read(catalogue);
-    let verdict = reading.verdict;
-    let c = reading.catalogue;
-    if let Verdict::Refused(fault) = verdict {
+    if let Err(fault) = reading.verdict {
         return minus(fault);
     }
-    let today = Day {
-        year: year,
-        month: month,
-        day: day,
-    };
+    let today = Day { year, month, day };
+    let c = reading.catalogue;
     let outcome = server::answer(c, today, mirror as usize, store, request, answer);
     match outcome {
-        Outcome::Value(length) => plus(length),
-        Outcome::Refused(refusal) => minus(refusal),
+        Ok(length) => plus(length),
+        Err(refusal) => minus(refusal),
     }
 }
 
@@ -71,13 +65,11 @@ pub fn gozimpe_longest_answer(catalogue: &[u8]) -> i64
     ensures { result ≡ signed (longest_answer catalogue.now) }
 {
     let reading = catalogue_text::read(catalogue);
-    let verdict = reading.verdict;
-    let c = reading.catalogue;
-    if let Verdict::Refused(refusal) = verdict {
+    if let Err(refusal) = reading.verdict {
         return minus(refusal);
     }
-    match catalogue::sizes(c) {
-        Measured::Of(sizes) => plus(sizes.slot),
-        Measured::Refused(refusal) => minus(refusal),
+    match catalogue::sizes(reading.catalogue) {
+        Ok(sizes) => plus(sizes.slot),
+        Err(refusal) => minus(refusal),
     }
 }

@@ -10,10 +10,12 @@ use lib.Dec.{ltb}
 use lib.ListN.{length, take, set, replicate, length-append, length-replicate}
 use lib.Seq.{length-take-le, take_all, take-append-le, append_snoc, set_at, set_out}
 use Rattle.lists.specs.Padded.{padded}
-use Rattle.text_lines.specs.declared.Line.TheVariants.{Value, Refused}
-use Rattle.text_lines.specs.Lines.{number_line}
+use Rattle.std.specs.Prelude.{Option, Some, None}
+use Rattle.text_lines.specs.declared.Line.{Line}
+use Rattle.text_lines.specs.Lines.{line_of, number_line}
+use Rattle.lengths.specs.declared.Lengths.{Lengths}
 use Rattle.lengths.specs.Lengths.{length_places, no_lengths}
-use Rattle.length_text.specs.LengthLines.{length_name, length_digits, kept, Numbers, numbers, none, in_front, numbers_at, lines, out_of_form, kept_lines}
+use Rattle.length_text.specs.LengthLines.{length_name, length_digits, kept, in_front, numbers_at, lines, kept_lines}
 
 -- ---- the places
 
@@ -57,17 +59,17 @@ kept-many (n ∷ ns) count e =
 -- ---- line by line
 
 -- numbers in front of those that follow
-abbrev pub ahead : List ℕ → Numbers → Numbers
-ahead ns (numbers ms next) = numbers (ns ++ ms) next
-ahead ns none = none
+abbrev pub ahead : List ℕ → Option (Line (List ℕ)) → Option (Line (List ℕ))
+ahead ns (Some found) = Some (line_of (ns ++ found.value) found.next)
+ahead ns None = None
 
-ahead-nil : (found : Numbers) → ahead [] found ≡ found
-ahead-nil (numbers ms next) = refl
-ahead-nil none = refl
+ahead-nil : (found : Option (Line (List ℕ))) → ahead [] found ≡ found
+ahead-nil (Some found) = refl
+ahead-nil None = refl
 
-ahead_more : (ns : List ℕ) (n : ℕ) (found : Numbers) → ahead ns (in_front n found) ≡ ahead (ns ++ (n ∷ [])) found
-ahead_more ns n (numbers ms next) = ap (λ (l : List ℕ). numbers l next) (sym (append_snoc ns n ms))
-ahead_more ns n none = refl
+ahead_more : (ns : List ℕ) (n : ℕ) (found : Option (Line (List ℕ))) → ahead ns (in_front n found) ≡ ahead (ns ++ (n ∷ [])) found
+ahead_more ns n (Some found) = ap (λ (l : List ℕ). Some (line_of l found.next)) (sym (append_snoc ns n found.value))
+ahead_more ns n None = refl
 
 -- of `count` lines at a place, i are read: the next begins at `next`, and the places hold their numbers
 pub record Taken (count : ℕ) (text : List ℕ) (at i next : ℕ) (places : List ℕ) : Type 0 where
@@ -92,7 +94,7 @@ module _ (count : ℕ) (text : List ℕ) (at i next : ℕ) (places : List ℕ) (
       go zero e f = absurd (let w : ⊥ = omega arith in w)
       go (suc left) e f = (left, omega arith, f)
 
-  pub taken_more : (n end : ℕ) → i < count → number_line length_digits length_name text next ≡ Value n end
+  pub taken_more : (n end : ℕ) → i < count → number_line length_digits length_name text next ≡ Some (line_of n end)
       → Taken count text at (i + 1) end (set places i n)
   unfolding numbers_at
   taken_more n end h line =
@@ -118,21 +120,21 @@ module _ (count : ℕ) (text : List ℕ) (at i next : ℕ) (places : List ℕ) (
       let long = length-take-le length_places taken.ns (omega (arith, taken.many)) in
       set_out places i n (omega (arith, ap length taken.places-are, padded-length length_places first (omega arith)))
 
-  pub taken_refused : i < count → number_line length_digits length_name text next ≡ Refused → kept_lines (numbers_at count text at) ≡ out_of_form
+  pub taken_refused : i < count → number_line length_digits length_name text next ≡ None → kept_lines (numbers_at count text at) ≡ None
   unfolding numbers_at
   taken_refused h line =
       let l = one_left h in
-      let first : numbers_at (suc l.0) text next ≡ none = rw line in
+      let first : numbers_at (suc l.0) text next ≡ None = rw line in
       ap kept_lines (l.2 ∙ ap (ahead taken.ns) first)
 
-  pub taken-all : count ≤ i → kept_lines (numbers_at count text at) ≡ lines (record { given = ltb 0 count; places = places }) next
+  pub taken-all : count ≤ i → kept_lines (numbers_at count text at) ≡ Some (lines (record { given = ltb 0 count; places = places }) next)
   unfolding numbers_at
   taken-all h =
       let ns = taken.ns in
       let over : taken.left ≡ 0 = omega (arith, taken.together) in
-      let whole : numbers_at count text at ≡ numbers ns next =
-      taken.rest ∙ ap (λ (left : ℕ). ahead ns (numbers_at left text next)) over ∙ ap (λ (l : List ℕ). numbers l next) (append-nil ns) in
+      let whole : numbers_at count text at ≡ Some (line_of ns next) =
+      taken.rest ∙ ap (λ (left : ℕ). ahead ns (numbers_at left text next)) over ∙ ap (λ (l : List ℕ). Some (line_of l next)) (append-nil ns) in
       ap kept_lines whole
-      ∙ ap (λ l. lines l next)
+      ∙ ap (λ (l : Lengths). Some (lines l next))
       (kept-many ns count (omega (arith, taken.many, taken.together))
       ∙ ap (λ (p : List ℕ). record { given = ltb 0 count; places = p }) (sym taken.places-are))

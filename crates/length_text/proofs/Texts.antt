@@ -1,5 +1,5 @@
 -- The lines of numbers: joined (`text-append`), and line by line, as a loop writes and counts them (`text-more`, `length_more`, `length-within`).
--- Those of a value have the numbers of its first places (`numbers-front`).
+-- Those of a value have the numbers of its first places (`front-numbers`).
 use mathlib.Core.Path.{◌≡◌, refl, sym, ap, ◌∙◌}
 use mathlib.Core.Bool.{Bool, true, false, cond}
 use mathlib.Core.List.{List, [], ◌∷◌, ◌++◌, append_assoc, append-nil}
@@ -7,7 +7,7 @@ use Prim.Native.Nat.{ℕ, zero, suc, ◌+◌, ◌≤◌, ◌<◌}
 use native.Mathlib.Numerals.{add-one}
 use native.Mathlib.Omega.{arith}
 use lib.ListN.{length, get_or, take, drop, length-append, take-append-drop}
-use lib.Seq.{take-take, take-suc}
+use lib.Seq.{take-suc}
 use Rattle.text_lines.specs.Lines.{number_text}
 use Rattle.lengths.specs.declared.Lengths.{Lengths}
 use Rattle.lengths.specs.Lengths.{numbers_of}
@@ -37,14 +37,11 @@ pub length_more : (ns : List ℕ) (i : ℕ) → i < length ns
 length_more ns i h = ap length (text-more ns i h) ∙ length-append (length_text (take i ns)) (number_text length_name (get_or ns i 0))
 
 -- the first lines are no longer than all
-pub length-within : (ns : List ℕ) (i count : ℕ) → i ≤ count → length (length_text (take i ns)) ≤ length (length_text (take count ns))
-length-within ns i count h =
-    let all = take count ns in
-    let first : take i all ≡ take i ns = take-take i count ns h in
-    let split : length_text all ≡ length_text (take i ns) ++ length_text (drop i all) =
-    ap length_text (sym (take-append-drop i all)) ∙ text-append (take i all) (drop i all)
-    ∙ ap (λ (l : List ℕ). length_text l ++ length_text (drop i all)) first in
-    omega (arith, ap length split, length-append (length_text (take i ns)) (length_text (drop i all)))
+pub length-within : (ns : List ℕ) (i : ℕ) → length (length_text (take i ns)) ≤ length (length_text ns)
+length-within ns i =
+    let split : length_text ns ≡ length_text (take i ns) ++ length_text (drop i ns) =
+    ap length_text (sym (take-append-drop i ns)) ∙ text-append (take i ns) (drop i ns) in
+    omega (arith, ap length split, length-append (length_text (take i ns)) (length_text (drop i ns)))
 
 -- ---- of a value
 
@@ -54,10 +51,13 @@ front-is (suc k) [] = refl
 front-is (suc k) (x ∷ places) = ap (λ (l : List ℕ). x ∷ l) (front-is k places)
 
 -- the numbers of its lines are those of its first places
-pub numbers-front : (K : ℕ) (l : Lengths) → numbers_of K l ≡ take (length (numbers_of K l)) l.places
+numbers-front : (K : ℕ) (l : Lengths) → take (length (numbers_of K l)) l.places ≡ numbers_of K l
 unfolding numbers_of
 numbers-front K l = go l.given
   where
-    go : (t : Bool) → cond t (take K l.places) [] ≡ take (length (cond t (take K l.places) [])) l.places
-    go true = front-is K l.places
+    go : (t : Bool) → take (length (cond t (take K l.places) [])) l.places ≡ cond t (take K l.places) []
+    go true = sym (front-is K l.places)
     go false = refl
+
+pub front-numbers : (K count : ℕ) (l : Lengths) → count ≡ length (numbers_of K l) → take count l.places ≡ numbers_of K l
+front-numbers K count l e = ap (λ (n : ℕ). take n l.places) e ∙ numbers-front K l

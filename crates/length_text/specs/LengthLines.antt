@@ -1,12 +1,11 @@
 -- The lines of a catalogue's lengths, `length=` (document 02, item 6): one for each message, in their order, or none. Written, and read at a place of
 -- a text.
-use Rattle.std.specs.Prelude.{ℕ, zero, suc, ◌^◌, ◌≡◌, true, false, cond, ◌&&◌, List, [], ◌∷◌, ◌++◌, ◌⊎◌, length, take, drop}
+use Rattle.std.specs.Prelude.{ℕ, zero, suc, ◌^◌, ◌≡◌, true, cond, List, [], ◌∷◌, ◌++◌, ◌⊎◌, length, take, drop, Option, Some, None}
 use Rattle.lists.specs.Ascii.{ascii}
 use Rattle.lists.specs.Below.{Below}
 use Rattle.lists.specs.Padded.{padded}
 use Rattle.text_lines.specs.declared.Line.{Line}
-use Rattle.text_lines.specs.declared.Line.TheVariants.{Value, Refused}
-use Rattle.text_lines.specs.Lines.{number_text, begins, number_line}
+use Rattle.text_lines.specs.Lines.{number_text, begins, line_of, on_line, number_line}
 use Rattle.lengths.specs.declared.Lengths.{Lengths}
 use Rattle.lengths.specs.Lengths.{length_places, no_lengths}
 use Rattle.length_text.specs.declared.LengthLines.{LengthLines}
@@ -36,43 +35,31 @@ kept (n ∷ ns) = record { given = true; places = padded length_places (take len
 
 -- ---- read
 
--- the numbers of so many lines at a place, and the place behind them; or some line is not there or not in its form
-pub data Numbers : Type 0 where
-  numbers : (ns : List ℕ) (next : ℕ) → Numbers
-  none : Numbers
-
 -- a number in front of the others
-abbrev pub in_front : ℕ → Numbers → Numbers
-in_front n (numbers ns next) = numbers (n ∷ ns) next
-in_front n none = none
+abbrev pub in_front : ℕ → Option (Line (List ℕ)) → Option (Line (List ℕ))
+in_front n (Some ns) = Some (line_of (n ∷ ns.value) ns.next)
+in_front n None = None
 
--- a line's number and the next place go on, or the reading ends
-abbrev pub on_number : Line → (ℕ → ℕ → Numbers) → Numbers
-on_number (Value n next) continue = continue n next
-on_number Refused continue = none
-
--- numbers_at count text at
-unfoldable pub numbers_at : ℕ → List ℕ → ℕ → Numbers
-numbers_at zero text at = numbers [] at
+-- the numbers of so many lines at a place, and the place behind them; or some line is not there or not in its form
+unfoldable pub numbers_at : ℕ → List ℕ → ℕ → Option (Line (List ℕ))
+numbers_at zero text at = Some (line_of [] at)
 numbers_at (suc count) text at =
-    on_number (number_line length_digits length_name text at) λ n next. in_front n (numbers_at count text next)
+    on_line (number_line length_digits length_name text at) λ n next. in_front n (numbers_at count text next)
 
--- lines in their form, of which a value keeps these lengths, and the place behind them
+-- lines of which a value keeps these lengths, and the place behind them
 abbrev pub lines : Lengths → ℕ → LengthLines
-lines l next = record { formed = true; lengths = l; next = next }
+lines l next = record { lengths = l; next = next }
 
--- lines out of form
-abbrev pub out_of_form : LengthLines
-out_of_form = record { formed = false; lengths = no_lengths; next = 0 }
-
-abbrev pub kept_lines : Numbers → LengthLines
-kept_lines (numbers ns next) = lines (kept ns) next
-kept_lines none = out_of_form
+abbrev pub kept_lines : Option (Line (List ℕ)) → Option LengthLines
+kept_lines (Some ns) = Some (lines (kept ns.value) ns.next)
+kept_lines None = None
 
 -- behind the lines no further one may begin: they are as many as the messages
-abbrev pub ended : List ℕ → LengthLines → LengthLines
-ended text found = cond (found.formed && begins length_name (drop found.next text)) out_of_form found
+abbrev pub ended : List ℕ → Option LengthLines → Option LengthLines
+ended text (Some found) = cond (begins length_name (drop found.next text)) None (Some found)
+ended text None = None
 
 -- The lines at place `at` of a text with K messages. Where no line of that name begins, there are none
-unfoldable pub length_lines : ℕ → List ℕ → ℕ → LengthLines
-length_lines K text at = cond (begins length_name (drop at text)) (ended text (kept_lines (numbers_at K text at))) (lines no_lengths at)
+unfoldable pub length_lines : ℕ → List ℕ → ℕ → Option LengthLines
+length_lines K text at =
+    cond (begins length_name (drop at text)) (ended text (kept_lines (numbers_at K text at))) (Some (lines no_lengths at))

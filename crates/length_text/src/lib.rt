@@ -6,87 +6,63 @@ ghost use Rattle.std.specs.Prelude.{◌≡◌, ◌+◌, ◌≤◌, length, drop}
 ghost use Rattle.lists.specs.Parts.{put};
 ghost use Rattle.text_lines.specs.Lines.{begins};
 ghost use Rattle.lengths.specs.Lengths.{numbers_of};
-ghost use Rattle.length_text.specs.LengthLines.{length_name, length_text, numbers_at, out_of_form, kept_lines, length_lines};
+ghost use Rattle.length_text.specs.LengthLines.{length_name, length_text, numbers_at, kept_lines, length_lines};
 
 use lengths::Lengths;
-use text_lines::Line;
 
-// The lengths at a place of the text, zeros where there are none, and what follows them at `next`; or lines out of form.
+// The lengths at a place of the text, zeros where there are none, and where their lines end.
 #[derive(Clone, Copy)]
 pub struct LengthLines {
-    pub formed: bool,
     pub lengths: Lengths,
     pub next: usize,
-}
-
-// Lines out of form.
-fn out_of_form() -> LengthLines
-    ensures { result ≡ out_of_form }
-{
-    LengthLines {
-        formed: false,
-        lengths: lengths::none(),
-        next: 0,
-    }
 }
 
 // Whether a line of a length begins at place `at`.
 fn line_begins(text: &[u8], at: usize) -> bool
     ensures { result ≡ begins length_name (drop at text.now) }
 {
-    if text.len() < at {
-        return false;
-    }
-    text_lines::starts(b"length=", &text[at..])
+    at <= text.len() && text_lines::starts(b"length=", &text[at..])
 }
 
 // The numbers of `count` lines at place `at`, as far as there are places for them.
-fn counted(text: &[u8], at: usize, count: usize) -> LengthLines
+fn counted(text: &[u8], at: usize, count: usize) -> Option<LengthLines>
     ensures { result ≡ kept_lines (numbers_at count text.now at) }
 {
     let mut places: [u32; 32] = [0; 32];
     let mut next = at;
-    let mut i: usize = 0;
-    while i < count {
-        let Line::Value { value, next: end } = text_lines::number_line(7, b"length=", text, next)
-        else {
-            return out_of_form();
+    for i in 0..count {
+        let Some(line) = text_lines::number_line(7, b"length=", text, next) else {
+            return None;
         };
         if i < 32 {
-            places[i] = value as u32;
+            places[i] = line.value as u32;
         }
-        next = end;
-        i += 1;
+        next = line.next;
     }
-    LengthLines {
-        formed: true,
+    Some(LengthLines {
         lengths: Lengths {
             given: 0 < count,
-            places: places,
+            places,
         },
-        next: next,
-    }
+        next,
+    })
 }
 
 // The lengths at place `at` of a text with k messages: k lines, or none where no line of that name begins.
-pub fn length_lines(text: &[u8], at: usize, k: usize) -> LengthLines
+pub fn length_lines(text: &[u8], at: usize, k: usize) -> Option<LengthLines>
     ensures { result ≡ length_lines k text.now at }
 {
     if !line_begins(text, at) {
-        return LengthLines {
-            formed: true,
+        return Some(LengthLines {
             lengths: lengths::none(),
             next: at,
-        };
+        });
     }
-    let found = counted(text, at, k);
-    if !found.formed {
-        return found;
-    }
+    let found = counted(text, at, k)?;
     if line_begins(text, found.next) {
-        return out_of_form();
+        return None;
     }
-    found
+    Some(found)
 }
 
 // How many lines k messages have.
@@ -97,10 +73,7 @@ fn line_count(l: Lengths, k: usize) -> usize
     if !l.given {
         return 0;
     }
-    if 32 < k {
-        return 32;
-    }
-    k
+    k.min(32)
 }
 
 // Writes the lines from place `at` on, none without lengths, and gives the place after them.
@@ -110,28 +83,22 @@ pub fn put_lengths(out: &mut [u8], at: usize, l: Lengths, k: usize) -> usize
     ensures out_after { out.new ≡ put at (length_text (numbers_of k l)) out.old }
 {
     let lines = line_count(l, k);
-    let places = l.places;
     let mut next = at;
-    let mut i: usize = 0;
-    while i < lines {
-        next = text_lines::put_line(out, next, b"length=", places[i] as usize);
-        i += 1;
+    for n in &l.places[..lines] {
+        next = text_lines::put_line(out, next, b"length=", *n as usize);
     }
     next
 }
 
-// The bytes of the lines.
+// The bytes of the lines, worked out beside their writing: a text that does not fit is refused before a byte is written.
 pub fn lengths_length(l: Lengths, k: usize) -> usize
     ensures value { result ≡ length (length_text (numbers_of k l)) }
     ensures upper_bound { result ≤ 576 }
 {
     let lines = line_count(l, k);
-    let places = l.places;
     let mut total: usize = 0;
-    let mut i: usize = 0;
-    while i < lines {
-        total += text_lines::line_length(b"length=", places[i] as usize);
-        i += 1;
+    for n in &l.places[..lines] {
+        total += text_lines::line_length(b"length=", *n as usize);
     }
     total
 }

@@ -6,7 +6,10 @@ use mathlib.Core.Option.{some}
 use Prim.Native.Nat.{ℕ, suc, ◌+◌, ◌-◌, ◌<◌}
 use native.Mathlib.Omega.{arith}
 use lib.ListN.{length, drop, get_or, length-drop}
-use Rattle.text_lines.specs.declared.Line.TheVariants.{Value, Refused}
+use Rattle.std.specs.Prelude.{Some, None}
+use Rattle.std.proofs.lemmas.Option.{none-some}
+use Rattle.text_lines.specs.Lines.{line_of}
+use Rattle.text_lines.proofs.Taken.{same-line}
 use Rattle.text_lines.proofs.DigitTexts.{step}
 use Rattle.number_lists.specs.NumberLists.{numeral_at, numbers_from, numbers_at, list_of}
 use Rattle.number_lists.proofs.Reading.{First, some_left, first-number, numbers-some}
@@ -28,21 +31,16 @@ module _ (text numbers : List ℕ) (at i : ℕ) (left : LeftAt text numbers at i
       let one_less : suc (length text - (i + 1)) ≡ length text - i = omega arith in
       first-number (length text - (i + 1)) text at (get_or numbers i 0) (drop (i + 1) numbers) (ap (λ (m : ℕ). numbers_from m text at) one_less ∙ e)
 
-  pub next-there : {A : Type 0} → numeral_at text at ≡ Refused → A
-  next-there e = none (sym e ∙ next.found)
-    where
-      none : {A : Type 0} {n end : ℕ} → Refused ≡ Value n end → A
-      none f = let z : ◌≡◌ {A = ℕ} 0 1 = cc in absurd (let w : ⊥ = omega arith in w)
+  pub next-there : {A : Type 0} → numeral_at text at ≡ None → A
+  next-there e = absurd (none-some (line_of (get_or numbers i 0) next.end) (sym e ∙ next.found))
 
-  module _ (n end : ℕ) (e : numeral_at text at ≡ Value n end) where
-    same : Value n end ≡ Value (get_or numbers i 0) next.end
-    same = sym e ∙ next.found
+  module _ (n end : ℕ) (e : numeral_at text at ≡ Some (line_of n end)) where
+    same : (n ≡ get_or numbers i 0) × (end ≡ next.end)
+    same = same-line n (get_or numbers i 0) end next.end (sym e ∙ next.found)
 
     pub next-value : n ≡ get_or numbers i 0
-    next-value = let s = same in cc
+    next-value = same.0
 
     pub next-left : LeftAt text numbers (end + 1) (i + 1)
     next-left k =
-        let s = same in
-        let ends : end ≡ next.end = cc in
-        ap (λ (m : ℕ). numbers_from (length text - (i + 1)) text (m + 1)) ends ∙ next.later (let l = length-drop (i + 1) numbers in omega arith)
+        ap (λ (m : ℕ). numbers_from (length text - (i + 1)) text (m + 1)) same.1 ∙ next.later (let l = length-drop (i + 1) numbers in omega arith)

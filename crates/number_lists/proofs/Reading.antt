@@ -12,9 +12,11 @@ use lib.Dec.{leb, eqb}
 use lib.ListN.{length, take, drop, get_or, length-drop, drop_of_length-le}
 use Rattle.lists.proofs.Both.{both_true}
 use Rattle.text_lines.specs.declared.Line.{Line}
-use Rattle.text_lines.specs.declared.Line.TheVariants.{Value, Refused}
+use Rattle.std.specs.Prelude.{Some, None, Option as Found}
+use Rattle.std.proofs.lemmas.Option.{none-some as not-found}
+use Rattle.text_lines.proofs.Taken.{passed}
 use Rattle.text_lines.specs.Decimal.{digit_count, value_from}
-use Rattle.text_lines.specs.Lines.{is_numeral}
+use Rattle.text_lines.specs.Lines.{is_numeral, line_of}
 use Rattle.text_lines.proofs.DigitTexts.{count-within}
 use Rattle.number_lists.specs.NumberLists.{on_number, numeral_from, numeral_at, ends_at, before, numbers_from, numbers_at, list_of}
 
@@ -25,7 +27,7 @@ unfolding is_numeral
 some-digits count text e = leb-true 1 count (both_true (leb 1 count) _ e).0
 
 -- a number lies within its text
-pub numeral-within : (text : List ℕ) (at n end : ℕ) → numeral_at text at ≡ Value n end → (at < end) × (end ≤ length text)
+pub numeral-within : (text : List ℕ) (at n end : ℕ) → numeral_at text at ≡ Some (line_of n end) → (at < end) × (end ≤ length text)
 unfolding numeral_from
 numeral-within text at n end e = go (is_numeral 5 (digit_count rest) rest) refl e
   where
@@ -33,28 +35,28 @@ numeral-within text at n end e = go (is_numeral 5 (digit_count rest) rest) refl 
     rest = drop at text
 
     go : (t : Bool) → is_numeral 5 (digit_count rest) rest ≡ t
-        → cond t (Value (value_from 0 (take (digit_count rest) rest)) (at + digit_count rest)) Refused ≡ Value n end → (at < end) × (end ≤ length text)
+        → cond t (Some (line_of (value_from 0 (take (digit_count rest) rest)) (at + digit_count rest))) None ≡ Some (line_of n end) → (at < end) × (end ≤ length text)
     go true f g =
-        let p : at + digit_count rest ≡ end = cc in
+        let p = (passed true _ n (at + digit_count rest) end g).2 in
         let s = some-digits (digit_count rest) rest f in
         let w = count-within rest in
         let l : length rest ≡ length text - at = length-drop at text in
         (omega arith, omega arith)
-    go false f g = let z : ◌≡◌ {A = ℕ} 0 1 = cc in absurd (let w : ⊥ = omega arith in w)
+    go false f g = absurd (not-found (line_of n end) g)
 
 -- past the end there is none
-pub numeral-past : (text : List ℕ) (at : ℕ) → length text ≤ at → numeral_at text at ≡ Refused
+pub numeral-past : (text : List ℕ) (at : ℕ) → length text ≤ at → numeral_at text at ≡ None
 unfolding numeral_from digit_count is_numeral
 numeral-past text at h = simp (drop_of_length-le text {i = at} h)
 
 -- ---- from number to number
 
-pub at_none : (most : ℕ) (text : List ℕ) (at : ℕ) → numeral_at text at ≡ Refused → numbers_from most text at ≡ none
+pub at_none : (most : ℕ) (text : List ℕ) (at : ℕ) → numeral_at text at ≡ None → numbers_from most text at ≡ none
 unfolding numbers_from
 at_none zero text at e = refl
 at_none (suc most) text at e = rw e
 
-module _ (most : ℕ) (text : List ℕ) (at n end : ℕ) (e : numeral_at text at ≡ Value n end) where
+module _ (most : ℕ) (text : List ℕ) (at n end : ℕ) (e : numeral_at text at ≡ Some (line_of n end)) where
   pub at_last : ends_at text end ≡ true → numbers_from (suc most) text at ≡ some (n ∷ [])
   unfolding numbers_from
   at_last f = rw (e, f)
@@ -73,7 +75,7 @@ module _ (most : ℕ) (text : List ℕ) (at n end : ℕ) (e : numeral_at text at
 -- the first number stands at the place, and the next ones after a byte
 pub record First (most : ℕ) (text : List ℕ) (at x : ℕ) (rest : List ℕ) : Type 0 where
   pub end : ℕ
-  pub found : numeral_at text at ≡ Value x end
+  pub found : numeral_at text at ≡ Some (line_of x end)
   pub later : 0 < length rest → numbers_from most text (end + 1) ≡ some rest
 
 none-some : {A : Type 0} {l : List ℕ} → none ≡ some l → A
@@ -85,20 +87,20 @@ some_left zero text at numbers e = none-some e
 some_left (suc most) text at numbers e = omega arith
 
 module _ (most : ℕ) (text : List ℕ) (at x : ℕ) (rest : List ℕ) where
-  by-rest : (n end : ℕ) → numeral_at text at ≡ Value n end → (o : Option (List ℕ)) → numbers_from most text (end + 1) ≡ o
+  by-rest : (n end : ℕ) → numeral_at text at ≡ Some (line_of n end) → (o : Option (List ℕ)) → numbers_from most text (end + 1) ≡ o
       → before n o ≡ some (x ∷ rest) → First most text at x rest
   by-rest n end f none g e = none-some e
   by-rest n end f (some numbers) g e =
       let same : n ≡ x = cc in
       let others : numbers ≡ rest = cc in
-      record { end = end; found = f ∙ ap (λ (m : ℕ). Value m end) same; later = λ h. g ∙ ap some others }
+      record { end = end; found = f ∙ ap (λ (m : ℕ). Some (line_of m end)) same; later = λ h. g ∙ ap some others }
 
-  by_end : (n end : ℕ) → numeral_at text at ≡ Value n end → (t u : Bool)
+  by_end : (n end : ℕ) → numeral_at text at ≡ Some (line_of n end) → (t u : Bool)
       → cond t (some (n ∷ [])) (cond u (before n (numbers_from most text (end + 1))) none) ≡ some (x ∷ rest) → First most text at x rest
   by_end n end f true u e =
       let same : n ≡ x = cc in
       let over : [] ≡ rest = cc in
-      record { end = end; found = f ∙ ap (λ (m : ℕ). Value m end) same; later = λ h. absurd (not-suc-le-zero (rw (sym over) at h)) }
+      record { end = end; found = f ∙ ap (λ (m : ℕ). Some (line_of m end)) same; later = λ h. absurd (not-suc-le-zero (rw (sym over) at h)) }
   by_end n end f false true e = by-rest n end f (numbers_from most text (end + 1)) refl e
   by_end n end f false false e = none-some e
 
@@ -106,12 +108,12 @@ module _ (most : ℕ) (text : List ℕ) (at x : ℕ) (rest : List ℕ) where
   unfolding numbers_from
   first-number e = go (numeral_at text at) refl e
     where
-      go : (line : Line) → numeral_at text at ≡ line
+      go : (line : Found (Line ℕ)) → numeral_at text at ≡ line
           → on_number line (λ n end. cond (ends_at text end) (some (n ∷ []))
           (cond (eqb (get_or text end 0) 32) (before n (numbers_from most text (end + 1))) none)) ≡ some (x ∷ rest)
           → First most text at x rest
-      go (Value n end) f g = by_end n end f (ends_at text end) (eqb (get_or text end 0) 32) g
-      go Refused f g = none-some g
+      go (Some line) f g = by_end line.value line.next f (ends_at text line.next) (eqb (get_or text line.next 0) 32) g
+      go None f g = none-some g
 
 -- a list with a number in it is read from its first on
 pub numbers-some : (text : List ℕ) (at : ℕ) → 0 < length (list_of (numbers_at text at))

@@ -1,16 +1,14 @@
 -- Numbers in decimal with one space between, as text, written and read (document 01, 'Request printer'). Byte 10 ends the list that is
 -- read, and the text with it.
-use Rattle.std.specs.Prelude.{ℕ, zero, suc, ◌+◌, Bool, cond, ◌&&◌, eqb, length, take, drop, get_or}
+use Rattle.std.specs.Prelude.{ℕ, zero, suc, ◌+◌, Bool, cond, ◌&&◌, eqb, length, take, drop, get_or, Some, None, Option as Found}
 use mathlib.Core.List.{List, [], ◌∷◌, ◌++◌, flat_map}
 use Rattle.std.proofs.Math.Option.{Option, none, some}
 use Rattle.lists.specs.Ascii.{ascii}
 use Rattle.lists.specs.Below.{all_below}
 use Rattle.text_lines.specs.declared.Line.{Line}
-use Rattle.text_lines.specs.declared.Line.TheVariants.{Value, Refused}
 use Rattle.text_lines.specs.Decimal.{decimal, digit_count, value_from}
-use Rattle.text_lines.specs.Lines.{is_numeral}
+use Rattle.text_lines.specs.Lines.{is_numeral, line_of}
 use Rattle.number_lists.specs.declared.Scanned.{Scanned}
-use Rattle.number_lists.specs.declared.Scanned.TheVariants.{Of, Refused as NotScanned}
 
 -- ---- written
 
@@ -28,17 +26,17 @@ spaced (n ∷ numbers) = decimal n ++ after_spaces numbers
 -- ---- read
 
 -- what is read at a place goes on with its value and the place after it, or ends the reading
-abbrev pub on_number : {A : Type 0} → Line → (ℕ → ℕ → Option A) → Option A
-on_number (Value value next) continue = continue value next
-on_number Refused continue = none
+abbrev pub on_number : {A : Type 0} → Found (Line ℕ) → (ℕ → ℕ → Option A) → Option A
+on_number (Some line) continue = continue line.value line.next
+on_number None continue = none
 
 -- a number at the start of a text, which begins at place `at`
-unfoldable pub numeral_from : ℕ → List ℕ → Line
+unfoldable pub numeral_from : ℕ → List ℕ → Found (Line ℕ)
 numeral_from at text =
-    let count = digit_count text in cond (is_numeral 5 count text) (Value (value_from 0 (take count text)) (at + count)) Refused
+    let count = digit_count text in cond (is_numeral 5 count text) (Some (line_of (value_from 0 (take count text)) (at + count))) None
 
 -- the number at place `at`
-abbrev pub numeral_at : List ℕ → ℕ → Line
+abbrev pub numeral_at : List ℕ → ℕ → Found (Line ℕ)
 numeral_at text at = numeral_from at (drop at text)
 
 -- byte 10 stands at the place, and ends the text
@@ -63,9 +61,12 @@ numbers_at text at = cond (ends_at text at) (some []) (numbers_from (length text
 
 -- ---- what a first pass over the numbers says of them: how many they are, and whether each is a byte
 
-abbrev pub scan_of : Option (List ℕ) → Scanned
-scan_of none = NotScanned
-scan_of (some numbers) = Of (length numbers) (all_below 256 numbers)
+abbrev pub scanned : ℕ → Bool → Scanned
+scanned count bytes = record { count = count; bytes = bytes }
+
+abbrev pub scan_of : Option (List ℕ) → Found Scanned
+scan_of none = None
+scan_of (some numbers) = Some (scanned (length numbers) (all_below 256 numbers))
 
 -- the numbers themselves
 abbrev pub list_of : Option (List ℕ) → List ℕ

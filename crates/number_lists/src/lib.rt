@@ -1,43 +1,42 @@
 // Lists of numbers in decimal with one space between: read from a text that they end, and written.
 #![tactic(auto)]
 
-ghost use Rattle.std.specs.Prelude.{◌≡◌, true, false, cond, ◌+◌, ◌*◌, ◌^◌, ◌≤◌, ◌<◌, ltb, length};
+ghost use Rattle.std.specs.Prelude.{◌≡◌, true, ◌+◌, ◌*◌, ◌^◌, ◌≤◌, ◌<◌, length, Some};
 ghost use Rattle.lists.specs.Parts.{put};
-ghost use Rattle.number_lists.specs.declared.Scanned.TheVariants.{Of};
-ghost use Rattle.number_lists.specs.NumberLists.{after_space, after_spaces, spaced, numeral_from, numeral_at, ends_at, numbers_from, numbers_at, scan_of, list_of};
+ghost use Rattle.number_lists.specs.NumberLists.{after_space, after_spaces, spaced};
+ghost use Rattle.number_lists.specs.NumberLists.{numeral_from, numeral_at, ends_at, numbers_from, numbers_at, scanned, scan_of, list_of};
 
 use text_lines::Line;
 
-// What a scan of a list of numbers says.
+// What a scan of a list of numbers says: how many there are, and whether each is below 256.
 #[derive(Clone, Copy)]
-pub enum Scanned {
-    // How many numbers there are, and whether each is below 256.
-    Of { count: usize, bytes: bool },
-    Refused,
+pub struct Scanned {
+    pub count: usize,
+    pub bytes: bool,
 }
 
 // The number at the start of the text, which begins at place `at`, and the place after it.
-fn numeral(text: &[u8], at: usize) -> Line
+fn numeral(text: &[u8], at: usize) -> Option<Line<usize>>
     requires { at + length text.now < 2 ^ 63 }
     ensures { result ≡ numeral_from at text.now }
 {
     let count = text_lines::digits(text);
     if !text_lines::is_numeral(5, count, text) {
-        return Line::Refused;
+        return None;
     }
     let value = text_lines::value(&text[..count]);
-    Line::Value {
-        value: value,
+    Some(Line {
+        value,
         next: at + count,
-    }
+    })
 }
 
 // The number at place `at`, and the place after it.
-fn number_at(text: &[u8], at: usize) -> Line
+fn number_at(text: &[u8], at: usize) -> Option<Line<usize>>
     ensures { result ≡ numeral_at text.now at }
 {
     if text.len() < at {
-        return Line::Refused;
+        return None;
     }
     numeral(&text[at..], at)
 }
@@ -46,82 +45,61 @@ fn number_at(text: &[u8], at: usize) -> Line
 fn ends(text: &[u8], at: usize) -> bool
     ensures { result ≡ ends_at text.now at }
 {
-    if text.len() <= at {
-        return false;
-    }
-    if text[at] != 10 {
-        return false;
-    }
-    text.len() == at + 1
-}
-
-// Whether all numbers are bytes, this one too.
-fn still_bytes(bytes: bool, number: usize) -> bool
-    ensures { result ≡ cond (ltb number 256) bytes false }
-{
-    if 256 <= number {
-        return false;
-    }
-    bytes
+    at < text.len() && text[at] == 10 && text.len() == at + 1
 }
 
 // How many numbers there are from place `start` on, one or more, and whether each is a byte.
-fn scan_some(text: &[u8], start: usize) -> Scanned
+fn scan_some(text: &[u8], start: usize) -> Option<Scanned>
     ensures { result ≡ scan_of (numbers_from (length text.now) text.now start) }
 {
     let mut at = start;
     let mut count: usize = 0;
     let mut bytes = true;
+    // A `while`: only the number that was read says where the next one begins.
     while at < text.len() {
-        let Line::Value { value, next } = number_at(text, at) else {
-            return Scanned::Refused;
-        };
+        let number = number_at(text, at)?;
         count += 1;
-        bytes = still_bytes(bytes, value);
+        bytes &= number.value < 256;
+        let next = number.next;
         if ends(text, next) {
-            return Scanned::Of {
-                count: count,
-                bytes: bytes,
-            };
+            return Some(Scanned { count, bytes });
         }
         if text.len() <= next {
-            return Scanned::Refused;
+            return None;
         }
         if text[next] != 32 {
-            return Scanned::Refused;
+            return None;
         }
         at = next + 1;
     }
-    Scanned::Refused
+    None
 }
 
 // How many numbers there are from place `start` on, and whether each is a byte.
-pub fn scan(text: &[u8], start: usize) -> Scanned
+pub fn scan(text: &[u8], start: usize) -> Option<Scanned>
     ensures { result ≡ scan_of (numbers_at text.now start) }
 {
     if ends(text, start) {
-        return Scanned::Of {
+        return Some(Scanned {
             count: 0,
             bytes: true,
-        };
+        });
     }
     scan_some(text, start)
 }
 
 // Writes the numbers from place `start` on, of which there are as many as the buffer has places, each a byte.
 pub fn put_numbers(text: &[u8], start: usize, out: &mut [u8])
-    requires { scan_of (numbers_at text.now start) ≡ Of (length out.old) true }
+    requires { scan_of (numbers_at text.now start) ≡ Some (scanned (length out.old) true) }
     ensures { out.new ≡ list_of (numbers_at text.now start) }
 {
     let mut at = start;
-    let mut i = 0;
-    while i < out.len() {
-        let Line::Value { value, next } = number_at(text, at) else {
+    for place in out.iter_mut() {
+        let Some(number) = number_at(text, at) else {
             return;
         };
-        out[i] = value as u8;
-        at = next + 1;
-        i += 1;
+        *place = number.value as u8;
+        at = number.next + 1;
     }
 }
 
@@ -143,11 +121,8 @@ fn put_after_spaces(out: &mut [u8], start: usize, numbers: &[u8]) -> usize
     ensures out_after { out.new ≡ put start (after_spaces numbers.now) out.old }
 {
     let mut at = start;
-    let mut i = 0;
-    while i < numbers.len() {
-        let n = numbers[i];
-        at = put_after_space(out, at, n);
-        i += 1;
+    for n in numbers {
+        at = put_after_space(out, at, *n);
     }
     at
 }

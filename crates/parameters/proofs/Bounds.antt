@@ -1,5 +1,6 @@
 -- The bounds of each code, from tests to facts (`short-bounds`, `even-bounds`, `round-bounds`). That the even code has at most 8 messages follows
 -- from N^K being at most 256, and that the round code has at most 7 from N^(K-1) being at most 64.
+use Rattle.std.proofs.lemmas.Bool.Decides.{nat_tests}
 use mathlib.Core.Path.{◌≡◌, refl}
 use mathlib.Core.Bool.{Bool, true, false, ◌&&◌}
 use Prim.Native.Nat.{ℕ, suc, ◌-◌, ◌^◌, ◌≤◌, ◌<◌}
@@ -8,7 +9,7 @@ use native.Mathlib.Omega.{arith}
 use borrow.Author.Tests.{leb-true, leb-false}
 use lib.Dec.{leb}
 use Rattle.lists.proofs.Both.{both_true}
-use Rattle.parameters.specs.Bounds.{servers_fit, symbol_fits, short_messages_fit, even_messages_fit, round_messages_fit, blocks}
+use Rattle.parameters.specs.Bounds.{servers_fit, symbol_fits, even_messages_fit, round_messages_fit, blocks}
 use Rattle.parameters.specs.Bounds.{short_fits, even_fits, round_fits}
 
 pub record ShortBounds (N K S : ℕ) : Type 0 where
@@ -43,20 +44,7 @@ within a n b e = let p = both_true (leb a n) (leb n b) e in (leb-true a n p.0, l
 
 pub short-bounds : (N K S : ℕ) → short_fits N K S ≡ true → ShortBounds N K S
 unfolding short_fits
-short-bounds N K S e =
-    let p = both_true (servers_fit N) (symbol_fits S && short_messages_fit K) e in
-    let q = both_true (symbol_fits S) (short_messages_fit K) p.1 in
-    let n = within 2 N 16 p.0 in
-    let s = within 1 S 4096 q.0 in
-    let k = within 1 K 32 q.1 in
-    record {
-      servers-low = n.0;
-      servers-high = n.1;
-      symbol_low = s.0;
-      symbol_high = s.1;
-      messages-low = k.0;
-      messages-high = k.1;
-    }
+short-bounds N K S e = grind (arith, nat_tests)
 
 -- an exponent is at most `most` where the power is within a limit that two to the next one is above
 exponent-high : (N exponent most limit : ℕ) → 2 ≤ N → limit < 2 ^ suc most → N ^ exponent ≤ limit → exponent ≤ most

@@ -2,6 +2,7 @@
 -- and products fit. No message is empty, and the length of each has at most seven digits: the longest is the round code's, of 8 servers and
 -- 3 messages.
 -- Rests on the bounds as facts (`Bounds`).
+use Rattle.std.proofs.lemmas.Bool.Decides.{nat_tests}
 use mathlib.Core.Path.{◌≡◌, refl, sym, ap, ap₂, ◌∙◌}
 use mathlib.Core.Bool.{Bool, true, not, ◌&&◌, ◌||◌}
 use Prim.Native.Nat.{ℕ, suc, ◌+◌, ◌-◌, ◌*◌, ◌^◌, ◌≤◌, ◌<◌}
@@ -15,7 +16,7 @@ use Rattle.lists.proofs.Both.{both_true}
 use Rattle.parameters.specs.declared.Sizes.{Sizes}
 use Rattle.parameters.specs.Measures.{short_sizes, turn_sizes, even_rows, even_sizes, round_sizes, key_places, most_servers}
 use Rattle.parameters.specs.Bounds.{blocks}
-use Rattle.parameters.proofs.Bounds.{ShortBounds, EvenBounds, RoundBounds}
+use Rattle.parameters.proofs.Bounds.{ShortBounds, EvenBounds, RoundBounds, short-bounds, even-bounds, round-bounds}
 
 -- the sizes, and the queries and slots of N servers together
 pub record Small (N : ℕ) (sizes : Sizes) : Type 0 where
@@ -32,43 +33,12 @@ pub record Small (N : ℕ) (sizes : Sizes) : Type 0 where
 
 pub short-small : (N K S : ℕ) → ShortBounds N K S → Small N (short_sizes N K S)
 unfolding short_sizes
-short-small N K S b =
-    let some : 1 * 1 ≤ (N - 1) * S = mul-le-mul (let h : 1 ≤ N - 1 = omega arith in h) b.symbol_low in
-    let n : N - 1 ≤ 15 = omega arith in
-    let m : (N - 1) * S ≤ 15 * 4096 = mul-le-mul n b.symbol_high in
-    let t : K * ((N - 1) * S) ≤ 32 * (15 * 4096) = mul-le-mul b.messages-high m in
-    let a : N * K ≤ 16 * 32 = mul-le-mul b.servers-high b.messages-high in
-    let l : N * S ≤ 16 * 4096 = mul-le-mul b.servers-high b.symbol_high in
-    record {
-      servers = b.servers-high;
-      symbols = omega arith;
-      message-some = omega arith;
-      message = omega arith;
-      store = omega arith;
-      key = omega arith;
-      query = omega arith;
-      queries = omega arith;
-      slot = omega arith;
-      slots = omega arith;
-    }
+short-small N K S b = grind (arith, nat_tests)
 
 -- a key of the turning code is as long as its queries
 pub turn_small : (N K S : ℕ) → ShortBounds N K S → Small N (turn_sizes N K S)
 unfolding turn_sizes short_sizes
-turn_small N K S b =
-    let short = short-small N K S b in
-    record {
-      servers = short.servers;
-      symbols = short.symbols;
-      message-some = short.message-some;
-      message = short.message;
-      store = short.store;
-      key = short.query;
-      query = short.query;
-      queries = short.queries;
-      slot = short.slot;
-      slots = short.slots;
-    }
+turn_small N K S b = grind (arith, nat_tests)
 
 -- a server's share of a message's symbols
 pub share-small : (N K S : ℕ) → EvenBounds N K S → N ^ (K - 1) ≤ 256
@@ -157,3 +127,10 @@ round-small N K S b =
       slot = omega arith;
       slots = omega arith;
     }
+
+-- what the sizes of each code are proved from
+pub ruleset short_facts = (short-bounds, short-small)
+
+pub ruleset even_facts = (even-bounds, even-small, one-le-pow)
+
+pub ruleset round_facts = (round-bounds, round-small)

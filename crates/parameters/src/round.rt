@@ -1,7 +1,6 @@
 // The round code's bounds and sizes (02, item 8); the greatest K is looked up by N.
-ghost use Rattle.std.specs.Prelude.{◌≡◌, true, ◌≤◌};
+ghost use Rattle.std.specs.Prelude.{◌≡◌, true};
 ghost use Rattle.parameters.specs.Bounds.{round_fits};
-ghost use Rattle.parameters.specs.Table.{round_table, most_messages};
 ghost use Rattle.parameters.specs.Measures.{round_sizes};
 
 use crate::Sizes;
@@ -9,28 +8,15 @@ use crate::Sizes;
 // The greatest K of the round code for each N from 2 to 16.
 const MOST_MESSAGES: [usize; 15] = [7, 4, 4, 3, 3, 3, 3, 2, 2, 2, 2, 2, 2, 2, 2];
 
-// The greatest K of the round code, looked up by N.
-fn most_messages(n: usize) -> usize
-    requires { (2 ≤ n) × (n ≤ 16) }
-    ensures { result ≡ most_messages round_table n }
-{
-    MOST_MESSAGES[n - 2]
-}
-
 // Whether N, K and S are within the bounds of the round code.
 pub fn fits(n: usize, k: usize, s: usize) -> bool
     ensures { result ≡ round_fits n k s }
 {
-    if !crate::common_fits(n, s) {
-        return false;
-    }
-    if k < 1 {
-        return false;
-    }
-    k <= most_messages(n)
+    crate::table_fits(&MOST_MESSAGES, n, k, s)
 }
 
 // The sizes of the round code.
+#[tactic(auto, using(crate::proofs::SmallSizes::round_facts), unfolding(crate::specs::Measures::round_sizes))]
 pub fn sizes(n: usize, k: usize, s: usize) -> Sizes
     requires { round_fits n k s ≡ true }
     ensures { result ≡ round_sizes n k s }
@@ -39,7 +25,7 @@ pub fn sizes(n: usize, k: usize, s: usize) -> Sizes
     let message = blocks * ((n - 1) * s);
     Sizes {
         symbols: blocks * (n - 1),
-        message: message,
+        message,
         store: k * message,
         key: blocks,
         query: blocks * k,

@@ -10,17 +10,12 @@ pub fn is_permutation(size: usize, bytes: &[u8]) -> bool
     ensures { result ≡ is_permutation size bytes.now }
 {
     let mut seen = [false; 256];
-    let mut i = 0;
-    while i < bytes.len() {
-        let entry = bytes[i] as usize;
-        if size <= entry {
-            return false;
-        }
-        if seen[entry] {
+    for byte in bytes {
+        let entry = *byte as usize;
+        if size <= entry || seen[entry] {
             return false;
         }
         seen[entry] = true;
-        i += 1;
     }
     true
 }

@@ -9,10 +9,9 @@ use borrow.Author.Tests.{leb-false, lt-leb, eqb-true, eq-eqb, not-false}
 use lib.Dec.{leb, eqb}
 use lib.ListN.{length}
 use Rattle.lists.specs.Below.{all_below}
+use Rattle.std.specs.Prelude.{Ok, Err}
+use Rattle.refusal.specs.Verdicts.{Verdict, accepted}
 use Rattle.refusal.specs.declared.Refusal.{Refusal}
-use Rattle.refusal.specs.declared.Verdict.{Verdict}
-use Rattle.refusal.specs.declared.Verdict.TheVariants.{Accepted, Refused}
-use Rattle.refusal.specs.declared.Outcome.TheVariants.{Value, Refused as NoValue}
 use Rattle.refusal.specs.Numbers.{refusal_of}
 use Rattle.refusal.specs.Chain.{refused, refuse_if, and_then, chain}
 use Rattle.refusal.proofs.Chain.{not-refused}
@@ -28,23 +27,23 @@ use Rattle.printing.specs.Steps.{key_faults, check_verdict, value_by}
 
 -- a refusal by the first checks stands, whatever the key's entries are worth
 checks-first : (v : Verdict) (wanted long good bytes : Bool) (refusal : Refusal)
-    → and_then v (refuse_if wanted 4 (refuse_if long 5 (refuse_if (not bytes) 6 Accepted))) ≡ Refused refusal
-    → and_then v (refuse_if wanted 4 (refuse_if long 5 (refuse_if good 6 (refuse_if (not bytes) 6 Accepted)))) ≡ Refused refusal
-checks-first (Refused other) wanted long good bytes refusal e = e
-checks-first Accepted true long good bytes refusal e = e
-checks-first Accepted false true good bytes refusal e = e
-checks-first Accepted false false good true refusal e = not-refused refusal (sym e)
-checks-first Accepted false false true false refusal e = e
-checks-first Accepted false false false false refusal e = e
+    → and_then v (refuse_if wanted 4 (refuse_if long 5 (refuse_if (not bytes) 6 accepted))) ≡ Err refusal
+    → and_then v (refuse_if wanted 4 (refuse_if long 5 (refuse_if good 6 (refuse_if (not bytes) 6 accepted)))) ≡ Err refusal
+checks-first (Err other) wanted long good bytes refusal e = e
+checks-first (Ok _) true long good bytes refusal e = e
+checks-first (Ok _) false true good bytes refusal e = e
+checks-first (Ok _) false false good true refusal e = not-refused refusal (sym e)
+checks-first (Ok _) false false true false refusal e = e
+checks-first (Ok _) false false false false refusal e = e
 
 -- an outcome by a verdict says the verdict
-pub value-given : (v : Verdict) (n value : ℕ) → value_by v n ≡ Value value → (v ≡ Accepted) × (value ≡ n)
-value-given Accepted n value e = (refl, cc)
-value-given (Refused refusal) n value e = let z : ◌≡◌ {A = ℕ} 0 1 = cc in absurd (let w : ⊥ = omega arith in w)
+pub value-given : (v : Verdict) (n value : ℕ) → value_by v n ≡ Ok value → (v ≡ accepted) × (value ≡ n)
+value-given (Ok _) n value e = (refl, cc)
+value-given (Err refusal) n value e = let z : ◌≡◌ {A = ℕ} 0 1 = cc in absurd (let w : ⊥ = omega arith in w)
 
-pub value-refused : (v : Verdict) (n : ℕ) (refusal : Refusal) → value_by v n ≡ NoValue refusal → v ≡ Refused refusal
-value-refused Accepted n refusal e = let z : ◌≡◌ {A = ℕ} 0 1 = cc in absurd (let w : ⊥ = omega arith in w)
-value-refused (Refused other) n refusal e = cc
+pub value-refused : (v : Verdict) (n : ℕ) (refusal : Refusal) → value_by v n ≡ Err refusal → v ≡ Err refusal
+value-refused (Ok _) n refusal e = let z : ◌≡◌ {A = ℕ} 0 1 = cc in absurd (let w : ⊥ = omega arith in w)
+value-refused (Err other) n refusal e = cc
 
 -- the answer goes by its verdict
 pub answer-by : (scheme_of : Catalogue → Scheme) (a : Asked) (v : Verdict) → asked_verdict scheme_of a ≡ v → answer_to scheme_of a ≡ print_by scheme_of v a
@@ -58,7 +57,7 @@ module _ (scheme_of : Catalogue → Scheme) (c : Catalogue) (wanted : ℕ) where
     pub inside : wanted < c.messages
     pub long : count ≡ (scheme_of c).sizes.key
 
-  pub check-passed : (count : ℕ) (bytes : Bool) → check_verdict scheme_of c wanted count bytes ≡ Accepted → Checked count × (bytes ≡ true)
+  pub check-passed : (count : ℕ) (bytes : Bool) → check_verdict scheme_of c wanted count bytes ≡ accepted → Checked count × (bytes ≡ true)
   unfolding check_verdict
   check-passed count bytes e =
       let p = call-passed c _ e in
@@ -75,22 +74,22 @@ module _ (scheme_of : Catalogue → Scheme) (c : Catalogue) (wanted : ℕ) where
   pub check-chain : Admitted c → (count : ℕ) (bytes : Bool)
       → chain (key_faults c.messages wanted (scheme_of c).sizes.key count bytes) ≡ check_verdict scheme_of c wanted count bytes
   unfolding check_verdict
-  check-chain a count bytes = after-catalogue c _ refl Accepted _ (sym a) refl
+  check-chain a count bytes = after-catalogue c _ refl accepted _ (sym a) refl
 
-  pub check-refused : (refusal : Refusal) → catalogue_verdict c ≡ Refused refusal → (count : ℕ) (bytes : Bool)
-      → Refused refusal ≡ check_verdict scheme_of c wanted count bytes
+  pub check-refused : (refusal : Refusal) → catalogue_verdict c ≡ Err refusal → (count : ℕ) (bytes : Bool)
+      → Err refusal ≡ check_verdict scheme_of c wanted count bytes
   unfolding check_verdict
-  check-refused refusal e count bytes = after-catalogue c _ refl (Refused refusal) _ (sym e) refl
+  check-refused refusal e count bytes = after-catalogue c _ refl (Err refusal) _ (sym e) refl
 
   module _ (key : List ℕ) where
     -- refused by the first checks
-    pub answer-refused : (refusal : Refusal) → check_verdict scheme_of c wanted (length key) (all_below 256 key) ≡ Refused refusal
+    pub answer-refused : (refusal : Refusal) → check_verdict scheme_of c wanted (length key) (all_below 256 key) ≡ Err refusal
         → answer_to scheme_of (asked c wanted key) ≡ refusal_line refusal
     unfolding check_verdict asked_verdict
     answer-refused refusal e =
         let v = catalogue_verdict c in
         let checked = after-catalogue c (key_faults c.messages wanted (scheme_of c).sizes.key (length key) (all_below 256 key)) refl v _ refl refl ∙ e in
-        answer-by scheme_of (asked c wanted key) (Refused refusal)
+        answer-by scheme_of (asked c wanted key) (Err refusal)
         (sym (after-catalogue c _ refl v _ refl
         (sym (checks-first v (leb c.messages wanted) (not (eqb (length key) (scheme_of c).sizes.key))
         (not ((scheme_of c).key_good key)) (all_below 256 key) refusal checked))))
@@ -100,11 +99,11 @@ module _ (scheme_of : Catalogue → Scheme) (c : Catalogue) (wanted : ℕ) where
     unfolding asked_verdict
     answer-bad-key k e =
         answer-by scheme_of (asked c wanted key) (refused 6)
-        (sym (after-catalogue c _ refl Accepted _ (sym k.admitted)
+        (sym (after-catalogue c _ refl accepted _ (sym k.admitted)
         (rw (lt-leb c.messages wanted k.inside, eq-eqb (length key) (scheme_of c).sizes.key k.long, e))))
 
     -- the queries
-    pub answer-queries : begin_verdict scheme_of c wanted key ≡ Accepted → all_below 256 key ≡ true
+    pub answer-queries : begin_verdict scheme_of c wanted key ≡ accepted → all_below 256 key ≡ true
         → answer_to scheme_of (asked c wanted key) ≡ query_lines scheme_of (asked c wanted key)
     unfolding asked_verdict begin_verdict
-    answer-queries e b = answer-by scheme_of (asked c wanted key) Accepted (both-accepted (begin_faults scheme_of c wanted key) _ e (ap not b, tt))
+    answer-queries e b = answer-by scheme_of (asked c wanted key) accepted (both-accepted (begin_faults scheme_of c wanted key) _ e (ap not b, tt))

@@ -16,12 +16,14 @@ use Rattle.lists.specs.Below.{Below}
 use Rattle.lists.proofs.Below.{below-cons}
 use Rattle.lists.proofs.Both.{both_true}
 use Rattle.text_lines.specs.declared.Line.{Line}
-use Rattle.text_lines.specs.declared.Line.TheVariants.{Value, Refused}
+use Rattle.std.specs.Prelude.{Some, None, Option as Found}
+use Rattle.std.proofs.lemmas.Option.{none-some as not-found}
 use Rattle.text_lines.specs.Decimal.{decimal, digit_count, value_from}
-use Rattle.text_lines.specs.Lines.{number_text, begins, is_numeral, number_line}
+use Rattle.text_lines.specs.Lines.{number_text, begins, is_numeral, line_of, number_line}
 use Rattle.text_lines.proofs.Begins.{begins-split}
 use Rattle.text_lines.proofs.Numerals.{NumeralRead, numeral-read}
 use Rattle.text_lines.proofs.RoundTrip.{LineRead, line_read}
+use Rattle.text_lines.proofs.Taken.{same-line}
 use Rattle.catalogue_text.specs.Text.{text_with, Writable}
 use Rattle.catalogue_text.specs.Parsing.{catalogue_lines}
 use Rattle.catalogue_text.proofs.CatalogueLines.{LinesRead, lines-cases}
@@ -65,7 +67,7 @@ record NumeralAt (text : List ℕ) (at n end : ℕ) : Type 0 where
   below : n < 100000
   here : drop at text ≡ decimal n ++ drop end text
 
-numeral-at : (text : List ℕ) (at n end : ℕ) → numeral_at text at ≡ Value n end → NumeralAt text at n end
+numeral-at : (text : List ℕ) (at n end : ℕ) → numeral_at text at ≡ Some (line_of n end) → NumeralAt text at n end
 unfolding numeral_from
 numeral-at text at n end e = go (is_numeral 5 (digit_count rest) rest) refl e
   where
@@ -73,16 +75,15 @@ numeral-at text at n end e = go (is_numeral 5 (digit_count rest) rest) refl e
     rest = drop at text
 
     go : (t : Bool) → is_numeral 5 (digit_count rest) rest ≡ t
-        → cond t (Value (value_from 0 (take (digit_count rest) rest)) (at + digit_count rest)) Refused ≡ Value n end → NumeralAt text at n end
+        → cond t (Some (line_of (value_from 0 (take (digit_count rest) rest)) (at + digit_count rest))) None ≡ Some (line_of n end) → NumeralAt text at n end
     go true f g =
-        let value : value_from 0 (take (digit_count rest) rest) ≡ n = cc in
-        let place : at + digit_count rest ≡ end = cc in
-        let r : NumeralRead 5 rest n = rw value at (numeral-read 5 rest f) in
+        let s = same-line (value_from 0 (take (digit_count rest) rest)) n (at + digit_count rest) end g in
+        let r : NumeralRead 5 rest n = rw s.0 at (numeral-read 5 rest f) in
         record {
           below = r.below;
-          here = r.here ∙ ap (λ (l : List ℕ). decimal n ++ l) (drop-drop (digit_count rest) at text ∙ ap (λ (m : ℕ). drop m text) place);
+          here = r.here ∙ ap (λ (l : List ℕ). decimal n ++ l) (drop-drop (digit_count rest) at text ∙ ap (λ (m : ℕ). drop m text) s.1);
         }
-    go false f g = let z : ◌≡◌ {A = ℕ} 0 1 = cc in absurd (let w : ⊥ = omega arith in w)
+    go false f g = absurd (not-found (line_of n end) g)
 
 -- one or more numbers that were read to the end of the text
 record SomeRead (text : List ℕ) (at : ℕ) (numbers : List ℕ) : Type 0 where
@@ -138,13 +139,15 @@ some_read (suc most) text at numbers e = go (numeral_at text at) refl (λ place 
     by_end n end r later false true f g e = more-read text at numbers n end r g (numbers_from most text (end + 1)) (later (end + 1)) e
     by_end n end r later false false f g e = none-some e
 
-    go : (line : Line) → numeral_at text at ≡ line
+    go : (line : Found (Line ℕ)) → numeral_at text at ≡ line
         → ((place : ℕ) (others : List ℕ) → numbers_from most text place ≡ some others → SomeRead text place others)
         → on_number line (λ n end. cond (ends_at text end) (some (n ∷ []))
         (cond (eqb (get_or text end 0) 32) (before n (numbers_from most text (end + 1))) none)) ≡ some numbers
         → SomeRead text at numbers
-    go (Value n end) f later e = by_end n end (numeral-at text at n end f) later (ends_at text end) (eqb (get_or text end 0) 32) refl refl e
-    go Refused f later e = none-some e
+    go (Some line) f later e =
+        let end = line.next in
+        by_end line.value end (numeral-at text at line.value end f) later (ends_at text end) (eqb (get_or text end 0) 32) refl refl e
+    go None f later e = none-some e
 
 -- numbers, or none of them
 record ListRead (text : List ℕ) (at : ℕ) (numbers : List ℕ) : Type 0 where
@@ -196,11 +199,13 @@ module _ (text : List ℕ) (a : Asked) (short : length text ≤ most_input) (ns 
           })
       go false named g = none-some g
 
-  wanted_read : (line : Line) → number_line 5 wanted_name text (catalogue_lines text).next ≡ line
+  wanted_read : (line : Found (Line ℕ)) → number_line 5 wanted_name text (catalogue_lines text).next ≡ line
       → on_number line (λ wanted next. on_key (key_line text next) (asked (catalogue_lines text).catalogue wanted)) ≡ some a → InForm text a ns
-  wanted_read (Value wanted next) f e =
+  wanted_read (Some line) f e =
+      let wanted = line.value in
+      let next = line.next in
       key-read wanted next (line_read 5 wanted_name text (catalogue_lines text).next wanted next f) (key_line text next) refl e
-  wanted_read Refused f e = none-some e
+  wanted_read None f e = none-some e
 
 pub input-in-form : (text : List ℕ) (a : Asked) → input_asks text ≡ some a → (ns : List ℕ) × InForm text a ns
 unfolding input_asks lines_ask

@@ -8,8 +8,7 @@ use Prim.Native.Nat.{ℕ, ◌≤◌, ◌<◌}
 use native.Mathlib.Omega.{arith}
 use lib.ListN.{length}
 use Rattle.lists.specs.Parts.{put}
-use Rattle.refusal.specs.declared.Verdict.{Verdict}
-use Rattle.refusal.specs.declared.Verdict.TheVariants.{Accepted}
+use Rattle.refusal.specs.Verdicts.{Verdict, accepted}
 use Rattle.refusal.proofs.Accepted.{first-accepted}
 use Rattle.calendar.specs.declared.Day.{Day}
 use Rattle.catalogue.specs.Days.{Served}
@@ -32,14 +31,14 @@ begun_by a = begin scheme_of a.catalogue a.wanted a.key
 pub record AsIssued (input : List ℕ) (a : Asked) : Type 0 where
   -- the whole output: a line for each server, with the query that is asked for there
   pub output : printed scheme_of input ≡ query_lines scheme_of a
-  pub begun : (begun_by a).verdict ≡ Accepted
+  pub begun : (begun_by a).verdict ≡ accepted
   -- on every day in season, and into every buffer with room for it, the session writes that query
   pub issued : (day : Day) (server : ℕ) (buffer : List ℕ) → Served a.catalogue day → server < a.catalogue.servers
       → (scheme_of a.catalogue).sizes.query ≤ length buffer
-      → ((issue scheme_of (begun_by a).session day server buffer).handed.verdict ≡ Accepted)
+      → ((issue scheme_of (begun_by a).session day server buffer).handed.verdict ≡ accepted)
       × ((issue scheme_of (begun_by a).session day server buffer).buffer ≡ put 0 (asked_query scheme_of a server) buffer)
 
-module _ (a : Asked) (e : begin_verdict scheme_of a.catalogue a.wanted a.key ≡ Accepted) where
+module _ (a : Asked) (e : begin_verdict scheme_of a.catalogue a.wanted a.key ≡ accepted) where
   b : Begins scheme_of a.catalogue a.wanted a.key
   b = begin-passed scheme_of a.catalogue a.wanted a.key e
 
@@ -47,7 +46,7 @@ module _ (a : Asked) (e : begin_verdict scheme_of a.catalogue a.wanted a.key ≡
   new = new_session a.catalogue a.wanted a.key
 
   begun-new : (begun_by a).session ≡ new
-  begun-new = ap (λ (h : Handed). h.session) (sym (begin-done scheme_of a.catalogue a.wanted a.key Accepted (sym e) refl))
+  begun-new = ap (λ (h : Handed). h.session) (sym (begin-done scheme_of a.catalogue a.wanted a.key accepted (sym e) refl))
 
   new-query : (server : ℕ) → query_of scheme_of new server ≡ asked_query scheme_of a server
   new-query server =
@@ -55,10 +54,10 @@ module _ (a : Asked) (e : begin_verdict scheme_of a.catalogue a.wanted a.key ≡
 
   issues : (day : Day) (server : ℕ) (buffer : List ℕ) → Served a.catalogue day → server < a.catalogue.servers
       → (scheme_of a.catalogue).sizes.query ≤ length buffer
-      → ((issue scheme_of new day server buffer).handed.verdict ≡ Accepted)
+      → ((issue scheme_of new day server buffer).handed.verdict ≡ accepted)
       × ((issue scheme_of new day server buffer).buffer ≡ put 0 (asked_query scheme_of a server) buffer)
   issues day server buffer served below roomy =
-      let accepted =
+      let agrees =
       issue-accepted scheme_of new day server (length buffer)
       (record {
         sound = new-sound scheme_of a.catalogue a.wanted a.key b;
@@ -67,17 +66,17 @@ module _ (a : Asked) (e : begin_verdict scheme_of a.catalogue a.wanted a.key ≡
         roomy = roomy;
         counts = let w = none-counted server in omega (arith, w, query-fits a.catalogue b.admitted);
       }) in
-      let did = (issue-goes scheme_of new day server buffer).done Accepted (put 0 (query_of scheme_of new server) buffer) (sym accepted) refl refl in (
+      let did = (issue-goes scheme_of new day server buffer).done accepted (put 0 (query_of scheme_of new server) buffer) (sym agrees) refl refl in (
         sym (ap (λ (h : Handed). h.verdict) did.handed),
         sym did.buffer ∙ ap (λ (q : List ℕ). put 0 q buffer) (new-query server),
       )
 
-pub printed-as-issued : (input : List ℕ) (a : Asked) → input_asks input ≡ some a → asked_verdict scheme_of a ≡ Accepted → AsIssued input a
+pub printed-as-issued : (input : List ℕ) (a : Asked) → input_asks input ≡ some a → asked_verdict scheme_of a ≡ accepted → AsIssued input a
 unfolding printed answer_to asked_verdict begin_verdict
-printed-as-issued input a asks accepted =
-    let e = (first-accepted (begin_faults scheme_of a.catalogue a.wanted a.key) _ accepted).0 in
+printed-as-issued input a asks agrees =
+    let e = (first-accepted (begin_faults scheme_of a.catalogue a.wanted a.key) _ agrees).0 in
     record {
-      output = ap (output_by scheme_of) asks ∙ ap (λ (v : Verdict). print_by scheme_of v a) accepted;
+      output = ap (output_by scheme_of) asks ∙ ap (λ (v : Verdict). print_by scheme_of v a) agrees;
       begun = begin-says scheme_of a.catalogue a.wanted a.key ∙ e;
       issued = λ day server buffer served below roomy. rw (begun-new a e) (issues a e day server buffer served below roomy);
     }

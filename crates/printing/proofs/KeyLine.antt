@@ -7,11 +7,12 @@ use native.Mathlib.Omega.{arith}
 use lib.ListN.{length, drop, length-append, length-drop}
 use Rattle.text_lines.specs.Lines.{begins}
 use Rattle.text_lines.proofs.Begins.{begins-split}
-use Rattle.number_lists.specs.declared.Scanned.TheVariants.{Of}
-use Rattle.number_lists.specs.NumberLists.{numbers_at, scan_of}
+use Rattle.std.specs.Prelude.{Some}
+use Rattle.std.proofs.lemmas.Option.{none-some}
+use Rattle.number_lists.specs.NumberLists.{numbers_at, scanned, scan_of}
 use Rattle.printing.specs.Input.{key_name, key_line}
 
-pub key-line-read : (text : List ℕ) (at count : ℕ) (bytes : Bool) → scan_of (key_line text at) ≡ Of count bytes
+pub key-line-read : (text : List ℕ) (at count : ℕ) (bytes : Bool) → scan_of (key_line text at) ≡ Some (scanned count bytes)
     → (at ≤ length text) × (key_line text at ≡ numbers_at text (at + length key_name))
 unfolding key_line
 key-line-read text at count bytes e = go (begins key_name (drop at text)) refl
@@ -21,4 +22,4 @@ key-line-read text at count bytes e = go (begins key_name (drop at text)) refl
         let l = ap length (begins-split key_name (drop at text) f) ∙ length-append key_name (drop (length key_name) (drop at text)) in
         let d = length-drop at text in
         (omega arith, rw f)
-    go false f = let z : ◌≡◌ {A = ℕ} 0 1 = cc (rw f at e) in absurd (let w : ⊥ = omega arith in w)
+    go false f = absurd (none-some (scanned count bytes) (rw f at e))

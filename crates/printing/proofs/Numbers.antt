@@ -5,8 +5,8 @@ use mathlib.Core.Logic.{inl, inr}
 use mathlib.Core.Option.{Option, none, some}
 use Prim.Native.Nat.{ℕ}
 use Rattle.lists.specs.Distinct.{stands}
-use Rattle.refusal.specs.declared.Verdict.{Verdict}
-use Rattle.refusal.specs.declared.Verdict.TheVariants.{Accepted, Refused}
+use Rattle.std.specs.Prelude.{Ok, Err}
+use Rattle.refusal.specs.Verdicts.{Verdict, accepted}
 use Rattle.refusal.specs.Numbers.{refusal_of}
 use Rattle.refusal.specs.Within.{OneOf}
 use Rattle.refusal.proofs.Within.{faults-within}
@@ -31,12 +31,12 @@ module _ (scheme_of : Catalogue → Scheme) (input : List ℕ) where
   print-numbers = go (input_asks input) refl
     where
       by : (a : Asked) → input_asks input ≡ some a → (v : Verdict) → asked_verdict scheme_of a ≡ v → PrintNumbers scheme_of input
-      by a e Accepted q = inl (record { asked = a; asks = e; accepted = q; output = printed-by (some a) e ∙ answer-by scheme_of a Accepted q })
-      by a e (Refused refusal) q =
+      by a e (Ok _) q = inl (record { asked = a; asks = e; accepted = q; output = printed-by (some a) e ∙ answer-by scheme_of a accepted q })
+      by a e (Err refusal) q =
           inr (record {
             refusal = refusal;
             number = faults-within print_numbers (asked_faults scheme_of a) _ refl refl refusal q;
-            output = printed-by (some a) e ∙ answer-by scheme_of a (Refused refusal) q;
+            output = printed-by (some a) e ∙ answer-by scheme_of a (Err refusal) q;
           })
 
       go : (found : Option Asked) → input_asks input ≡ found → PrintNumbers scheme_of input

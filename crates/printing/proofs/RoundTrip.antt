@@ -14,9 +14,9 @@ use Rattle.lists.specs.Ascii.{ascii}
 use Rattle.lists.specs.Below.{Below}
 use Rattle.lists.proofs.Each.{All-get}
 use Rattle.lists.proofs.Cuts.{drop-after}
-use Rattle.text_lines.specs.declared.Line.TheVariants.{Value}
+use Rattle.std.specs.Prelude.{Some}
 use Rattle.text_lines.specs.Decimal.{decimal, is_digit, digit_count}
-use Rattle.text_lines.specs.Lines.{number_text, begins, is_numeral}
+use Rattle.text_lines.specs.Lines.{number_text, begins, is_numeral, line_of}
 use Rattle.text_lines.proofs.Begins.{begins-joined}
 use Rattle.text_lines.proofs.DigitTexts.{below-digits, digit-range, count-digits}
 use Rattle.text_lines.proofs.Decimal.{length_most, some-digits, decimal-digits, value-decimal}
@@ -48,7 +48,7 @@ ends_there text at e =
 -- ---- numbers
 
 numeral-written : (text rest : List ℕ) (at n y : ℕ) → n < 100000 → is_digit y ≡ false → drop at text ≡ decimal n ++ (y ∷ rest)
-    → numeral_at text at ≡ Value n (at + length (decimal n))
+    → numeral_at text at ≡ Some (line_of n (at + length (decimal n)))
 unfolding numeral_from is_numeral
 numeral-written text rest at n y h other e =
     let count : digit_count (decimal n ++ (y ∷ rest)) ≡ length (decimal n) = count-digits (decimal-digits n) y rest other in

@@ -1,10 +1,9 @@
 -- The printer's input (document 01, 'Request printer'): the catalogue, then `wanted=` k, then `key=` and the key's numbers, and nothing
 -- after them; at most 65,536 bytes. Anything else is refusal 1.
-use Rattle.std.specs.Prelude.{ℕ, ◌+◌, cond, List, ◌++◌, ltb, length, drop}
+use Rattle.std.specs.Prelude.{ℕ, ◌+◌, cond, List, ◌++◌, ltb, length, drop, Ok, Err}
 use Rattle.std.proofs.Math.Option.{Option, none, some}
 use Rattle.lists.specs.Ascii.{ascii}
-use Rattle.refusal.specs.declared.Verdict.{Verdict}
-use Rattle.refusal.specs.declared.Verdict.TheVariants.{Accepted, Refused}
+use Rattle.refusal.specs.Verdicts.{Verdict}
 use Rattle.catalogue.specs.declared.Catalogue.{Catalogue}
 use Rattle.text_lines.specs.Lines.{begins, number_text, number_line}
 use Rattle.catalogue_text.specs.Text.{text_with}
@@ -36,8 +35,8 @@ key_line text at = cond (begins key_name (drop at text)) (numbers_at text (at + 
 
 -- a part that was read goes on, or ends the reading
 abbrev pub on_catalogue : Verdict → Option Asked → Option Asked
-on_catalogue Accepted rest = rest
-on_catalogue (Refused refusal) rest = none
+on_catalogue (Ok _) rest = rest
+on_catalogue (Err refusal) rest = none
 
 abbrev pub on_key : Option (List ℕ) → (List ℕ → Asked) → Option Asked
 on_key none found = none

@@ -1,8 +1,7 @@
 -- The numbers that the printer can print (document 01, 'Request printer' and 'Numbers a call can give'), for every input (`PrintNumbers`).
-use Rattle.std.specs.Prelude.{◌≡◌, List, [], ◌∷◌, ◌++◌, ◌⊎◌, ℕ}
+use Rattle.std.specs.Prelude.{◌≡◌, List, [], ◌∷◌, ◌++◌, ◌⊎◌, ℕ, Ok}
 use Rattle.std.proofs.Math.Option.{some}
 use Rattle.refusal.specs.declared.Refusal.{Refusal}
-use Rattle.refusal.specs.declared.Verdict.TheVariants.{Accepted}
 use Rattle.refusal.specs.Within.{OneOf}
 use Rattle.scheme.specs.Scheme.{Scheme}
 use Rattle.catalogue.specs.declared.Catalogue.{Catalogue}
@@ -19,7 +18,7 @@ module _ (scheme_of : Catalogue → Scheme) (input : List ℕ) where
   pub record QueriesPrinted : Type 0 where
     pub asked : Asked
     pub asks : input_asks input ≡ some asked
-    pub accepted : asked_verdict scheme_of asked ≡ Accepted
+    pub accepted : asked_verdict scheme_of asked ≡ Ok tt
     pub output : printed scheme_of input ≡ query_lines scheme_of asked
 
   -- the line of a refusal is printed that has one of the numbers

@@ -1,15 +1,14 @@
 -- The printer's output (document 01, 'Request printer'), over the code of each catalogue: one line for each server (01: mirror) with its
 -- query (01: request) in decimal, or one line with the number of the refusal.
-use Rattle.std.specs.Prelude.{ℕ, not, length, replicate}
+use Rattle.std.specs.Prelude.{ℕ, not, length, Ok, Err}
 use mathlib.Core.List.{List, [], ◌∷◌, ◌++◌, flat_map}
 use Rattle.std.proofs.Math.Option.{Option, none, some}
 use Rattle.lists.specs.Ascii.{ascii}
 use Rattle.lists.specs.Below.{all_below}
 use Rattle.lists.specs.Padded.{padded}
 use Rattle.lists.specs.Ranges.{range}
+use Rattle.refusal.specs.Verdicts.{Verdict}
 use Rattle.refusal.specs.declared.Refusal.{Refusal}
-use Rattle.refusal.specs.declared.Verdict.{Verdict}
-use Rattle.refusal.specs.declared.Verdict.TheVariants.{Accepted, Refused}
 use Rattle.refusal.specs.Numbers.{number_of, refusal_of}
 use Rattle.refusal.specs.Foremost.{Fault, fault, foremost}
 use Rattle.scheme.specs.Scheme.{Scheme}
@@ -50,8 +49,8 @@ module _ (scheme_of : Catalogue → Scheme) where
   query_lines a = flat_map (λ server. query_line server (asked_query a server)) (range 0 a.catalogue.servers)
 
   abbrev pub print_by : Verdict → Asked → List ℕ
-  print_by Accepted a = query_lines a
-  print_by (Refused refusal) a = refusal_line refusal
+  print_by (Ok _) a = query_lines a
+  print_by (Err refusal) a = refusal_line refusal
 
   unfoldable pub answer_to : Asked → List ℕ
   answer_to a = print_by (asked_verdict a) a
@@ -69,9 +68,6 @@ module _ (scheme_of : Catalogue → Scheme) where
 -- room for 16 lines of 19 bytes without their queries, and 2,048 numbers of three digits and a space
 abbrev pub page_bytes : ℕ
 page_bytes = 8496
-
-unfoldable pub blank : List ℕ
-blank = replicate page_bytes 0
 
 -- the output at the start, and zeros after it
 unfoldable pub page_of : List ℕ → Page

@@ -1,12 +1,7 @@
--- What inner functions compute: the checks of what is asked for that need no code, the query's length that they give, and the room for a key
--- or a query.
-use Rattle.std.specs.Prelude.{ℕ, Bool, not, List, [], ◌∷◌, ◌++◌, leb, eqb, replicate}
-use Rattle.refusal.specs.declared.Verdict.{Verdict}
-use Rattle.refusal.specs.declared.Verdict.TheVariants.{Accepted, Refused}
-use Rattle.refusal.specs.declared.Outcome.{Outcome}
-use Rattle.refusal.specs.declared.Outcome.TheVariants.{Value, Refused as NoValue}
+-- What inner functions compute: the checks of what is asked for that need no code, and the query's length that they give.
+use Rattle.std.specs.Prelude.{ℕ, Bool, not, List, [], ◌∷◌, ◌++◌, leb, eqb, Ok, Err}
+use Rattle.refusal.specs.Verdicts.{Verdict, Outcome}
 use Rattle.refusal.specs.Foremost.{Fault, fault, foremost}
-use Rattle.parameters.specs.Measures.{key_places}
 use Rattle.scheme.specs.Scheme.{Scheme}
 use Rattle.catalogue.specs.declared.Catalogue.{Catalogue}
 use Rattle.catalogue.specs.Catalogue.{catalogue_faults}
@@ -23,9 +18,5 @@ module _ (scheme_of : Catalogue → Scheme) where
   check_verdict c wanted count bytes = foremost (check_faults c wanted count bytes)
 
 abbrev pub value_by : Verdict → ℕ → Outcome
-value_by Accepted value = Value value
-value_by (Refused refusal) value = NoValue refusal
-
--- room for every key and every query of an admitted catalogue, all zeros
-unfoldable pub blank_places : List ℕ
-blank_places = replicate key_places 0
+value_by (Ok _) value = Ok value
+value_by (Err refusal) value = Err refusal

@@ -6,19 +6,19 @@ ghost use Rattle.number_lists.specs.NumberLists.{scan_of};
 ghost use Rattle.printing.specs.Input.{key_line};
 ghost use Rattle.printing.specs.Steps.{key_faults, check_verdict, value_by};
 
-use catalogue::{Catalogue, Measured};
+use catalogue::Catalogue;
 use number_lists::Scanned;
-use refusal::{Outcome, Refusal};
+use refusal::Refusal;
 
 // What the key's line at place `at` says, which is the last.
-pub fn scan_key(text: &[u8], at: usize) -> Scanned
+pub fn scan_key(text: &[u8], at: usize) -> Option<Scanned>
     ensures { result ≡ scan_of (key_line text.now at) }
 {
     if text.len() < at {
-        return Scanned::Refused;
+        return None;
     }
     if !text_lines::starts(b"key=", &text[at..]) {
-        return Scanned::Refused;
+        return None;
     }
     number_lists::scan(text, at + 4)
 }
@@ -32,28 +32,25 @@ fn check_key(
     count: usize,
     bytes: bool,
     query: usize,
-) -> Outcome
+) -> Result<usize, Refusal>
     ensures { result ≡ value_by (chain (key_faults messages wanted due count bytes)) query }
 {
     if messages <= wanted {
-        return Outcome::Refused(Refusal::Wanted);
+        return Err(Refusal::Wanted);
     }
     if count != due {
-        return Outcome::Refused(Refusal::KeyLength);
+        return Err(Refusal::KeyLength);
     }
     if !bytes {
-        return Outcome::Refused(Refusal::KeyEntry);
+        return Err(Refusal::KeyEntry);
     }
-    Outcome::Value(query)
+    Ok(query)
 }
 
 // What can be said of an input without the key's entries: a refusal, or the length of a query.
-pub fn check(c: Catalogue, wanted: usize, count: usize, bytes: bool) -> Outcome
+pub fn check(c: Catalogue, wanted: usize, count: usize, bytes: bool) -> Result<usize, Refusal>
     ensures { result ≡ value_by (check_verdict scheme_of c wanted count bytes) (scheme_of c).sizes.query }
 {
-    let measured = catalogue::sizes(c);
-    match measured {
-        Measured::Of(sizes) => check_key(c.messages, wanted, sizes.key, count, bytes, sizes.query),
-        Measured::Refused(refusal) => Outcome::Refused(refusal),
-    }
+    let sizes = catalogue::sizes(c)?;
+    check_key(c.messages, wanted, sizes.key, count, bytes, sizes.query)
 }

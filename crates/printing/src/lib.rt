@@ -1,28 +1,25 @@
 // The request printer: from the text of an input to the text of its output.
 #![tactic(auto)]
 
-ghost use Rattle.std.specs.Prelude.{◌≡◌, true, ◌+◌, ◌*◌, ◌≤◌, ◌<◌, length};
+ghost use Rattle.std.specs.Prelude.{◌≡◌, true, ◌+◌, ◌*◌, ◌≤◌, ◌<◌, length, Some, replicate};
 ghost use Rattle.lists.specs.Parts.{put};
 ghost use Rattle.lists.specs.Below.{all_below};
-ghost use Rattle.refusal.specs.declared.Verdict.TheVariants.{Accepted};
+ghost use Rattle.refusal.specs.Verdicts.{accepted};
 ghost use Rattle.catalogue.specs.Catalogue.{Admitted};
 ghost use Rattle.codes.specs.Codes.{scheme_of};
 ghost use Rattle.session.specs.Calls.{begin_verdict};
-ghost use Rattle.number_lists.specs.declared.Scanned.TheVariants.{Of};
-ghost use Rattle.number_lists.specs.NumberLists.{numbers_at, scan_of, list_of};
+ghost use Rattle.number_lists.specs.NumberLists.{numbers_at, scanned, scan_of, list_of};
 ghost use Rattle.printing.specs.Input.{asked};
-ghost use Rattle.printing.specs.Output.{query_head, query_line, refusal_line, query_lines, answer_to, printed, page_bytes, blank, page_of};
-ghost use Rattle.printing.specs.Steps.{check_verdict, blank_places};
+ghost use Rattle.printing.specs.Output.{query_head, query_line, refusal_line, query_lines, answer_to, printed, page_bytes, page_of};
+ghost use Rattle.printing.specs.Steps.{check_verdict};
 
 use catalogue::Catalogue;
-use number_lists::Scanned;
-use refusal::{Outcome, Refusal, Verdict};
-use text_lines::Line;
+use refusal::Refusal;
 
 // What can be said of an input before its key's entries are read.
 mod checks;
 
-// An output at the start, then zeros.
+// An output at the start, then zeros. A buffer and a length: fixed memory, no heap.
 #[derive(Clone, Copy)]
 pub struct Page {
     pub bytes: [u8; 8496],
@@ -62,49 +59,61 @@ fn put_line(out: &mut [u8], at: usize, server: usize, query: &[u8]) -> usize
     text_lines::put_bytes(out, end, b"\n")
 }
 
-// 2,048 zeros: room for every key and every query of an admitted catalogue.
-fn zeros() -> [u8; 2048]
-    ensures { result ≡ blank_places }
+// So many zeros.
+fn zeros<const N: usize>() -> [u8; N]
+    ensures { result ≡ replicate N 0 }
 {
-    [0; 2048]
+    [0; N]
 }
 
-// Writes the line of a server from place `at` on, with the query of `size` bytes that is asked for there, and gives the place after it.
-fn put_query(
-    c: Catalogue,
+// The queries of a wanted message with a key.
+#[derive(Clone, Copy)]
+struct Queries<'a> {
+    // What the catalogue says.
+    catalogue: Catalogue,
+    // The wanted message.
     wanted: usize,
-    server: usize,
-    key: &[u8],
+    // The key.
+    key: &'a [u8],
+    // Bytes of a query.
     size: usize,
-    out: &mut [u8],
-    at: usize,
-) -> usize
-    requires key_value { begin_verdict scheme_of c wanted key.now ≡ Accepted }
-    requires server_lt_servers { (server < c.servers) × (size ≡ (scheme_of c).sizes.query) }
-    requires size_in_bounds { at + (19 + 4 * size) ≤ length out.old }
-    ensures value { result ≡ at + length (query_line server ((scheme_of c).query wanted server key.now)) }
-    ensures upper_bound { result ≤ at + (19 + 4 * size) }
-    ensures out_after { out.new ≡ put at (query_line server ((scheme_of c).query wanted server key.now)) out.old }
-{
-    let mut query = zeros();
-    codes::query(c, wanted, server, key, &mut query[..size]);
-    put_line(out, at, server, &query[..size])
+    ghost begun: { begin_verdict scheme_of catalogue wanted key.now ≡ accepted },
+    ghost sized: { size ≡ (scheme_of catalogue).sizes.query },
 }
 
-// Writes a line for each server, with its query of `size` bytes, and gives the length of them all.
-fn put_queries(c: Catalogue, wanted: usize, key: &[u8], size: usize, out: &mut [u8]) -> usize
-    requires key_value { begin_verdict scheme_of c wanted key.now ≡ Accepted }
-    requires size_value { (size ≡ (scheme_of c).sizes.query) × (page_bytes ≤ length out.old) }
-    ensures value { result ≡ length (query_lines scheme_of (asked c wanted key.now)) }
-    ensures out_after { out.new ≡ put 0 (query_lines scheme_of (asked c wanted key.now)) out.old }
-{
-    let mut at = 0;
-    let mut server = 0;
-    while server < c.servers {
-        at = put_query(c, wanted, server, key, size, out, at);
-        server += 1;
+impl Queries<'_> {
+    // Writes the line of a server, with its query, from place `at` on, and gives the place after it.
+    fn put_query(&self, server: usize, out: &mut [u8], at: usize) -> usize
+        requires server_lt_servers { server < self.now.catalogue.servers }
+        requires size_in_bounds { at + (19 + 4 * self.now.size) ≤ length out.old }
+        ensures value { result ≡ at + length (query_line server ((scheme_of self.now.catalogue).query self.now.wanted server self.now.key.now)) }
+        ensures upper_bound { result ≤ at + (19 + 4 * self.now.size) }
+        ensures out_after { out.new
+            ≡ put at (query_line server ((scheme_of self.now.catalogue).query self.now.wanted server self.now.key.now)) out.old }
+    {
+        let mut query = zeros::<2048>();
+        codes::query(
+            self.catalogue,
+            self.wanted,
+            server,
+            self.key,
+            &mut query[..self.size],
+        );
+        put_line(out, at, server, &query[..self.size])
     }
-    at
+
+    // Writes a line for each server, with its query, and gives the length of them all.
+    fn put_queries(&self, out: &mut [u8]) -> usize
+        requires { page_bytes ≤ length out.old }
+        ensures value { result ≡ length (query_lines scheme_of (asked self.now.catalogue self.now.wanted self.now.key.now)) }
+        ensures out_after { out.new ≡ put 0 (query_lines scheme_of (asked self.now.catalogue self.now.wanted self.now.key.now)) out.old }
+    {
+        let mut at = 0;
+        for server in 0..self.catalogue.servers {
+            at = self.put_query(server, out, at);
+        }
+        at
+    }
 }
 
 // Writes the output for a key of bytes that has the right length: a refusal of its entries, or the queries.
@@ -118,49 +127,67 @@ fn put_keyed(c: Catalogue, wanted: usize, key: &[u8], size: usize, out: &mut [u8
     if !codes::key_good(c, key) {
         return put_refusal(out, Refusal::KeyEntry);
     }
-    put_queries(c, wanted, key, size, out)
+    let queries = Queries {
+        catalogue: c,
+        wanted,
+        key,
+        size,
+    };
+    queries.put_queries(out)
 }
 
-// Reads the key's numbers at place `at` of the text, which are as many as are due and all bytes, and writes the output for them.
-fn put_checked(
-    c: Catalogue,
+// What an input asks for, and where its text has the key's numbers.
+#[derive(Clone, Copy)]
+struct Request<'a> {
+    // What the catalogue says.
+    catalogue: Catalogue,
+    // The wanted message.
     wanted: usize,
-    text: &[u8],
+    // The text.
+    text: &'a [u8],
+    // The place of the key's numbers.
     at: usize,
+    // How many numbers there are.
     count: usize,
-    size: usize,
-    out: &mut [u8],
-) -> usize
-    requires true_value { check_verdict scheme_of c wanted count true ≡ Accepted }
-    requires at_value { scan_of (numbers_at text.now at) ≡ Of count true }
-    requires size_value { (size ≡ (scheme_of c).sizes.query) × (page_bytes ≤ length out.old) }
-    ensures value { result ≡ length (answer_to scheme_of (asked c wanted (list_of (numbers_at text.now at)))) }
-    ensures out_after { out.new ≡ put 0 (answer_to scheme_of (asked c wanted (list_of (numbers_at text.now at)))) out.old }
-{
-    let mut places = zeros();
-    number_lists::put_numbers(text, at, &mut places[..count]);
-    put_keyed(c, wanted, &places[..count], size, out)
-}
-
-// Writes the output for what is asked for, where the key's numbers are at place `at` of the text: a refusal, or the queries.
-fn put_asked(
-    c: Catalogue,
-    wanted: usize,
-    text: &[u8],
-    at: usize,
-    count: usize,
+    // Whether all are bytes.
     bytes: bool,
-    out: &mut [u8],
-) -> usize
-    requires at_value { scan_of (numbers_at text.now at) ≡ Of count bytes }
-    requires page_bytes_in_bounds { page_bytes ≤ length out.old }
-    ensures value { result ≡ length (answer_to scheme_of (asked c wanted (list_of (numbers_at text.now at)))) }
-    ensures out_after { out.new ≡ put 0 (answer_to scheme_of (asked c wanted (list_of (numbers_at text.now at)))) out.old }
-{
-    let outcome = checks::check(c, wanted, count, bytes);
-    match outcome {
-        Outcome::Value(size) => put_checked(c, wanted, text, at, count, size, out),
-        Outcome::Refused(refusal) => put_refusal(out, refusal),
+    ghost numbers: { scan_of (numbers_at text.now at) ≡ Some (scanned count bytes) },
+}
+
+impl Request<'_> {
+    // Reads the key's numbers, which are as many as are due and all bytes, and writes the output for them.
+    fn put_checked(&self, size: usize, out: &mut [u8]) -> usize
+        requires true_value { check_verdict scheme_of self.now.catalogue self.now.wanted self.now.count self.now.bytes ≡ accepted }
+        requires size_value { (size ≡ (scheme_of self.now.catalogue).sizes.query) × (page_bytes ≤ length out.old) }
+        ensures value { result
+            ≡ length (answer_to scheme_of (asked self.now.catalogue self.now.wanted (list_of (numbers_at self.now.text.now self.now.at)))) }
+        ensures out_after { out.new
+            ≡ put 0 (answer_to scheme_of (asked self.now.catalogue self.now.wanted (list_of (numbers_at self.now.text.now self.now.at)))) out.old }
+    {
+        let mut places = zeros::<2048>();
+        number_lists::put_numbers(self.text, self.at, &mut places[..self.count]);
+        put_keyed(
+            self.catalogue,
+            self.wanted,
+            &places[..self.count],
+            size,
+            out,
+        )
+    }
+
+    // Writes the output for what is asked for: a refusal, or the queries.
+    fn put_asked(&self, out: &mut [u8]) -> usize
+        requires { page_bytes ≤ length out.old }
+        ensures value { result
+            ≡ length (answer_to scheme_of (asked self.now.catalogue self.now.wanted (list_of (numbers_at self.now.text.now self.now.at)))) }
+        ensures out_after { out.new
+            ≡ put 0 (answer_to scheme_of (asked self.now.catalogue self.now.wanted (list_of (numbers_at self.now.text.now self.now.at)))) out.old }
+    {
+        let outcome = checks::check(self.catalogue, self.wanted, self.count, self.bytes);
+        match outcome {
+            Ok(size) => self.put_checked(size, out),
+            Err(refusal) => put_refusal(out, refusal),
+        }
     }
 }
 
@@ -174,29 +201,24 @@ fn put_page(input: &[u8], out: &mut [u8]) -> usize
         return put_refusal(out, Refusal::Text);
     }
     let found = catalogue_text::catalogue_lines(input);
-    let verdict = found.verdict;
-    let catalogue = found.catalogue;
-    let Verdict::Accepted = verdict else {
+    let Ok(()) = found.verdict else {
         return put_refusal(out, Refusal::Text);
     };
-    let Line::Value {
-        value: wanted,
-        next: at,
-    } = text_lines::number_line(5, b"wanted=", input, found.next)
-    else {
+    let Some(wanted) = text_lines::number_line(5, b"wanted=", input, found.next) else {
         return put_refusal(out, Refusal::Text);
     };
-    let Scanned::Of { count, bytes } = checks::scan_key(input, at) else {
+    let Some(key) = checks::scan_key(input, wanted.next) else {
         return put_refusal(out, Refusal::Text);
     };
-    put_asked(catalogue, wanted, input, at + 4, count, bytes, out)
-}
-
-// A page of zeros.
-fn blank_bytes() -> [u8; 8496]
-    ensures { result ≡ blank }
-{
-    [0; 8496]
+    let request = Request {
+        catalogue: found.catalogue,
+        wanted: wanted.value,
+        text: input,
+        at: wanted.next + 4,
+        count: key.count,
+        bytes: key.bytes,
+    };
+    request.put_asked(out)
 }
 
 // The output for the input, any bytes of any length; it fits the page.
@@ -204,7 +226,7 @@ pub fn print(input: &[u8]) -> Page
     ensures value { result ≡ page_of (printed scheme_of input.now) }
     ensures length_in_bounds { result.length ≤ length result.bytes }
 {
-    let mut bytes = blank_bytes();
+    let mut bytes = zeros::<8496>();
     let length = put_page(input, &mut bytes);
     Page {
         bytes: bytes,

@@ -6,9 +6,9 @@ use mathlib.Core.List.{List, [], ◌∷◌, ◌++◌}
 use Prim.Native.Nat.{ℕ}
 use lib.Dec.{leb}
 use Rattle.lists.proofs.Both.{both_true}
+use Rattle.std.specs.Prelude.{Ok, Err}
+use Rattle.refusal.specs.Verdicts.{Verdict}
 use Rattle.refusal.specs.declared.Refusal.{Refusal}
-use Rattle.refusal.specs.declared.Verdict.{Verdict}
-use Rattle.refusal.specs.declared.Verdict.TheVariants.{Accepted, Refused}
 use Rattle.refusal.specs.Numbers.{rank}
 use Rattle.refusal.specs.Foremost.{Fault, earlier, foremost}
 use Rattle.refusal.specs.Chain.{and_then, chain}
@@ -20,14 +20,14 @@ module _ (test : Refusal → Bool) where
   of_faults (f ∷ faults) = test f.refusal && of_faults faults
 
   abbrev pub of_verdict : Verdict → Bool
-  of_verdict Accepted = true
-  of_verdict (Refused refusal) = test refusal
+  of_verdict (Ok _) = true
+  of_verdict (Err refusal) = test refusal
 
   of-earlier : (refusal : Refusal) (v : Verdict) → test refusal ≡ true → of_verdict v ≡ true → of_verdict (earlier refusal v) ≡ true
-  of-earlier refusal Accepted e f = e
-  of-earlier refusal (Refused other) e f = go (leb (rank refusal) (rank other))
+  of-earlier refusal (Ok _) e f = e
+  of-earlier refusal (Err other) e f = go (leb (rank refusal) (rank other))
     where
-      go : (t : Bool) → of_verdict (cond t (Refused refusal) (Refused other)) ≡ true
+      go : (t : Bool) → of_verdict (cond t (Err refusal) (Err other)) ≡ true
       go true = e
       go false = f
 
@@ -51,9 +51,9 @@ abbrev pub ascending : List Fault → Bool
 ascending [] = true
 ascending (f ∷ faults) = of_faults (from (rank f.refusal)) faults && ascending faults
 
-earlier-is : (refusal : Refusal) (v : Verdict) → of_verdict (from (rank refusal)) v ≡ true → earlier refusal v ≡ Refused refusal
-earlier-is refusal Accepted e = refl
-earlier-is refusal (Refused other) e = ap (λ (t : Bool). cond t (Refused refusal) (Refused other)) e
+earlier-is : (refusal : Refusal) (v : Verdict) → of_verdict (from (rank refusal)) v ≡ true → earlier refusal v ≡ Err refusal
+earlier-is refusal (Ok _) e = refl
+earlier-is refusal (Err other) e = ap (λ (t : Bool). cond t (Err refusal) (Err other)) e
 
 pub foremost-chain : (faults : List Fault) → ascending faults ≡ true → foremost faults ≡ chain faults
 unfolding foremost
@@ -62,8 +62,8 @@ foremost-chain (f ∷ faults) e =
     let p = both_true (of_faults (from (rank f.refusal)) faults) (ascending faults) e in
     go f.there (earlier-is f.refusal (foremost faults) (of-foremost (from (rank f.refusal)) faults p.0)) (foremost-chain faults p.1)
   where
-    go : (t : Bool) → earlier f.refusal (foremost faults) ≡ Refused f.refusal → foremost faults ≡ chain faults
-        → cond t (earlier f.refusal (foremost faults)) (foremost faults) ≡ cond t (Refused f.refusal) (chain faults)
+    go : (t : Bool) → earlier f.refusal (foremost faults) ≡ Err f.refusal → foremost faults ≡ chain faults
+        → cond t (earlier f.refusal (foremost faults)) (foremost faults) ≡ cond t (Err f.refusal) (chain faults)
     go true first rest = first
     go false first rest = rest
 

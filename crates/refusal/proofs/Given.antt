@@ -11,9 +11,9 @@ use borrow.Author.Tests.{leb-true, leb-false, le-leb}
 use Rattle.lists.specs.Any.{Any, any_here, any_later}
 use Rattle.lists.specs.Sums.{All, all_nil, all_cons}
 use Rattle.lists.proofs.Each.{All-imp}
+use Rattle.std.specs.Prelude.{Ok, Err}
+use Rattle.refusal.specs.Verdicts.{Verdict}
 use Rattle.refusal.specs.declared.Refusal.{Refusal}
-use Rattle.refusal.specs.declared.Verdict.{Verdict}
-use Rattle.refusal.specs.declared.Verdict.TheVariants.{Accepted, Refused}
 use Rattle.refusal.specs.Numbers.{number_of, rank}
 use Rattle.refusal.specs.Foremost.{Fault, earlier, foremost}
 use Rattle.refusal.proofs.Chain.{not-refused, same-refusal}
@@ -47,12 +47,12 @@ module _ (f : Fault) (faults : List Fault) (there : f.there ≡ true) where
     first = all_cons {x = f} (λ h. let w : rank refusal ≤ rank f.refusal = rw e (omega arith) in w) rest;
   }
 
-  before : (v : Verdict) → foremost faults ≡ v → ((other : Refusal) → foremost faults ≡ Refused other → Given other faults) → (refusal : Refusal)
-      → earlier f.refusal v ≡ Refused refusal → Given refusal (f ∷ faults)
-  before Accepted e rest refusal given = own refusal (same-refusal given) (none_before refusal faults (accepted-none faults e))
-  before (Refused other) e rest refusal given = go (leb (rank f.refusal) (rank other)) refl given (rest other e)
+  before : (v : Verdict) → foremost faults ≡ v → ((other : Refusal) → foremost faults ≡ Err other → Given other faults) → (refusal : Refusal)
+      → earlier f.refusal v ≡ Err refusal → Given refusal (f ∷ faults)
+  before (Ok _) e rest refusal given = own refusal (same-refusal given) (none_before refusal faults (accepted-none faults e))
+  before (Err other) e rest refusal given = go (leb (rank f.refusal) (rank other)) refl given (rest other e)
     where
-      go : (t : Bool) → leb (rank f.refusal) (rank other) ≡ t → cond t (Refused f.refusal) (Refused other) ≡ Refused refusal → Given other faults
+      go : (t : Bool) → leb (rank f.refusal) (rank other) ≡ t → cond {A = Verdict} t (Err f.refusal) (Err other) ≡ Err refusal → Given other faults
           → Given refusal (f ∷ faults)
       go true l g r =
           let same : f.refusal ≡ refusal = same-refusal g in
@@ -64,13 +64,13 @@ module _ (f : Fault) (faults : List Fault) (there : f.there ≡ true) where
           let low : rank other ≤ rank f.refusal = let w = leb-false (rank f.refusal) (rank other) l in omega (arith, w) in
           rw (← same) (record { there = any_later r.there; first = all_cons {x = f} (λ h. low) r.first })
 
-pub foremost-given : (faults : List Fault) (refusal : Refusal) → foremost faults ≡ Refused refusal → Given refusal faults
+pub foremost-given : (faults : List Fault) (refusal : Refusal) → foremost faults ≡ Err refusal → Given refusal faults
 unfolding foremost
 foremost-given [] refusal e = not-refused refusal (sym e)
 foremost-given (f ∷ faults) refusal e = go f.there refl e (foremost-given faults)
   where
-    go : (t : Bool) → f.there ≡ t → cond t (earlier f.refusal (foremost faults)) (foremost faults) ≡ Refused refusal
-        → ((other : Refusal) → foremost faults ≡ Refused other → Given other faults) → Given refusal (f ∷ faults)
+    go : (t : Bool) → f.there ≡ t → cond t (earlier f.refusal (foremost faults)) (foremost faults) ≡ Err refusal
+        → ((other : Refusal) → foremost faults ≡ Err other → Given other faults) → Given refusal (f ∷ faults)
     go true h g rest = before f faults h (foremost faults) refl rest refusal g
     go false h g rest =
         let r = rest refusal g in
@@ -87,22 +87,22 @@ none-there [] n x = elim x [ ]
 none-there (f ∷ faults) n (any_here t) = not_there n.0 t.0
 none-there (f ∷ faults) n (any_later t) = none-there faults n.1 t
 
-given-foremost : (faults : List Fault) (refusal : Refusal) → Given refusal faults → foremost faults ≡ Refused refusal
+given-foremost : (faults : List Fault) (refusal : Refusal) → Given refusal faults → foremost faults ≡ Err refusal
 given-foremost faults refusal g = go (foremost faults) refl
   where
-    go : (v : Verdict) → foremost faults ≡ v → foremost faults ≡ Refused refusal
-    go Accepted e = none-there faults (accepted-none faults e) g.there
-    go (Refused other) e =
+    go : (v : Verdict) → foremost faults ≡ v → foremost faults ≡ Err refusal
+    go (Ok _) e = none-there faults (accepted-none faults e) g.there
+    go (Err other) e =
         let h = foremost-given faults other e in
         let low : rank other ≤ rank refusal = not_after other refusal h.first g.there in
         let high : rank refusal ≤ rank other = not_after refusal other g.first h.there in
-        e ∙ ap Refused (same_rank other refusal (omega arith))
+        e ∙ ap Err (same_rank other refusal (omega arith))
 
-pub given-exactly : (faults : List Fault) (refusal : Refusal) → (foremost faults ≡ Refused refusal) ↔ Given refusal faults
+pub given-exactly : (faults : List Fault) (refusal : Refusal) → (foremost faults ≡ Err refusal) ↔ Given refusal faults
 given-exactly faults refusal = (foremost-given faults refusal, given-foremost faults refusal)
 
 -- document 01's rule: of the faults that are there, with numbers up to 12, the smallest number is given
-pub smallest-number : (faults : List Fault) (refusal : Refusal) → foremost faults ≡ Refused refusal → number_of refusal ≤ 12
+pub smallest-number : (faults : List Fault) (refusal : Refusal) → foremost faults ≡ Err refusal → number_of refusal ≤ 12
     → All (λ f. f.there ≡ true → number_of f.refusal ≤ 12 → number_of refusal ≤ number_of f.refusal) faults
 smallest-number faults refusal e low =
     All-imp (λ f first there small.

@@ -4,3 +4,4 @@ pub mod Foremost
 pub mod Accepted
 pub mod Given
 pub mod Within
+pub mod Passed

@@ -1,3 +1,4 @@
+pub mod Verdicts
 pub mod Numbers
 pub mod Foremost
 pub mod Chain

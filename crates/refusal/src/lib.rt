@@ -1,4 +1,4 @@
-// The numbered refusals, and what a call answers: a verdict, or a value unless it is refused.
+// The numbered refusals. What can be refused answers a `Result` with a `Refusal`.
 #![tactic(auto)]
 
 ghost use Rattle.std.specs.Prelude.{◌≡◌};
@@ -6,7 +6,7 @@ ghost use Rattle.refusal.specs.Numbers.{number_of};
 
 // Why a call is refused, by ascending number (document 01, 'Numbers a call can give'; document 02: 13 and 14 item 1, 15 item 2, 16 item 5, 17 item 9,
 // 18 item 12, 19 item 13). Which is given where several apply is another order: `order` of specs/Numbers.antt.
-#[derive(Clone, Copy)]
+#[derive(Clone, Copy, Debug, PartialEq, Eq)]
 pub enum Refusal {
     // 1: the catalogue's or the printer's input is not in its text form.
     Text,
@@ -48,21 +48,7 @@ pub enum Refusal {
     EditPlace,
 }
 
-// What a check or a call answers that has nothing else to say.
-#[derive(Clone, Copy)]
-pub enum Verdict {
-    Accepted,
-    Refused(Refusal),
-}
-
-// What a call answers that gives a number, such as the length that it wrote.
-#[derive(Clone, Copy)]
-pub enum Outcome {
-    Value(usize),
-    Refused(Refusal),
-}
-
-// The refusal's number.
+// The refusal's number. A match, and no `From`: callers know this function, and the table reads as the requirement's.
 pub fn number(refusal: Refusal) -> u8
     ensures { result ≡ number_of refusal }
 {

@@ -13,11 +13,9 @@ pub fn digits_of(n: usize, count: usize, value: usize) -> [u8; 6]
 {
     let mut out = [0; 6];
     let mut rest = value;
-    let mut i = count;
-    while 0 < i {
-        i -= 1;
+    for i in (0..count).rev() {
         out[i] = (rest % n) as u8;
-        rest = rest / n;
+        rest /= n;
     }
     out
 }
@@ -29,10 +27,8 @@ pub fn number_of(n: usize, row: &[u8]) -> usize
     ensures { result ≡ number n row.now }
 {
     let mut result = 0;
-    let mut i = 0;
-    while i < row.len() {
-        result = result * n + row[i] as usize;
-        i += 1;
+    for digit in row {
+        result = result * n + *digit as usize;
     }
     result
 }

@@ -1,6 +1,7 @@
 // The round code: a fetch by the short code for each block of a message, side by side, under each short key once. n servers and k messages of n^(k - 1)
 // blocks of n - 1 symbols of s bytes. The rule is round_scheme/specs/Round.antt; rows are answered and recovered from in short_rows. Every function
 // goes once over what it reads and writes.
+// N, K and S stay parameters of their own: the clauses name them one by one, as the papers' formulas do.
 #![tactic(auto)]
 
 ghost use Rattle.std.specs.Prelude.{◌≡◌, true, ◌-◌, ◌*◌, ◌≤◌, ◌<◌, length};
@@ -15,7 +16,7 @@ ghost use Rattle.round_scheme.specs.Round.{round_query, round_admits, length_bef
 ghost use Rattle.round_scheme.specs.Asked.{block_rows};
 ghost use Rattle.round_code.specs.Steps.{RoundNumbers, DigitRows};
 
-use scheme::Place;
+use short_rows::answering::Messages;
 use symbol::Operation;
 
 mod base;
@@ -29,12 +30,10 @@ pub fn query(n: usize, k: usize, wanted: usize, server: usize, key: &[u8], out: 
     requires k_in_bounds { blocks n k * k ≤ length out.old }
     ensures { out.new ≡ put 0 (round_query n k wanted server key.now) out.old }
 {
-    let mut i = 0;
-    while i < key.len() {
+    for (i, entry) in key.iter().enumerate() {
         let at = i * k;
         let end = at + k;
-        rows::write_row(n, k, wanted, server, key[i] as usize, &mut out[at..end]);
-        i += 1;
+        rows::write_row(n, k, wanted, server, *entry as usize, &mut out[at..end]);
     }
 }
 
@@ -46,8 +45,7 @@ fn rows_fresh(n: usize, k: usize, server: usize, query: &[u8], v: usize) -> bool
     ensures { result ≡ round_admits n k server query.now }
 {
     let mut seen = [false; 64];
-    let mut i = 0;
-    while i < v {
+    for i in 0..v {
         let from = i * k;
         let end = from + k;
         if !short_code::admits(n, k, server, &query[from..end]) {
@@ -58,7 +56,6 @@ fn rows_fresh(n: usize, k: usize, server: usize, query: &[u8], v: usize) -> bool
             return false;
         }
         seen[number] = true;
-        i += 1;
     }
     true
 }
@@ -69,10 +66,7 @@ pub fn admits(n: usize, k: usize, server: usize, query: &[u8]) -> bool
     ensures { result ≡ round_admits n k server query.now }
 {
     let v = parameters::power(n, k - 1);
-    if query.len() != v * k {
-        return false;
-    }
-    rows_fresh(n, k, server, query, v)
+    query.len() == v * k && rows_fresh(n, k, server, query, v)
 }
 
 // The bytes that the first `count` rows of a query, of any bytes and length, call for together.
@@ -81,10 +75,8 @@ fn length_before(k: usize, s: usize, query: &[u8], count: usize) -> usize
     ensures { result ≡ length_before k s query.now count }
 {
     let mut total = 0;
-    let mut i = 0;
-    while i < count {
+    for i in 0..count {
         total += rows::row_length(k, s, query, i);
-        i += 1;
     }
     total
 }
@@ -100,7 +92,14 @@ pub fn answer_length(n: usize, k: usize, s: usize, query: &[u8]) -> usize
 
 // Where the query names a symbol of a message: behind the answers to the rows before that of the symbol's block, if the message's digit there names it. One
 // digit is looked at, and the rows before it are gone over once.
-pub fn locate(n: usize, k: usize, s: usize, query: &[u8], message: usize, symbol: usize) -> Place
+pub fn locate(
+    n: usize,
+    k: usize,
+    s: usize,
+    query: &[u8],
+    message: usize,
+    symbol: usize,
+) -> Option<usize>
     requires s_value { round_fits n k s ≡ true }
     requires digit_rows { DigitRows n k query.now }
     requires message_lt_k { (message < k) × (symbol < blocks n k * (n - 1)) }
@@ -109,9 +108,9 @@ pub fn locate(n: usize, k: usize, s: usize, query: &[u8], message: usize, symbol
     let block = symbol / (n - 1);
     let digit = query[block * k + message] as usize;
     if digit != symbol % (n - 1) + 1 {
-        return Place::Nowhere;
+        return None;
     }
-    Place::At(length_before(k, s, query, block))
+    Some(length_before(k, s, query, block))
 }
 
 // The bytes that the server's query calls for, without the query: a symbol for each row, but for server 0's row of zeros. They are the same for every key and
@@ -154,13 +153,17 @@ pub fn answer(
     let v = parameters::power(n, k - 1);
     let stride = v * (n - 1);
     let mut at = 0;
-    let mut i = 0;
-    while i < v {
+    for i in 0..v {
         let first = i * (n - 1);
+        let messages = Messages {
+            op,
+            first,
+            stride,
+            size: s,
+        };
         let from = i * k;
         let end = from + k;
-        at = rows::answer_row(op, first, stride, s, store, &query[from..end], at, out);
-        i += 1;
+        at = rows::answer_row(&messages, store, &query[from..end], at, out);
     }
 }
 
@@ -185,25 +188,19 @@ pub fn recover(
 {
     let slot = key.len() * s;
     let block = (n - 1) * s;
+    let slots = rows::Slots {
+        op,
+        servers: n,
+        messages: k,
+        size: s,
+        slot,
+        answers,
+    };
     let mut before = 0;
-    let mut i = 0;
-    while i < key.len() {
-        let entry = key[i] as usize;
+    for (i, entry) in key.iter().enumerate() {
+        let entry = *entry as usize;
         let at = i * block;
-        rows::recover_block(
-            op,
-            n,
-            k,
-            s,
-            entry,
-            slot,
-            before,
-            i * s,
-            answers,
-            at,
-            message,
-        );
+        slots.recover_block(entry, before, i * s, at, message);
         before += rows::first_length(s, entry);
-        i += 1;
     }
 }

@@ -9,7 +9,9 @@ ghost use Rattle.round_scheme.specs.Round.{digits, row_length};
 ghost use Rattle.round_code.specs.Steps.{RoundNumbers, row_starts, block_from};
 
 use crate::base;
-use short_rows::{answering, digits, recovering};
+use short_rows::answering::Messages;
+use short_rows::digits;
+use short_rows::recovering::Received;
 use symbol::Operation;
 
 // Writes the row that the server is asked for, by the key's entry for the block, over `out`.
@@ -41,25 +43,16 @@ pub fn row_length(k: usize, s: usize, query: &[u8], i: usize) -> usize
     short_code::answer_length(s, &query[from..end])
 }
 
-// Writes the answer to a row from byte `at` on, and gives the byte behind it. The symbols that the row can name are those from number `first` of the store
-// on, and of each next message those that lie `stride` symbols further.
-pub fn answer_row(
-    op: Operation,
-    first: usize,
-    stride: usize,
-    s: usize,
-    store: &[u8],
-    row: &[u8],
-    at: usize,
-    out: &mut [u8],
-) -> usize
-    requires s_nonzero { 0 < s }
-    requires row_stored { RowStored first stride s store.now row.now }
-    requires row_in_bounds { at + short_answer_length s row.now ≤ length out.old }
-    ensures value { result ≡ at + short_answer_length s row.now }
-    ensures out_after { out.new ≡ put at (strided_answer (sum_of op) first stride s store.now row.now) out.old }
+// Writes the answer to a row, whose symbols lie as `messages` says, from byte `at` on, and gives the byte behind it.
+pub fn answer_row(messages: &Messages, store: &[u8], row: &[u8], at: usize, out: &mut [u8]) -> usize
+    requires s_nonzero { 0 < messages.now.size }
+    requires row_stored { RowStored messages.now.first messages.now.stride messages.now.size store.now row.now }
+    requires row_in_bounds { at + short_answer_length messages.now.size row.now ≤ length out.old }
+    ensures value { result ≡ at + short_answer_length messages.now.size row.now }
+    ensures out_after { out.new
+        ≡ put at (strided_answer (sum_of messages.now.op) messages.now.first messages.now.stride messages.now.size store.now row.now) out.old }
 {
-    let written = answering::answer(op, first, stride, s, store, row, &mut out[at..]);
+    let written = messages.answer(store, row, &mut out[at..]);
     at + written
 }
 
@@ -89,49 +82,57 @@ fn row_starts(slot: usize, before: usize, behind: usize) -> [usize; 16]
     requires { (slot ≤ 1048576) × (behind ≤ 1048576) }
     ensures { result ≡ row_starts slot before behind }
 {
-    let mut starts = [before; 16];
-    let mut m = 1;
-    while m < 16 {
-        starts[m] = m * slot + behind;
-        m += 1;
-    }
-    starts
+    std::array::from_fn(|m| if m == 0 { before } else { m * slot + behind })
 }
 
-// Writes the symbols of a block from byte `at` of the message on, as far as it reaches.
-pub fn recover_block(
-    op: Operation,
-    n: usize,
-    k: usize,
-    s: usize,
-    entry: usize,
-    slot: usize,
-    before: usize,
-    behind: usize,
-    answers: &[u8],
-    at: usize,
-    message: &mut [u8],
-)
-    requires round_numbers { RoundNumbers n k }
-    requires bound { entry < blocks n k }
-    requires s_nonzero { (0 < s) × (s ≤ slot) × (slot ≤ 1048576) }
-    requires s_bound { (before + s ≤ slot) × (behind + s ≤ slot) × (n * slot ≤ length answers.now) }
-    ensures { message.new
-        ≡ lay at (block_from (sum_of op) n k s entry (row_starts slot before behind) answers.now) message.old }
-{
-    if message.len() <= at {
-        return;
+// The slots of the answer buffer, and how the blocks of a message are recovered from them.
+#[derive(Clone, Copy)]
+pub struct Slots<'a> {
+    // How symbols are combined.
+    pub op: Operation,
+    // How many servers there are.
+    pub servers: usize,
+    // How many messages there are.
+    pub messages: usize,
+    // Bytes of a symbol.
+    pub size: usize,
+    // Bytes of a slot.
+    pub slot: usize,
+    // The answer buffer.
+    pub answers: &'a [u8],
+}
+
+impl Slots<'_> {
+    // Writes the symbols of a block from byte `at` of the message on, as far as it reaches. `entry` is the key's for the block. Server 0's answer to its row
+    // begins behind `before` bytes of the buffer, any other's behind `behind` bytes of its slot.
+    pub fn recover_block(
+        &self,
+        entry: usize,
+        before: usize,
+        behind: usize,
+        at: usize,
+        message: &mut [u8],
+    )
+        requires round_numbers { RoundNumbers self.now.servers self.now.messages }
+        requires bound { entry < blocks self.now.servers self.now.messages }
+        requires s_nonzero { (0 < self.now.size) × (self.now.size ≤ self.now.slot) × (self.now.slot ≤ 1048576) }
+        requires s_bound { (before + self.now.size ≤ self.now.slot) × (behind + self.now.size ≤ self.now.slot)
+            × (self.now.servers * self.now.slot ≤ length self.now.answers.now) }
+        ensures { message.new
+            ≡ lay at (block_from (sum_of self.now.op) self.now.servers self.now.messages self.now.size entry (row_starts self.now.slot before behind)
+            self.now.answers.now) message.old }
+    {
+        if message.len() <= at {
+            return;
+        }
+        let starts = row_starts(self.slot, before, behind);
+        let received = Received {
+            op: self.op,
+            servers: self.servers,
+            size: self.size,
+            none: asked_none(self.servers, self.messages, entry),
+            answers: self.answers,
+        };
+        received.recover_row(entry == 0, &starts, &mut message[at..]);
     }
-    let t = asked_none(n, k, entry);
-    let starts = row_starts(slot, before, behind);
-    recovering::recover_row(
-        op,
-        n,
-        s,
-        t,
-        entry == 0,
-        &starts,
-        answers,
-        &mut message[at..],
-    );
 }

@@ -16,8 +16,7 @@ use Rattle.lists.proofs.Places.{same_number}
 use Rattle.lists.proofs.Ranges.{range-around, All-from, All-range}
 use Rattle.lists.proofs.Sums.{sum-all, sum-flat_map, sum-zero}
 use Rattle.parameters.specs.Bounds.{blocks}
-use Rattle.scheme.specs.declared.Place.{Place}
-use Rattle.scheme.specs.declared.Place.TheVariants.{At, Nowhere}
+use Rattle.std.specs.Prelude.{Option, Some, None}
 use Rattle.scheme.specs.Asked.{times_in, later, place_naming}
 use Rattle.scheme.proofs.Places.{or_later, or-nowhere, placed-join, placed-none}
 use Rattle.short_scheme.specs.Rows.{DigitRow}
@@ -39,7 +38,7 @@ module _ (N K S : ℕ) (query : List ℕ) (rows : (i : ℕ) → i < blocks N K �
       ∙ sum-zero list
 
   pub round-located : place_naming S p symbol (block_rows N K query)
-      ≡ cond (eqb (get_or (row K query b) p 0) (suc d)) (At (length_before K S query b)) Nowhere
+      ≡ cond (eqb (get_or (row K query b) p 0) (suc d)) (Some (length_before K S query b)) None
   unfolding block_rows flat_map
   round-located =
       let before = flat_map (rows_in N K query) (range 0 b) in
@@ -53,12 +52,12 @@ module _ (N K S : ℕ) (query : List ℕ) (rows : (i : ℕ) → i < blocks N K �
       (others (All-from (suc b) (blocks N K - suc b) (λ i l h. (omega arith, λ e. let w : ⊥ = omega arith in w)))) in
       ap (place_naming S p symbol) split
       ∙ placed-join S p symbol before (here ++ behind)
-      ∙ ap₂ (λ (x y : Place). or_later (length before * S) x y) first
+      ∙ ap₂ (λ (x y : Option ℕ). or_later (length before * S) x y) first
       (placed-join S p symbol here behind ∙ ap (or_later (length here * S) (place_naming S p symbol here)) last
       ∙ or-nowhere (length here * S) (place_naming S p symbol here) ∙ row-located S (b * (N - 1)) d p (row K query b))
       ∙ tell (eqb (get_or (row K query b) p 0) (suc d)) (length before * S)
-      ∙ ap (λ (n : ℕ). cond (eqb (get_or (row K query b) p 0) (suc d)) (At n) Nowhere) (sym (first-length N K S query b))
+      ∙ ap (λ (n : ℕ). cond (eqb (get_or (row K query b) p 0) (suc d)) (Some n) None) (sym (first-length N K S query b))
     where
-      tell : (t : Bool) (n : ℕ) → later n (cond t (At 0) Nowhere) ≡ cond t (At n) Nowhere
-      tell true n = ap At (add-zero n)
+      tell : (t : Bool) (n : ℕ) → later n (cond t (Some 0) None) ≡ cond t (Some n) None
+      tell true n = ap Some (add-zero n)
       tell false n = refl

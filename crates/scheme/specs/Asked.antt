@@ -1,12 +1,10 @@
 -- What a query asks for, in every code in one and the same shape (document 02, item 13: whether a request names a piece): rows in the order of their
 -- answers, each a list of cells, a message and one of its symbols. A row that is answered with no bytes is none of them. The answer is the cells'
 -- symbols combined, row by row (`rows_answer`). Each code says in its own crate which rows a query has: `digit_rows`, `block_rows`, `layout_rows`.
-use Rattle.std.specs.Prelude.{ℕ, ◌+◌, ◌*◌, Bool, not, cond, ◌&&◌, eqb}
+use Rattle.std.specs.Prelude.{ℕ, ◌+◌, ◌*◌, Bool, not, cond, ◌&&◌, eqb, Option, Some, None}
 use mathlib.Core.List.{List, [], ◌∷◌, map, flat_map}
 use Rattle.lists.specs.Sums.{bit, sum}
 use Rattle.symbol.specs.Sum.{Sum, symbol_at, total}
-use Rattle.scheme.specs.declared.Place.{Place}
-use Rattle.scheme.specs.declared.Place.TheVariants.{At, Nowhere}
 
 -- a message, and the number of one of its symbols
 abbrev pub Cell : Type 0
@@ -38,11 +36,11 @@ abbrev pub named_in : ℕ → ℕ → List Cell → Bool
 named_in p i cells = not (eqb (times_in p i cells) 0)
 
 -- so many bytes later, if anywhere
-abbrev pub later : ℕ → Place → Place
-later S Nowhere = Nowhere
-later S (At at) = At (S + at)
+abbrev pub later : ℕ → Option ℕ → Option ℕ
+later S None = None
+later S (Some at) = Some (S + at)
 
 -- where the answer to the first row that names it begins, if a row does
-unfoldable pub place_naming : ℕ → ℕ → ℕ → List (List Cell) → Place
-place_naming S p i [] = Nowhere
-place_naming S p i (cells ∷ rows) = cond (named_in p i cells) (At 0) (later S (place_naming S p i rows))
+unfoldable pub place_naming : ℕ → ℕ → ℕ → List (List Cell) → Option ℕ
+place_naming S p i [] = None
+place_naming S p i (cells ∷ rows) = cond (named_in p i cells) (Some 0) (later S (place_naming S p i rows))

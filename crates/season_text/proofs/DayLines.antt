@@ -1,7 +1,7 @@
 -- A line of a name and a real day that is written reads back (`day-written`), and a line that is read is what is written for its day (`day-read`).
 -- A text too short for a day, and a place past a text's end, have none (`day-short`, `past_end`).
 use mathlib.Core.Path.{◌≡◌, refl, sym, ap, ◌∙◌}
-use mathlib.Core.Bool.{Bool, true, false, cond, ◌&&◌, and-false}
+use mathlib.Core.Bool.{Bool, true, false, ◌&&◌, and-false}
 use mathlib.Core.List.{List, [], ◌∷◌, ◌++◌, append_assoc}
 use Prim.Native.Nat.{ℕ, ◌+◌, ◌<◌}
 use native.Mathlib.Omega.{arith}
@@ -9,12 +9,14 @@ use lib.ListN.{length, drop, length-append, drop_of_length-le}
 use lib.Seq.{drop-drop}
 use Rattle.lists.proofs.Both.{both_true}
 use Rattle.lists.proofs.Cuts.{drop-after}
-use Rattle.text_lines.specs.Lines.{begins}
+use Rattle.std.specs.Prelude.{Some, None}
+use Rattle.std.proofs.lemmas.Option.{none-some}
+use Rattle.text_lines.specs.Lines.{begins, line_of}
+use Rattle.text_lines.proofs.Taken.{passed}
 use Rattle.text_lines.proofs.Begins.{begins-split, begins-joined}
 use Rattle.calendar.specs.declared.Day.{Day}
 use Rattle.calendar.specs.Calendar.{real_day}
 use Rattle.calendar.proofs.Days.{real}
-use Rattle.season_text.specs.declared.DayLine.TheVariants.{Value, Refused}
 use Rattle.season_text.specs.DayLines.{day_text, day_line_text, day_in, day_at, day_line}
 use Rattle.season_text.proofs.DayTexts.{text-length, written-day}
 
@@ -33,11 +35,11 @@ short-begins d text h = go (begins (day_text d) text) refl
         let t = text-length d in
         absurd (let w : ⊥ = omega arith in w)
 
-pub day-short : (at : ℕ) (text : List ℕ) → length text < 11 → day_at at text ≡ Refused
+pub day-short : (at : ℕ) (text : List ℕ) → length text < 11 → day_at at text ≡ None
 unfolding day_at
 day-short at text h = simp (short-begins (day_in text) text h, and-false)
 
-pub past_end : (name text : List ℕ) (at : ℕ) → length text < at → day_line name text at ≡ Refused
+pub past_end : (name text : List ℕ) (at : ℕ) → length text < at → day_line name text at ≡ None
 unfolding day_line begins
 past_end [] text at h =
     ap (day_at (at + 0)) (drop_of_length-le text {i = at + 0} (omega arith)) ∙ day-short (at + 0) [] (omega arith)
@@ -46,7 +48,7 @@ past_end (x ∷ name) text at h = simp (drop_of_length-le text {i = at} (omega a
 -- ---- what is written reads back
 
 pub day-written : (name text rest : List ℕ) (at : ℕ) (d : Day) → real_day d ≡ true → drop at text ≡ day_line_text name d ++ rest
-    → day_line name text at ≡ Value d (at + length (day_line_text name d))
+    → day_line name text at ≡ Some (line_of d (at + length (day_line_text name d)))
 unfolding day_line day_at
 day-written name text rest at d e h =
     let here : drop at text ≡ name ++ (day_text d ++ rest) = h ∙ append_assoc name (day_text d) rest in
@@ -54,7 +56,7 @@ day-written name text rest at d e h =
     let starts : begins name (drop at text) ≡ true = ap (begins name) here ∙ begins-joined name (day_text d ++ rest) in
     let behind : drop place text ≡ day_text d ++ rest = drop-after text name (day_text d ++ rest) at here in
     let end : place + length (day_text d) ≡ at + length (day_line_text name d) = let l = length-append name (day_text d) in omega arith in
-    simp (starts, behind, written-day d rest (real d e), e, begins-joined (day_text d) rest) (ap (Value d) end)
+    simp (starts, behind, written-day d rest (real d e), e, begins-joined (day_text d) rest) (ap (λ (e : ℕ). Some (line_of d e)) end)
 
 -- ---- what is read is what is written
 
@@ -64,12 +66,7 @@ pub record DayLineRead (name text : List ℕ) (at : ℕ) (d : Day) (next : ℕ) 
   pub next-is : next ≡ at + length (day_line_text name d)
   pub here : drop at text ≡ day_line_text name d ++ drop next text
 
--- a test that yields a line has passed
-passed : (t : Bool) (v d : Day) (place next : ℕ) → cond t (Value v place) Refused ≡ Value d next → (t ≡ true) × (v ≡ d) × (place ≡ next)
-passed true v d place next e = (refl, cc, cc)
-passed false v d place next e = let z : ◌≡◌ {A = ℕ} 0 1 = cc in absurd (let w : ⊥ = omega arith in w)
-
-pub day-read : (name text : List ℕ) (at : ℕ) (d : Day) (next : ℕ) → day_line name text at ≡ Value d next → DayLineRead name text at d next
+pub day-read : (name text : List ℕ) (at : ℕ) (d : Day) (next : ℕ) → day_line name text at ≡ Some (line_of d next) → DayLineRead name text at d next
 unfolding day_line day_at
 day-read name text at d next e = go (begins name (drop at text)) refl
   where
@@ -99,4 +96,4 @@ day-read name text at d next e = go (begins name (drop at text)) refl
               ∙ ap (λ (l : List ℕ). name ++ l) (drop-drop (length name) at text ∙ day-here)
               ∙ sym (append_assoc name (day_text d) (drop next text));
         }
-    go false other = let z : ◌≡◌ {A = ℕ} 0 1 = cc (rw other at e) in absurd (let w : ⊥ = omega arith in w)
+    go false other = absurd (none-some (line_of d next) (rw other at e))

@@ -9,16 +9,16 @@ use borrow.Author.Tests.{ne_eqb}
 use lib.ListN.{length, drop, length-append}
 use Rattle.lists.proofs.Both.{both_true}
 use Rattle.lists.proofs.Cuts.{drop-after}
+use Rattle.std.specs.Prelude.{Some}
+use Rattle.std.proofs.lemmas.Option.{same_Some}
 use Rattle.text_lines.specs.Lines.{begins}
+use Rattle.text_lines.proofs.Taken.{went_on}
 use Rattle.calendar.specs.declared.Day.{Day}
 use Rattle.calendar.specs.Calendar.{real_day, no_day, is_none, undated}
 use Rattle.calendar.proofs.Days.{none_is, real-given}
-use Rattle.season_text.specs.declared.DayLine.{DayLine}
-use Rattle.season_text.specs.declared.DayLine.TheVariants.{Value, Refused}
 use Rattle.season_text.specs.declared.Season.{Season}
-use Rattle.season_text.specs.declared.Season.TheVariants.{Of}
 use Rattle.season_text.specs.DayLines.{day_line_text, day_line}
-use Rattle.season_text.specs.SeasonLines.{open_name, close_name, in_form, season_text, date_begins, on_day, season_lines, dates_go_on}
+use Rattle.season_text.specs.SeasonLines.{open_name, close_name, in_form, season_text, date_begins, season_of, season_lines, dates_go_on}
 use Rattle.season_text.proofs.DayLines.{line-length, day-written, DayLineRead, day-read}
 
 -- ---- the two lines, or none
@@ -77,7 +77,7 @@ both-none opening closing e =
 
 pub season-written : (opening closing : Day) (text rest : List ℕ) (at : ℕ) → in_form opening closing ≡ true
     → drop at text ≡ season_text opening closing ++ rest → dates_go_on opening closing rest ≡ false
-    → season_lines text at ≡ Of opening closing (at + length (season_text opening closing))
+    → season_lines text at ≡ Some (season_of opening closing (at + length (season_text opening closing)))
 unfolding season_lines date_begins begins
 season-written opening closing text rest at form here ends = go (undated opening closing) refl
   where
@@ -87,13 +87,13 @@ season-written opening closing text rest at form here ends = go (undated opening
     b : List ℕ
     b = day_line_text close_name closing
 
-    go : (t : Bool) → undated opening closing ≡ t → season_lines text at ≡ Of opening closing (at + length (season_text opening closing))
+    go : (t : Bool) → undated opening closing ≡ t → season_lines text at ≡ Some (season_of opening closing (at + length (season_text opening closing)))
     go true none =
         let none_here : drop at text ≡ rest = here ∙ ap (λ (l : List ℕ). l ++ rest) (text-none opening closing none) in
         let p = both-none opening closing none in
         let stops : date_begins (drop at text) ≡ false = ap date_begins none_here ∙ rw none at ends in
         let end : at ≡ at + length (season_text opening closing) = let l = ap length (text-none opening closing none) in omega arith in
-        rw (stops, p.0, p.1) (ap (Of no_day no_day) (rw (p.0, p.1) at end))
+        rw (stops, p.0, p.1) (ap (λ (e : ℕ). Some (season_of no_day no_day e)) (rw (p.0, p.1) at end))
     go false given =
         let r = both-real opening closing form given in
         let open-here : drop at text ≡ a ++ (b ++ rest) =
@@ -106,7 +106,7 @@ season-written opening closing text rest at form here ends = go (undated opening
           starts,
           day-written open_name text (b ++ rest) at opening r.0 open-here,
           day-written close_name text rest (at + length a) closing r.1 close-here,
-        ) (ap (Of opening closing) end)
+        ) (ap (λ (e : ℕ). Some (season_of opening closing e)) end)
 
 -- ---- what is read is what is written
 
@@ -145,28 +145,23 @@ both_read text at a next opening closing first last =
       ends = rw dates;
     }
 
--- a line that goes on to a season was read
-went_on : (line : DayLine) (continue : Day → ℕ → Season) (opening closing : Day) (next : ℕ) (A : Type 0) → on_day line continue ≡ Of opening closing next
-    → ((d : Day) (n : ℕ) → line ≡ Value d n → continue d n ≡ Of opening closing next → A) → A
-went_on (Value d n) continue opening closing next A e then = then d n refl e
-went_on Refused continue opening closing next A e then = let z : ◌≡◌ {A = ℕ} 0 1 = cc in absurd (let w : ⊥ = omega arith in w)
+-- one season, its dates and its end
+same-season : (s t : Season) → Some s ≡ Some t → (s.opening ≡ t.opening) × (s.closing ≡ t.closing) × (s.next ≡ t.next)
+same-season s t e =
+    let p = same_Some s t e in
+    (ap (λ (x : Season). x.opening) p, ap (λ (x : Season). x.closing) p, ap (λ (x : Season). x.next) p)
 
-pub season-read : (text : List ℕ) (at : ℕ) (opening closing : Day) (next : ℕ) → season_lines text at ≡ Of opening closing next
+pub season-read : (text : List ℕ) (at : ℕ) (opening closing : Day) (next : ℕ) → season_lines text at ≡ Some (season_of opening closing next)
     → SeasonRead text at opening closing next
 unfolding season_lines
 season-read text at opening closing next e = go (date_begins (drop at text)) refl
   where
     go : (t : Bool) → date_begins (drop at text) ≡ t → SeasonRead text at opening closing next
     go true begun =
-        went_on (day_line open_name text at) _ opening closing next _ (rw begun at e) λ d a first on.
-        went_on (day_line close_name text a) _ opening closing next _ on λ f b last done.
-        let o : d ≡ opening = cc in
-        let c : f ≡ closing = cc in
-        let n : b ≡ next = cc in
-        rw (o, c, n) at (both_read text at a b d f (day-read open_name text at d a first) (day-read close_name text a f b last))
+        went_on (day_line open_name text at) _ (season_of opening closing next) (rw begun at e) λ d a first on.
+        went_on (day_line close_name text a) _ (season_of opening closing next) on λ f b last done.
+        let s = same-season (season_of d f b) (season_of opening closing next) done in
+        rw (s.0, s.1, s.2) at (both_read text at a b d f (day-read open_name text at d a first) (day-read close_name text a f b last))
     go false other =
-        let none : Of no_day no_day at ≡ Of opening closing next = rw other at e in
-        let o : opening ≡ no_day = cc in
-        let c : closing ≡ no_day = cc in
-        let n : next ≡ at = cc in
-        rw (o, c, n) (none_read text at other)
+        let s = same-season (season_of opening closing next) (season_of no_day no_day at) (sym (rw other at e)) in
+        rw (s.0, s.1, s.2) (none_read text at other)

@@ -1,11 +1,10 @@
 -- A line of a name and a day (document 02, item 1), written and read: behind the name four digits, hyphen, two digits, hyphen, two digits, and byte 10.
-use Rattle.std.specs.Prelude.{ℕ, ◌+◌, ◌/◌, ◌%◌, cond, ◌&&◌, List, [], ◌∷◌, ◌++◌, length, take, drop}
+use Rattle.std.specs.Prelude.{ℕ, ◌+◌, ◌/◌, ◌%◌, cond, ◌&&◌, List, [], ◌∷◌, ◌++◌, length, take, drop, Option, Some, None}
 use Rattle.text_lines.specs.Decimal.{digit, value_from}
-use Rattle.text_lines.specs.Lines.{begins}
+use Rattle.text_lines.specs.declared.Line.{Line}
+use Rattle.text_lines.specs.Lines.{begins, line_of}
 use Rattle.calendar.specs.declared.Day.{Day}
 use Rattle.calendar.specs.Calendar.{real_day}
-use Rattle.season_text.specs.declared.DayLine.{DayLine}
-use Rattle.season_text.specs.declared.DayLine.TheVariants.{Value, Refused}
 
 -- the byte of a number's last digit
 abbrev pub last_digit : ℕ → ℕ
@@ -30,9 +29,9 @@ unfoldable pub day_in : List ℕ → Day
 day_in text = record { year = value_from 0 (take 4 text); month = value_from 0 (take 2 (drop 5 text)); day = value_from 0 (take 2 (drop 8 text)) }
 
 -- a day and byte 10 at the start of a text, which begins at place `at`: the real day whose text stands there
-unfoldable pub day_at : ℕ → List ℕ → DayLine
-day_at at text = let d = day_in text in cond (real_day d && begins (day_text d) text) (Value d (at + length (day_text d))) Refused
+unfoldable pub day_at : ℕ → List ℕ → Option (Line Day)
+day_at at text = let d = day_in text in cond (real_day d && begins (day_text d) text) (Some (line_of d (at + length (day_text d)))) None
 
 -- the line at place `at`
-unfoldable pub day_line : List ℕ → List ℕ → ℕ → DayLine
-day_line name text at = cond (begins name (drop at text)) (day_at (at + length name) (drop (at + length name) text)) Refused
+unfoldable pub day_line : List ℕ → List ℕ → ℕ → Option (Line Day)
+day_line name text at = cond (begins name (drop at text)) (day_at (at + length name) (drop (at + length name) text)) None

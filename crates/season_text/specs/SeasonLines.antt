@@ -1,13 +1,10 @@
 -- The lines of a catalogue's season, `open=` and `close=` (document 02, item 1): both or neither, in this order, written and read at a place of a text.
-use Rattle.std.specs.Prelude.{ℕ, Bool, cond, ◌&&◌, ◌||◌, List, [], ◌++◌, drop}
+use Rattle.std.specs.Prelude.{ℕ, Bool, cond, ◌&&◌, ◌||◌, List, [], ◌++◌, drop, Option, Some}
 use Rattle.lists.specs.Ascii.{ascii}
-use Rattle.text_lines.specs.Lines.{begins}
+use Rattle.text_lines.specs.Lines.{begins, on_line}
 use Rattle.calendar.specs.declared.Day.{Day}
 use Rattle.calendar.specs.Calendar.{real_day, no_day, undated}
-use Rattle.season_text.specs.declared.DayLine.{DayLine}
-use Rattle.season_text.specs.declared.DayLine.TheVariants.{Value, Refused}
 use Rattle.season_text.specs.declared.Season.{Season}
-use Rattle.season_text.specs.declared.Season.TheVariants.{Of, Refused as NoSeason}
 use Rattle.season_text.specs.DayLines.{day_line_text, day_line}
 
 abbrev pub open_name : List ℕ
@@ -28,17 +25,16 @@ season_text opening closing = cond (undated opening closing) [] (day_line_text o
 unfoldable pub date_begins : List ℕ → Bool
 date_begins rest = begins open_name rest || begins close_name rest
 
--- a line's day and the next place go on, or the reading ends
-abbrev pub on_day : DayLine → (Day → ℕ → Season) → Season
-on_day (Value day next) continue = continue day next
-on_day Refused continue = NoSeason
+-- two dates, and the place behind them
+abbrev pub season_of : Day → Day → ℕ → Season
+season_of opening closing next = record { opening = opening; closing = closing; next = next }
 
 -- The two lines at place `at`. Where a line of neither name begins, there are none; a lone line, or the second before the first, is out of form
-unfoldable pub season_lines : List ℕ → ℕ → Season
+unfoldable pub season_lines : List ℕ → ℕ → Option Season
 season_lines text at =
     cond (date_begins (drop at text))
-    (on_day (day_line open_name text at) λ opening a. on_day (day_line close_name text a) λ closing b. Of opening closing b)
-    (Of no_day no_day at)
+    (on_line (day_line open_name text at) λ opening a. on_line (day_line close_name text a) λ closing b. Some (season_of opening closing b))
+    (Some (season_of no_day no_day at))
 
 -- what stands behind the lines of two dates goes on with them: there are none, and one begins
 abbrev pub dates_go_on : Day → Day → List ℕ → Bool

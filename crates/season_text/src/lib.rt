@@ -9,26 +9,17 @@ ghost use Rattle.season_text.specs.DayLines.{last_digit, day_text, day_line_text
 ghost use Rattle.season_text.specs.SeasonLines.{season_text, date_begins, season_lines};
 
 use calendar::Day;
+use text_lines::Line;
 
 // The byte between the numbers of a day.
 const HYPHEN: u8 = 45;
 
-// What stands at a place of the text: a line with this day, the next line at `next`; or no such line.
+// The dates at a place of the text, three zeros each where there are none, and where they end.
 #[derive(Clone, Copy)]
-pub enum DayLine {
-    Value { day: Day, next: usize },
-    Refused,
-}
-
-// The dates at a place of the text, what follows them at `next`; three zeros each where there are none; or lines out of form.
-#[derive(Clone, Copy)]
-pub enum Season {
-    Of {
-        opening: Day,
-        closing: Day,
-        next: usize,
-    },
-    Refused,
+pub struct Season {
+    pub opening: Day,
+    pub closing: Day,
+    pub next: usize,
 }
 
 // The byte of the last digit of n.
@@ -62,10 +53,7 @@ fn digit_value(byte: u8) -> u32
     ensures value { result ≡ byte - 48 }
     ensures upper_bound { result ≤ 207 }
 {
-    if byte < 48 {
-        return 0;
-    }
-    byte as u32 - 48
+    u32::from(byte.saturating_sub(48))
 }
 
 // The number of the two digits at place i.
@@ -90,37 +78,35 @@ fn day_in(text: &[u8]) -> Day
 }
 
 // A real day and byte 10 at the start of the text, which begins at place `at`: written, the numbers there are what stands there.
-fn day(text: &[u8], at: usize) -> DayLine
+fn day(text: &[u8], at: usize) -> Option<Line<Day>>
     requires { at + length text.now < 2 ^ 63 }
     ensures { result ≡ day_at at text.now }
 {
     if text.len() < 11 {
-        return DayLine::Refused;
+        return None;
     }
     let d = day_in(text);
-    let real = calendar::is_real(d);
-    let same = text_lines::starts(&day_text(d), text);
-    if !real {
-        return DayLine::Refused;
+    if !calendar::is_real(d) {
+        return None;
     }
-    if !same {
-        return DayLine::Refused;
+    if !text_lines::starts(&day_text(d), text) {
+        return None;
     }
-    DayLine::Value {
-        day: d,
+    Some(Line {
+        value: d,
         next: at + 11,
-    }
+    })
 }
 
 // The line at place `at`: the name, a real day, and byte 10.
-pub fn day_line(name: &[u8], text: &[u8], at: usize) -> DayLine
+pub fn day_line(name: &[u8], text: &[u8], at: usize) -> Option<Line<Day>>
     ensures { result ≡ day_line name.now text.now at }
 {
     if text.len() < at {
-        return DayLine::Refused;
+        return None;
     }
     if !text_lines::starts(name, &text[at..]) {
-        return DayLine::Refused;
+        return None;
     }
     let start = at + name.len();
     day(&text[start..], start)
@@ -130,50 +116,39 @@ pub fn day_line(name: &[u8], text: &[u8], at: usize) -> DayLine
 fn date_begins(text: &[u8]) -> bool
     ensures { result ≡ date_begins text.now }
 {
-    if text_lines::starts(b"open=", text) {
-        return true;
-    }
-    text_lines::starts(b"close=", text)
+    text_lines::starts(b"open=", text) || text_lines::starts(b"close=", text)
 }
 
 // The dates at place `at`: two lines, or none where no line of the two names begins.
-pub fn season_lines(text: &[u8], at: usize) -> Season
+pub fn season_lines(text: &[u8], at: usize) -> Option<Season>
     ensures { result ≡ season_lines text.now at }
 {
     let none = calendar::none();
     if text.len() < at {
-        return Season::Of {
+        return Some(Season {
             opening: none,
             closing: none,
             next: at,
-        };
+        });
     }
     if !date_begins(&text[at..]) {
-        return Season::Of {
+        return Some(Season {
             opening: none,
             closing: none,
             next: at,
-        };
+        });
     }
-    let DayLine::Value {
-        day: opening,
-        next: a,
-    } = day_line(b"open=", text, at)
-    else {
-        return Season::Refused;
+    let Some(opening) = day_line(b"open=", text, at) else {
+        return None;
     };
-    let DayLine::Value {
-        day: closing,
-        next: b,
-    } = day_line(b"close=", text, a)
-    else {
-        return Season::Refused;
+    let Some(closing) = day_line(b"close=", text, opening.next) else {
+        return None;
     };
-    Season::Of {
-        opening: opening,
-        closing: closing,
-        next: b,
-    }
+    Some(Season {
+        opening: opening.value,
+        closing: closing.value,
+        next: closing.next,
+    })
 }
 
 // Writes the line of a name and a day from place `at` on, and gives the place after it.
@@ -200,7 +175,7 @@ pub fn put_season(out: &mut [u8], at: usize, opening: Day, closing: Day) -> usiz
     put_day_line(out, next, b"close=", closing)
 }
 
-// The bytes of the two lines.
+// The bytes of the two lines, worked out beside their writing: a text that does not fit is refused before a byte is written.
 pub fn season_length(opening: Day, closing: Day) -> usize
     ensures { result ≡ length (season_text opening closing) }
 {

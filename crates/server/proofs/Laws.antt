@@ -9,10 +9,9 @@ use lib.ListN.{length, take, drop}
 use lib.Seq.{take_at}
 use borrow.Author.Tests.{leb-false, lt-leb, ltb-false, le-ltb, eqb-true, eq-eqb, not-false}
 use Rattle.lists.specs.Parts.{put}
+use Rattle.std.specs.Prelude.{Ok, Err}
+use Rattle.refusal.specs.Verdicts.{Verdict, accepted}
 use Rattle.refusal.specs.declared.Refusal.{Refusal}
-use Rattle.refusal.specs.declared.Verdict.{Verdict}
-use Rattle.refusal.specs.declared.Verdict.TheVariants.{Accepted, Refused}
-use Rattle.refusal.specs.declared.Outcome.TheVariants.{Value, Refused as NoValue}
 use Rattle.scheme.specs.Scheme.{Scheme}
 use Rattle.scheme.specs.Laws.{Laws}
 use Rattle.calendar.specs.declared.Day.{Day}
@@ -33,7 +32,7 @@ module _ (scheme_of : Catalogue → Scheme) where
     pub roomy : (scheme_of c).answer_length query ≤ room
 
   pub answer-passed : (c : Catalogue) (day : Day) (server stored : ℕ) (query : List ℕ) (room : ℕ)
-      → answer_verdict scheme_of c day server stored query room ≡ Accepted → Answers c day server stored query room
+      → answer_verdict scheme_of c day server stored query room ≡ accepted → Answers c day server stored query room
   unfolding answer_verdict
   answer-passed c day server stored query room e =
       let p = day-passed c day _ e in
@@ -48,7 +47,7 @@ module _ (scheme_of : Catalogue → Scheme) where
       }
 
   pub answer-accepted : (c : Catalogue) (day : Day) (server stored : ℕ) (query : List ℕ) (room : ℕ)
-      → Answers c day server stored query room → answer_verdict scheme_of c day server stored query room ≡ Accepted
+      → Answers c day server stored query room → answer_verdict scheme_of c day server stored query room ≡ accepted
   unfolding answer_verdict
   answer-accepted c day server stored query room a =
       day-accepted c day _ a.admitted a.served (
@@ -79,13 +78,13 @@ module _ (scheme_of : Catalogue → Scheme) where
     answer-by v e = ap (answer_by scheme_of c store query buffer) (sym e)
 
     -- refused, it leaves the buffer as it was
-    pub answer-refused : (v : Verdict) (refusal : Refusal) → v ≡ answer_verdict scheme_of c day server (length store) query (length buffer) → v ≡ Refused refusal
-        → DidAnswer (answering scheme_of c day server store query buffer) (NoValue refusal) buffer
+    pub answer-refused : (v : Verdict) (refusal : Refusal) → v ≡ answer_verdict scheme_of c day server (length store) query (length buffer) → v ≡ Err refusal
+        → DidAnswer (answering scheme_of c day server store query buffer) (Err refusal) buffer
     answer-refused v refusal e p = rw (answer-by v e, p) (record { outcome = refl; buffer = refl })
 
-    pub answer-done : (v : Verdict) (size : ℕ) (after : List ℕ) → v ≡ answer_verdict scheme_of c day server (length store) query (length buffer) → v ≡ Accepted
+    pub answer-done : (v : Verdict) (size : ℕ) (after : List ℕ) → v ≡ answer_verdict scheme_of c day server (length store) query (length buffer) → v ≡ accepted
         → size ≡ (scheme_of c).answer_length query → after ≡ put 0 ((scheme_of c).answer store query) buffer
-        → DidAnswer (answering scheme_of c day server store query buffer) (Value size) after
+        → DidAnswer (answering scheme_of c day server store query buffer) (Ok size) after
     answer-done v size after e p q a = rw (answer-by v e, p, q) (record { outcome = refl; buffer = a })
 
   -- Of a code that keeps its promises: the bytes that answering wrote are the answer, and the rest of the buffer is as it was
@@ -98,16 +97,16 @@ module _ (scheme_of : Catalogue → Scheme) where
     abbrev did : Answered
     did = answering scheme_of c day server store query buffer
 
-    pub writes-answer : answer_verdict scheme_of c day server (length store) query (length buffer) ≡ Accepted
+    pub writes-answer : answer_verdict scheme_of c day server (length store) query (length buffer) ≡ accepted
         → written_by did.outcome did.buffer ≡ (scheme_of c).answer store query
     writes-answer e =
-        rw (answer-by c day server store query buffer Accepted (sym e)) (whole-answer (answer-passed c day server (length store) query (length buffer) e))
+        rw (answer-by c day server store query buffer accepted (sym e)) (whole-answer (answer-passed c day server (length store) query (length buffer) e))
 
     pub writes-only : did.buffer ≡ put 0 (written_by did.outcome did.buffer) buffer
     writes-only = go (answer_verdict scheme_of c day server (length store) query (length buffer)) refl
       where
         go : (v : Verdict) → v ≡ answer_verdict scheme_of c day server (length store) query (length buffer)
             → did.buffer ≡ put 0 (written_by did.outcome did.buffer) buffer
-        go Accepted e =
-            rw (answer-by c day server store query buffer Accepted e, whole-answer (answer-passed c day server (length store) query (length buffer) (sym e)))
-        go (Refused refusal) e = rw (answer-by c day server store query buffer (Refused refusal) e)
+        go (Ok _) e =
+            rw (answer-by c day server store query buffer accepted e, whole-answer (answer-passed c day server (length store) query (length buffer) (sym e)))
+        go (Err refusal) e = rw (answer-by c day server store query buffer (Err refusal) e)

@@ -5,7 +5,7 @@ use mathlib.Core.List.{List}
 use Prim.Native.Nat.{ℕ}
 use lib.ListN.{length}
 use Rattle.lists.specs.Distinct.{stands}
-use Rattle.refusal.specs.declared.Verdict.{Verdict}
+use Rattle.refusal.specs.Verdicts.{Verdict}
 use Rattle.refusal.specs.Within.{ValueWithin}
 use Rattle.refusal.proofs.Within.{faults_named, faults-within, value-within}
 use Rattle.scheme.specs.Scheme.{Scheme}

@@ -1,11 +1,8 @@
 -- Answering, over the code of each catalogue: the whole result, and the final bytes of the answer's buffer, for every input
 -- (document 01, 'Numbers a call can give'; the day: document 02, item 1).
-use Rattle.std.specs.Prelude.{◌≡◌, not, List, [], ◌∷◌, ◌++◌, ℕ, leb, ltb, eqb, length, take}
+use Rattle.std.specs.Prelude.{◌≡◌, not, List, [], ◌∷◌, ◌++◌, ℕ, leb, ltb, eqb, length, take, Ok, Err}
 use Rattle.lists.specs.Parts.{put}
-use Rattle.refusal.specs.declared.Verdict.{Verdict}
-use Rattle.refusal.specs.declared.Verdict.TheVariants.{Accepted, Refused}
-use Rattle.refusal.specs.declared.Outcome.{Outcome}
-use Rattle.refusal.specs.declared.Outcome.TheVariants.{Value, Refused as NoValue}
+use Rattle.refusal.specs.Verdicts.{Verdict, Outcome}
 use Rattle.refusal.specs.Foremost.{Fault, fault, foremost}
 use Rattle.scheme.specs.Scheme.{Scheme}
 use Rattle.calendar.specs.declared.Day.{Day}
@@ -20,8 +17,8 @@ pub record Answered : Type 0 where
 
 -- the bytes that answering wrote: as many as it returns, from the start of the buffer; refused, none
 abbrev pub written_by : Outcome → List ℕ → List ℕ
-written_by (Value size) buffer = take size buffer
-written_by (NoValue refusal) buffer = []
+written_by (Ok size) buffer = take size buffer
+written_by (Err refusal) buffer = []
 
 -- A call of the code did what the definition says: its result, and the final bytes of the buffer
 pub record DidAnswer (answered : Answered) (result : Outcome) (after : List ℕ) : Type 0 where
@@ -44,11 +41,11 @@ module _ (scheme_of : Catalogue → Scheme) where
   answer_verdict c day server stored query room = foremost (answer_faults c day server stored query room)
 
   abbrev pub answer_by : Catalogue → List ℕ → List ℕ → List ℕ → Verdict → Answered
-  answer_by c store query buffer Accepted = record {
-    outcome = Value ((scheme_of c).answer_length query);
+  answer_by c store query buffer (Ok _) = record {
+    outcome = Ok ((scheme_of c).answer_length query);
     buffer = put 0 ((scheme_of c).answer store query) buffer;
   }
-  answer_by c store query buffer (Refused refusal) = record { outcome = NoValue refusal; buffer = buffer }
+  answer_by c store query buffer (Err refusal) = record { outcome = Err refusal; buffer = buffer }
 
   -- answering c day server store query buffer
   unfoldable pub answering : Catalogue → Day → ℕ → List ℕ → List ℕ → List ℕ → Answered

@@ -6,8 +6,8 @@ ghost use Rattle.codes.specs.Codes.{scheme_of};
 ghost use Rattle.server.specs.Answering.{DidAnswer, answer_verdict, answering};
 
 use calendar::Day;
-use catalogue::{Catalogue, Measured};
-use refusal::{Outcome, Refusal, Verdict};
+use catalogue::Catalogue;
+use refusal::Refusal;
 
 // Whether the query is answered today, from a store of `stored` bytes into a buffer of `room` bytes.
 fn verdict(
@@ -17,28 +17,24 @@ fn verdict(
     stored: usize,
     query: &[u8],
     room: usize,
-) -> Verdict
+) -> Result<(), Refusal>
     ensures { result ≡ answer_verdict scheme_of c today server stored query.now room }
 {
-    let Measured::Of(sizes) = catalogue::sizes(c) else {
-        return catalogue::verdict(c);
-    };
-    if let Verdict::Refused(refusal) = catalogue::day_verdict(c, today) {
-        return Verdict::Refused(refusal);
-    }
+    let sizes = catalogue::sizes(c)?;
+    catalogue::day_verdict(c, today)?;
     if c.servers <= server {
-        return Verdict::Refused(Refusal::Server);
+        return Err(Refusal::Server);
     }
     if !codes::admits(c, server, query) {
-        return Verdict::Refused(Refusal::Query);
+        return Err(Refusal::Query);
     }
     if stored != sizes.store {
-        return Verdict::Refused(Refusal::StoreLength);
+        return Err(Refusal::StoreLength);
     }
     if room < codes::answer_length(c, query) {
-        return Verdict::Refused(Refusal::Room);
+        return Err(Refusal::Room);
     }
-    Verdict::Accepted
+    Ok(())
 }
 
 // Writes the answer to the query at the start of `out`, and gives its length.
@@ -49,12 +45,10 @@ pub fn answer(
     store: &[u8],
     query: &[u8],
     out: &mut [u8],
-) -> Outcome
+) -> Result<usize, Refusal>
     ensures { DidAnswer (answering scheme_of c today server store.now query.now out.old) result out.new }
 {
-    if let Verdict::Refused(refusal) = verdict(c, today, server, store.len(), query, out.len()) {
-        return Outcome::Refused(refusal);
-    }
+    verdict(c, today, server, store.len(), query, out.len())?;
     codes::answer(c, server, store, query, out);
-    Outcome::Value(codes::answer_length(c, query))
+    Ok(codes::answer_length(c, query))
 }

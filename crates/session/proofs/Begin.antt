@@ -7,9 +7,9 @@ use Prim.Native.Nat.{ℕ, ◌-◌, ◌<◌}
 use lib.ListN.{length, replicate}
 use lib.Seq.{take_at}
 use borrow.Author.Tests.{leb-false, lt-leb, eqb-true, eq-eqb, not-false}
+use Rattle.std.specs.Prelude.{Ok, Err}
+use Rattle.refusal.specs.Verdicts.{Verdict, accepted}
 use Rattle.refusal.specs.declared.Refusal.{Refusal}
-use Rattle.refusal.specs.declared.Verdict.{Verdict}
-use Rattle.refusal.specs.declared.Verdict.TheVariants.{Accepted, Refused}
 use Rattle.parameters.specs.Measures.{key_places}
 use Rattle.scheme.specs.Scheme.{Scheme, Valid}
 use Rattle.catalogue.specs.declared.Catalogue.{Catalogue}
@@ -29,7 +29,7 @@ module _ (scheme_of : Catalogue → Scheme) (c : Catalogue) (wanted : ℕ) (key 
     pub inside : wanted < c.messages
     pub valid : Valid (scheme_of c) key
 
-  pub begin-passed : begin_verdict scheme_of c wanted key ≡ Accepted → Begins
+  pub begin-passed : begin_verdict scheme_of c wanted key ≡ accepted → Begins
   unfolding begin_verdict
   begin-passed e =
       let p = call-passed c _ e in
@@ -40,7 +40,7 @@ module _ (scheme_of : Catalogue → Scheme) (c : Catalogue) (wanted : ℕ) (key 
         valid = record { long = eqb-true (length key) (scheme_of c).sizes.key (not-false _ n.1.0); good = not-false _ n.1.1.0 };
       }
 
-  pub begin-accepted : Begins → begin_verdict scheme_of c wanted key ≡ Accepted
+  pub begin-accepted : Begins → begin_verdict scheme_of c wanted key ≡ accepted
   unfolding begin_verdict
   begin-accepted b =
       call-accepted c _ b.admitted
@@ -56,18 +56,18 @@ module _ (scheme_of : Catalogue → Scheme) (c : Catalogue) (wanted : ℕ) (key 
   begin-says = go (begin_verdict scheme_of c wanted key) refl
     where
       go : (v : Verdict) → v ≡ begin_verdict scheme_of c wanted key → (begin scheme_of c wanted key).verdict ≡ begin_verdict scheme_of c wanted key
-      go Accepted e = rw (begin-by Accepted e) e
-      go (Refused refusal) e = rw (begin-by (Refused refusal) e) e
+      go (Ok _) e = rw (begin-by accepted e) e
+      go (Err refusal) e = rw (begin-by (Err refusal) e) e
 
-  pub begin-zeros : (refusal : Refusal) → (begin scheme_of c wanted key).verdict ≡ Refused refusal → (begin scheme_of c wanted key).session ≡ zero_session
-  begin-zeros refusal e = rw (begin-by (Refused refusal) (sym e ∙ begin-says))
+  pub begin-zeros : (refusal : Refusal) → (begin scheme_of c wanted key).verdict ≡ Err refusal → (begin scheme_of c wanted key).session ≡ zero_session
+  begin-zeros refusal e = rw (begin-by (Err refusal) (sym e ∙ begin-says))
 
-  pub begin-refused : (v : Verdict) (refusal : Refusal) → v ≡ begin_verdict scheme_of c wanted key → v ≡ Refused refusal
+  pub begin-refused : (v : Verdict) (refusal : Refusal) → v ≡ begin_verdict scheme_of c wanted key → v ≡ Err refusal
       → ◌≡◌ {A = Handed} (record { verdict = v; session = zero_session }) (begin scheme_of c wanted key)
   begin-refused v refusal e p = rw (begin-by v e, p)
 
-  pub begin-done : (v : Verdict) → v ≡ begin_verdict scheme_of c wanted key → v ≡ Accepted
-      → ◌≡◌ {A = Handed} (record { verdict = Accepted; session = new_session c wanted key }) (begin scheme_of c wanted key)
+  pub begin-done : (v : Verdict) → v ≡ begin_verdict scheme_of c wanted key → v ≡ accepted
+      → ◌≡◌ {A = Handed} (record { verdict = accepted; session = new_session c wanted key }) (begin scheme_of c wanted key)
   begin-done v e p = rw (begin-by v e, p)
 
   -- the places that are used hold the key

@@ -3,9 +3,9 @@
 use mathlib.Core.Path.{◌≡◌, refl, sym, ap, ◌∙◌}
 use mathlib.Core.List.{List}
 use Prim.Native.Nat.{ℕ}
+use Rattle.std.specs.Prelude.{Ok, Err}
+use Rattle.refusal.specs.Verdicts.{Verdict, accepted}
 use Rattle.refusal.specs.declared.Refusal.{Refusal}
-use Rattle.refusal.specs.declared.Verdict.{Verdict}
-use Rattle.refusal.specs.declared.Verdict.TheVariants.{Accepted, Refused}
 use Rattle.session.specs.declared.Session.{Session}
 use Rattle.session.specs.Calls.{Out, Did, out, call_by}
 
@@ -14,14 +14,14 @@ pub record Goes (did : Out) (verdict : Verdict) (s after : Session) (buffer writ
   pub by : (v : Verdict) → v ≡ verdict → did ≡ call_by s buffer after written v
   pub says : did.handed.verdict ≡ verdict
   -- a result that says a refusal says that nothing changed
-  pub unchanged : (refusal : Refusal) → did.handed.verdict ≡ Refused refusal → did ≡ out (Refused refusal) s buffer
-  pub refused : (v : Verdict) (refusal : Refusal) → v ≡ verdict → v ≡ Refused refusal → Did did (record { verdict = v; session = s }) buffer
-  pub done : (v : Verdict) (now : List ℕ) → v ≡ verdict → v ≡ Accepted → now ≡ written → Did did (record { verdict = Accepted; session = after }) now
+  pub unchanged : (refusal : Refusal) → did.handed.verdict ≡ Err refusal → did ≡ out (Err refusal) s buffer
+  pub refused : (v : Verdict) (refusal : Refusal) → v ≡ verdict → v ≡ Err refusal → Did did (record { verdict = v; session = s }) buffer
+  pub done : (v : Verdict) (now : List ℕ) → v ≡ verdict → v ≡ accepted → now ≡ written → Did did (record { verdict = accepted; session = after }) now
 
 module _ (s after : Session) (buffer written : List ℕ) where
   call-says : (v : Verdict) → (call_by s buffer after written v).handed.verdict ≡ v
-  call-says Accepted = refl
-  call-says (Refused refusal) = refl
+  call-says (Ok _) = refl
+  call-says (Err refusal) = refl
 
   pub goes : (verdict : Verdict) → Goes (call_by s buffer after written verdict) verdict s after buffer written
   goes verdict = record {

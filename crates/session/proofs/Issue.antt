@@ -7,8 +7,7 @@ use lib.Dec.{leb, ltb}
 use lib.ListN.{length}
 use borrow.Author.Tests.{lt-leb, ltb-false, le-ltb, not-false}
 use Rattle.lists.specs.Parts.{put}
-use Rattle.refusal.specs.declared.Verdict.{Verdict}
-use Rattle.refusal.specs.declared.Verdict.TheVariants.{Accepted}
+use Rattle.refusal.specs.Verdicts.{Verdict, accepted}
 use Rattle.refusal.specs.Chain.{refuse_if, and_then}
 use Rattle.refusal.proofs.Accepted.{first-accepted}
 use Rattle.scheme.specs.Scheme.{Scheme}
@@ -33,7 +32,7 @@ module _ (scheme_of : Catalogue → Scheme) (s : Session) (day : Day) (server : 
     pub roomy : (code_of scheme_of s).sizes.query ≤ room
     pub counts : counted s.meters.sent server + (code_of scheme_of s).sizes.query ≤ most_bytes
 
-  pub issue-passed : (room : ℕ) → issue_verdict scheme_of s day server room ≡ Accepted → Issues room
+  pub issue-passed : (room : ℕ) → issue_verdict scheme_of s day server room ≡ accepted → Issues room
   unfolding issue_verdict
   issue-passed room e =
       let p = first-accepted (ask_faults_on scheme_of s day server) _ e in
@@ -52,13 +51,13 @@ module _ (scheme_of : Catalogue → Scheme) (s : Session) (day : Day) (server : 
       → issue_verdict scheme_of s day server room
       ≡ and_then (day_verdict s.catalogue day)
       (refuse_if (leb s.catalogue.servers server) 3 (refuse_if (ltb room (code_of scheme_of s).sizes.query) 9
-      (refuse_if (ltb most_bytes (counted s.meters.sent server + (code_of scheme_of s).sizes.query)) 16 Accepted)))
+      (refuse_if (ltb most_bytes (counted s.meters.sent server + (code_of scheme_of s).sizes.query)) 16 accepted)))
   unfolding issue_verdict
   issue-sound sound room =
       sym (after-day s.catalogue day _ refl (day_verdict s.catalogue day) _ sound.admitted refl
       (rw (lt-leb s.catalogue.messages s.wanted sound.inside, sound.good, sound.marks, sound.meters)))
 
-  pub issue-accepted : (room : ℕ) → Issues room → issue_verdict scheme_of s day server room ≡ Accepted
+  pub issue-accepted : (room : ℕ) → Issues room → issue_verdict scheme_of s day server room ≡ accepted
   issue-accepted room i =
       rw (
         issue-sound i.sound room,

@@ -8,8 +8,8 @@ use lib.ListN.{length}
 use Rattle.lists.proofs.Cuts.{slot-end}
 use Rattle.parameters.specs.declared.Sizes.{Sizes}
 use Rattle.parameters.specs.Measures.{key_places}
-use Rattle.refusal.specs.declared.Verdict.TheVariants.{Accepted}
 use Rattle.scheme.specs.Scheme.{Valid}
+use Rattle.refusal.specs.Verdicts.{accepted}
 use Rattle.catalogue.specs.declared.Catalogue.{Catalogue}
 use Rattle.catalogue.specs.Catalogue.{Admitted}
 use Rattle.codes.specs.Codes.{scheme_of}
@@ -42,7 +42,7 @@ slot-holds s long sizes e server size room t =
     rw e (omega (arith, slot-end server s.catalogue.servers (code_of scheme_of s).sizes.slot t.below, t.sized, t.roomy))
 
 -- a take that is accepted: nothing was taken from the server before, and what is taken now is no longer than a slot
-pub meter-holds : (s : Session) → length s.key ≡ key_places → (server size room : ℕ) → take_verdict scheme_of s server size room ≡ Accepted
+pub meter-holds : (s : Session) → length s.key ≡ key_places → (server size room : ℕ) → take_verdict scheme_of s server size room ≡ accepted
     → counted s.meters.got server + size ≤ most_bytes
 meter-holds s long server size room e =
     let t = take-passed scheme_of s server size room e in

@@ -8,8 +8,8 @@ use lib.Dec.{ltb}
 use lib.ListN.{length}
 use borrow.Author.Tests.{ltb-false, not-false}
 use Rattle.lists.specs.Parts.{put}
-use Rattle.refusal.specs.declared.Verdict.{Verdict}
-use Rattle.refusal.specs.declared.Verdict.TheVariants.{Accepted, Refused}
+use Rattle.std.specs.Prelude.{Ok, Err}
+use Rattle.refusal.specs.Verdicts.{Verdict, accepted}
 use Rattle.refusal.specs.Chain.{refuse_if}
 use Rattle.refusal.proofs.Foremost.{after_first_lem}
 use Rattle.refusal.proofs.Accepted.{first-accepted}
@@ -30,7 +30,7 @@ module _ (scheme_of : Catalogue → Scheme) (s : Session) where
     pub roomy : wanted_length scheme_of s ≤ room
     pub all-taken : all_taken s.catalogue.servers s.taken ≡ true
 
-  pub recover-passed : (answers_room room : ℕ) → recover_verdict scheme_of s answers_room room ≡ Accepted → Recovers answers_room room
+  pub recover-passed : (answers_room room : ℕ) → recover_verdict scheme_of s answers_room room ≡ accepted → Recovers answers_room room
   unfolding recover_verdict
   recover-passed answers_room room e =
       let p = first-accepted (own_faults scheme_of s) _ e in
@@ -47,11 +47,11 @@ module _ (scheme_of : Catalogue → Scheme) (s : Session) where
   pub recover-verdict : Sound scheme_of s → (answers_room room : ℕ)
       → recover_verdict scheme_of s answers_room room
       ≡ refuse_if (ltb answers_room (slots_of scheme_of s.catalogue)) 9
-      (refuse_if (ltb room (wanted_length scheme_of s)) 9 (refuse_if (not (all_taken s.catalogue.servers s.taken)) 12 Accepted))
+      (refuse_if (ltb room (wanted_length scheme_of s)) 9 (refuse_if (not (all_taken s.catalogue.servers s.taken)) 12 accepted))
   unfolding recover_verdict
   recover-verdict sound answers_room room =
       let own = session-accepted scheme_of s.catalogue s.wanted s.key (sound-holds scheme_of s sound) in
-      sym (after_first_lem (own_faults scheme_of s) _ refl refl Accepted _ (sym own) (rw (sound.marks, sound.meters)))
+      sym (after_first_lem (own_faults scheme_of s) _ refl refl accepted _ (sym own) (rw (sound.marks, sound.meters)))
 
   module _ (answers buffer : List ℕ) where
     pub recover-goes : Goes (recover scheme_of s answers buffer) (recover_verdict scheme_of s (length answers) (length buffer))
@@ -67,5 +67,5 @@ module _ (scheme_of : Catalogue → Scheme) (s : Session) where
     recover-same = go (recover_verdict scheme_of s (length answers) (length buffer)) refl
       where
         go : (v : Verdict) → v ≡ recover_verdict scheme_of s (length answers) (length buffer) → (recover scheme_of s answers buffer).handed.session ≡ s
-        go Accepted e = rw (recover-by Accepted e)
-        go (Refused refusal) e = rw (recover-by (Refused refusal) e)
+        go (Ok _) e = rw (recover-by accepted e)
+        go (Err refusal) e = rw (recover-by (Err refusal) e)

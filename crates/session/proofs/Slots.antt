@@ -13,9 +13,9 @@ use Rattle.lists.proofs.Puts.{put-length}
 use Rattle.lists.proofs.Cuts.{slot-end}
 use Rattle.lists.proofs.ReadBack.{cut-put, cut-put-before, cut-put-after}
 use Rattle.lists.proofs.Mapped.{map_range}
-use Rattle.refusal.specs.declared.Verdict.{Verdict}
-use Rattle.refusal.specs.declared.Verdict.TheVariants.{Accepted, Refused}
 use Rattle.scheme.specs.Scheme.{Scheme, answers_in}
+use Rattle.std.specs.Prelude.{Ok, Err}
+use Rattle.refusal.specs.Verdicts.{Verdict, accepted}
 use Rattle.catalogue.specs.declared.Catalogue.{Catalogue}
 use Rattle.session.specs.declared.Session.{Session}
 use Rattle.session.specs.Calls.{code_of, key_of, query_of, take_verdict, take_by, take_answer, wanted_length, recovered_message}
@@ -33,13 +33,13 @@ module _ (scheme_of : Catalogue → Scheme) (s : Session) where
   take-empty server buffer = go (take_verdict scheme_of s server 0 (length buffer)) refl
     where
       go : (v : Verdict) → v ≡ take_verdict scheme_of s server 0 (length buffer) → (take_answer scheme_of s server [] buffer).buffer ≡ buffer
-      go Accepted e = rw (take_by_lem scheme_of s server [] buffer Accepted e) (take-append-drop (server * slot) buffer)
-      go (Refused refusal) e = rw (take_by_lem scheme_of s server [] buffer (Refused refusal) e)
+      go (Ok _) e = rw (take_by_lem scheme_of s server [] buffer accepted e) (take-append-drop (server * slot) buffer)
+      go (Err refusal) e = rw (take_by_lem scheme_of s server [] buffer (Err refusal) e)
 
   -- a take that was not refused, of an answer that fits a slot
   module _ (server : ℕ) (answer buffer : List ℕ) (t : Takes scheme_of s server (length answer) (length buffer)) (fits : size server ≤ slot) where
     abbrev after : List ℕ
-    after = (take_by scheme_of s server answer buffer Accepted).buffer
+    after = (take_by scheme_of s server answer buffer accepted).buffer
 
     ends : server * slot + length answer ≤ length buffer
     ends = omega (arith, slot-end server s.catalogue.servers slot t.below, t.sized, t.roomy)

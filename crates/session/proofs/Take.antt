@@ -8,8 +8,7 @@ use lib.Dec.{leb, ltb, eqb}
 use lib.ListN.{length}
 use borrow.Author.Tests.{lt-leb, ltb-false, le-ltb, eqb-true, eq-eqb, not-false}
 use Rattle.lists.specs.Parts.{put}
-use Rattle.refusal.specs.declared.Verdict.{Verdict}
-use Rattle.refusal.specs.declared.Verdict.TheVariants.{Accepted}
+use Rattle.refusal.specs.Verdicts.{Verdict, accepted}
 use Rattle.refusal.specs.Chain.{refuse_if}
 use Rattle.refusal.proofs.Accepted.{first-accepted}
 use Rattle.scheme.specs.Scheme.{Scheme}
@@ -37,7 +36,7 @@ module _ (scheme_of : Catalogue → Scheme) (s : Session) (server : ℕ) where
     pub was-issued : marked s.issued server ≡ true
     pub not_taken : marked s.taken server ≡ false
 
-  pub take-passed : (size room : ℕ) → take_verdict scheme_of s server size room ≡ Accepted → Takes size room
+  pub take-passed : (size room : ℕ) → take_verdict scheme_of s server size room ≡ accepted → Takes size room
   unfolding take_verdict
   take-passed size room e =
       let p = first-accepted (ask_faults scheme_of s server) _ e in
@@ -65,13 +64,13 @@ module _ (scheme_of : Catalogue → Scheme) (s : Session) (server : ℕ) where
       ≡ refuse_if (leb s.catalogue.servers server) 3
       (refuse_if (ltb room (slots_of scheme_of s.catalogue)) 9
       (refuse_if (not (eqb size ((code_of scheme_of s).answer_length (query_of scheme_of s server)))) 10
-      (refuse_if (not (marked s.issued server)) 11 (refuse_if (marked s.taken server) 11 Accepted))))
+      (refuse_if (not (marked s.issued server)) 11 (refuse_if (marked s.taken server) 11 accepted))))
   unfolding take_verdict
   take-sound sound size room =
-      sym (after-catalogue s.catalogue _ refl Accepted _ (sym sound.admitted)
+      sym (after-catalogue s.catalogue _ refl accepted _ (sym sound.admitted)
       (rw (lt-leb s.catalogue.messages s.wanted sound.inside, sound.good, sound.marks, sound.meters)))
 
-  pub take-accepted : (size room : ℕ) → Takes size room → take_verdict scheme_of s server size room ≡ Accepted
+  pub take-accepted : (size room : ℕ) → Takes size room → take_verdict scheme_of s server size room ≡ accepted
   take-accepted size room t =
       rw (
         take-sound t.sound size room,

@@ -1,12 +1,9 @@
 -- The calls of a session, over the code of each catalogue (document 01, 'Session' and 'Numbers a call can give'; the day of an issue, the meters, and where
 -- a message ends: document 02, items 1, 5 and 6): the whole result, and the final bytes of the buffer that the call may write, for every input. A call goes
 -- by its verdict, the foremost of its faults; refused, it changes nothing.
-use Rattle.std.specs.Prelude.{◌≡◌, not, List, [], ◌∷◌, ◌++◌, ℕ, ◌*◌, leb, ltb, eqb, length}
+use Rattle.std.specs.Prelude.{◌≡◌, not, List, [], ◌∷◌, ◌++◌, ℕ, ◌*◌, leb, ltb, eqb, length, Ok, Err}
 use Rattle.lists.specs.Parts.{put}
-use Rattle.refusal.specs.declared.Verdict.{Verdict}
-use Rattle.refusal.specs.declared.Verdict.TheVariants.{Accepted, Refused}
-use Rattle.refusal.specs.declared.Outcome.{Outcome}
-use Rattle.refusal.specs.declared.Outcome.TheVariants.{Value, Refused as NoValue}
+use Rattle.refusal.specs.Verdicts.{accepted, Verdict, Outcome}
 use Rattle.refusal.specs.Foremost.{Fault, fault, foremost}
 use Rattle.scheme.specs.Scheme.{Scheme}
 use Rattle.calendar.specs.declared.Day.{Day}
@@ -33,8 +30,8 @@ pub record Did (o : Out) (result : Handed) (after : List ℕ) : Type 0 where
 
 -- call_by s buffer after written: the session and the buffer after a call, done or refused
 abbrev pub call_by : Session → List ℕ → Session → List ℕ → Verdict → Out
-call_by s buffer after written Accepted = out Accepted after written
-call_by s buffer after written (Refused refusal) = out (Refused refusal) s buffer
+call_by s buffer after written (Ok _) = out accepted after written
+call_by s buffer after written (Err refusal) = out (Err refusal) s buffer
 
 module _ (scheme_of : Catalogue → Scheme) where
   abbrev pub code_of : Session → Scheme
@@ -80,8 +77,8 @@ module _ (scheme_of : Catalogue → Scheme) where
   begin_verdict c wanted key = foremost (begin_faults c wanted key)
 
   abbrev pub begin_by : Catalogue → ℕ → List ℕ → Verdict → Handed
-  begin_by c wanted key Accepted = record { verdict = Accepted; session = new_session c wanted key }
-  begin_by c wanted key (Refused refusal) = record { verdict = Refused refusal; session = zero_session }
+  begin_by c wanted key (Ok _) = record { verdict = accepted; session = new_session c wanted key }
+  begin_by c wanted key (Err refusal) = record { verdict = Err refusal; session = zero_session }
 
   unfoldable pub begin : Catalogue → ℕ → List ℕ → Handed
   begin c wanted key = begin_by c wanted key (begin_verdict c wanted key)
@@ -147,8 +144,8 @@ module _ (scheme_of : Catalogue → Scheme) where
 
   -- an upper bound on the bytes that a fetch receives, from the catalogue alone
   abbrev pub bound_by : Catalogue → Verdict → Outcome
-  bound_by c Accepted = Value (slots_of c)
-  bound_by c (Refused refusal) = NoValue refusal
+  bound_by c (Ok _) = Ok (slots_of c)
+  bound_by c (Err refusal) = Err refusal
 
   unfoldable pub bound : Catalogue → Outcome
   bound c = bound_by c (catalogue_verdict c)

@@ -11,7 +11,7 @@ ghost use Rattle.session.specs.Calls.{begin as begin·, issue as issue·, take_a
 
 use calendar::Day;
 use catalogue::Catalogue;
-use refusal::{Outcome, Verdict};
+use refusal::Refusal;
 use session_checks::keyed;
 use session_parts::Meters;
 
@@ -24,9 +24,9 @@ pub struct Session {
     pub catalogue: Catalogue,
     // The number of the message that is fetched (01: k).
     pub wanted: usize,
-    // The key, then places that are not used: 0 after begin, and neither read nor checked later.
+    // The key, then places that are not used: 0 after begin, and neither read nor checked later. Fixed memory, no heap; the catalogue says how long it is.
     pub key: [u8; 2048],
-    // For each server, whether a query was issued to it.
+    // For each server, whether a query was issued to it. Arrays side by side: callers read `issued`, `taken` and `meters` by these names.
     pub issued: [bool; 16],
     // For each server, whether its answer was taken.
     pub taken: [bool; 16],
@@ -34,10 +34,11 @@ pub struct Session {
     pub meters: Meters,
 }
 
-// What a call on a session hands back.
+// What a call on a session hands back. A verdict beside the session, and no `Result` of it: a session passes by value, a rule of the project, and a
+// refused call hands it back as it was (`Unchanged`).
 #[derive(Clone, Copy)]
 pub struct Handed {
-    pub verdict: Verdict,
+    pub verdict: Result<(), Refusal>,
     pub session: Session,
 }
 
@@ -48,8 +49,8 @@ fn new_session(catalogue: Catalogue, wanted: usize, key: &[u8]) -> Session
 {
     let places = session_parts::padded_key(key);
     Session {
-        catalogue: catalogue,
-        wanted: wanted,
+        catalogue,
+        wanted,
         key: places,
         issued: [false; 16],
         taken: [false; 16],
@@ -58,14 +59,12 @@ fn new_session(catalogue: Catalogue, wanted: usize, key: &[u8]) -> Session
 }
 
 // An upper bound on the bytes that a fetch receives: N slots.
-pub fn bound(catalogue: Catalogue) -> Outcome
+pub fn bound(catalogue: Catalogue) -> Result<usize, Refusal>
     ensures { result ≡ bound· scheme_of catalogue }
 {
-    if let Verdict::Refused(refusal) = catalogue::verdict(catalogue) {
-        return Outcome::Refused(refusal);
-    }
+    catalogue::verdict(catalogue)?;
     let sizes = keyed::sizes_of(catalogue);
-    Outcome::Value(catalogue.servers * sizes.slot)
+    Ok(catalogue.servers * sizes.slot)
 }
 
 impl Session {
@@ -88,14 +87,14 @@ impl Session {
         ensures { result ≡ begin· scheme_of catalogue wanted key.now }
     {
         let verdict = verdicts::begin_verdict(catalogue, wanted, key);
-        if let Verdict::Refused(_) = verdict {
+        if let Err(_) = verdict {
             return Handed {
-                verdict: verdict,
+                verdict,
                 session: Session::blank(),
             };
         }
         Handed {
-            verdict: Verdict::Accepted,
+            verdict: Ok(()),
             session: new_session(catalogue, wanted, key),
         }
     }
@@ -105,16 +104,15 @@ impl Session {
         ensures { Did (issue· scheme_of self today server query.old) result query.new }
     {
         let verdict = verdicts::issue_verdict(self, today, server, query.len());
-        if let Verdict::Refused(_) = verdict {
+        if let Err(_) = verdict {
             return Handed {
-                verdict: verdict,
+                verdict,
                 session: self,
             };
         }
-        let key = self.key;
-        let bytes = keyed::write_query(self.catalogue, self.wanted, &key, server, query);
+        let bytes = keyed::write_query(self.catalogue, self.wanted, &self.key, server, query);
         Handed {
-            verdict: Verdict::Accepted,
+            verdict: Ok(()),
             session: self.mark_issued(server, bytes),
         }
     }
@@ -124,16 +122,16 @@ impl Session {
         ensures { Did (take_answer scheme_of self server answer.now answers.old) result answers.new }
     {
         let verdict = verdicts::take_verdict(self, server, answer.len(), answers.len());
-        if let Verdict::Refused(_) = verdict {
+        if let Err(_) = verdict {
             return Handed {
-                verdict: verdict,
+                verdict,
                 session: self,
             };
         }
         let sizes = keyed::sizes_of(self.catalogue);
         session_parts::put_answer(answers, server * sizes.slot, answer);
         Handed {
-            verdict: Verdict::Accepted,
+            verdict: Ok(()),
             session: self.mark_taken(server, answer.len()),
         }
     }
@@ -143,16 +141,15 @@ impl Session {
         ensures { Did (recover· scheme_of self answers.now message.old) result message.new }
     {
         let verdict = verdicts::recover_verdict(self, answers.len(), message.len());
-        if let Verdict::Refused(_) = verdict {
+        if let Err(_) = verdict {
             return Handed {
-                verdict: verdict,
+                verdict,
                 session: self,
             };
         }
-        let key = self.key;
-        keyed::write_message(self.catalogue, self.wanted, &key, answers, message);
+        keyed::write_message(self.catalogue, self.wanted, &self.key, answers, message);
         Handed {
-            verdict: Verdict::Accepted,
+            verdict: Ok(()),
             session: self,
         }
     }

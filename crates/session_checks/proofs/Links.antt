@@ -5,7 +5,7 @@ use mathlib.Core.Bool.{true, not}
 use mathlib.Core.List.{List}
 use Prim.Native.Nat.{ℕ, ◌<◌}
 use borrow.Author.Tests.{leb-false, lt-leb, not-false}
-use Rattle.refusal.specs.declared.Verdict.TheVariants.{Accepted}
+use Rattle.refusal.specs.Verdicts.{accepted}
 use Rattle.refusal.specs.Foremost.{foremost}
 use Rattle.refusal.proofs.Accepted.{NoneThere}
 use Rattle.scheme.specs.Scheme.{Scheme}
@@ -22,12 +22,12 @@ module _ (scheme_of : Catalogue → Scheme) (c : Catalogue) (wanted : ℕ) (plac
     pub inside : wanted < c.messages
     pub good : (scheme_of c).key_good (used_places scheme_of c places) ≡ true
 
-  pub session-passed : foremost (session_faults scheme_of c wanted places) ≡ Accepted → Holds
+  pub session-passed : foremost (session_faults scheme_of c wanted places) ≡ accepted → Holds
   session-passed e =
       let p = call-passed c _ e in
       record { admitted = p.0; inside = leb-false c.messages wanted p.1.0; good = not-false _ p.1.1.0 }
 
-  pub session-accepted : Holds → foremost (session_faults scheme_of c wanted places) ≡ Accepted
+  pub session-accepted : Holds → foremost (session_faults scheme_of c wanted places) ≡ accepted
   session-accepted h = call-accepted c _ h.admitted (lt-leb c.messages wanted h.inside, (ap not h.good, tt))
 
   -- and the server is there
@@ -41,9 +41,9 @@ module _ (scheme_of : Catalogue → Scheme) (c : Catalogue) (wanted : ℕ) (plac
     below = leb-false c.servers server n.0;
   }
 
-  pub server-passed : (server : ℕ) → foremost (server_faults scheme_of c wanted places server) ≡ Accepted → Asks server
+  pub server-passed : (server : ℕ) → foremost (server_faults scheme_of c wanted places server) ≡ accepted → Asks server
   server-passed server e = let p = call-passed c _ e in named-passed server p.0 p.1
 
   -- and the catalogue is served that day
-  pub served-passed : (day : Day) (server : ℕ) → foremost (served_faults scheme_of c day wanted places server) ≡ Accepted → Asks server × Served c day
+  pub served-passed : (day : Day) (server : ℕ) → foremost (served_faults scheme_of c day wanted places server) ≡ accepted → Asks server × Served c day
   served-passed day server e = let p = day-passed c day _ e in (named-passed server p.0 p.2, p.1)

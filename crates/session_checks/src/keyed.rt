@@ -6,25 +6,15 @@ ghost use Rattle.codes.specs.Codes.{scheme_of};
 ghost use Rattle.codes.specs.Messages.{message_length, recovered_in};
 ghost use Rattle.session_checks.specs.Checks.{used_places};
 
-use catalogue::{Catalogue, Measured};
+use catalogue::Catalogue;
 use parameters::Sizes;
 
-// The sizes of an admitted catalogue, which has them all: the last arm is for no such catalogue.
+// The sizes of an admitted catalogue, which has them all.
 pub fn sizes_of(c: Catalogue) -> Sizes
     requires { Admitted c }
     ensures { result ≡ (scheme_of c).sizes }
 {
-    match catalogue::sizes(c) {
-        Measured::Of(sizes) => sizes,
-        Measured::Refused(_) => Sizes {
-            symbols: 0,
-            message: 0,
-            store: 0,
-            key: 0,
-            query: 0,
-            slot: 0,
-        },
-    }
+    catalogue::sizes(c).unwrap()
 }
 
 // Whether the places that are used hold only entries that they may hold.
@@ -34,8 +24,7 @@ pub fn key_good(c: Catalogue, places: &[u8]) -> bool
     ensures { result ≡ (scheme_of c).key_good (used_places scheme_of c places.now) }
 {
     let sizes = sizes_of(c);
-    let size = sizes.key;
-    codes::key_good(c, &places[..size])
+    codes::key_good(c, &places[..sizes.key])
 }
 
 // Writes a server's query for the wanted message at the start of `query`, and gives its bytes.
@@ -55,8 +44,7 @@ pub fn write_query(
     ensures query_after { query.new ≡ put 0 ((scheme_of c).query wanted server (used_places scheme_of c places.now)) query.old }
 {
     let sizes = sizes_of(c);
-    let size = sizes.key;
-    codes::query(c, wanted, server, &places[..size], query);
+    codes::query(c, wanted, server, &places[..sizes.key], query);
     sizes.query
 }
 
@@ -69,8 +57,7 @@ pub fn answer_length(c: Catalogue, wanted: usize, places: &[u8], server: usize) 
     ensures { result ≡ (scheme_of c).answer_length ((scheme_of c).query wanted server (used_places scheme_of c places.now)) }
 {
     let sizes = sizes_of(c);
-    let size = sizes.key;
-    codes::expected_length(c, wanted, server, &places[..size])
+    codes::expected_length(c, wanted, server, &places[..sizes.key])
 }
 
 // The bytes of the wanted message.

@@ -4,10 +4,10 @@ use mathlib.Core.List.{List}
 use Prim.Native.Nat.{ℕ}
 use lib.ListN.{length, take}
 use Rattle.lists.specs.Parts.{put}
-use Rattle.refusal.specs.declared.Verdict.{Verdict}
-use Rattle.refusal.specs.declared.Verdict.TheVariants.{Accepted, Refused}
 use Rattle.scheme.specs.Scheme.{Scheme}
 use Rattle.calendar.specs.declared.Day.{Day}
+use Rattle.std.specs.Prelude.{Err, Ok}
+use Rattle.refusal.specs.Verdicts.{Verdict, accepted}
 use Rattle.catalogue.specs.declared.Catalogue.{Catalogue}
 use Rattle.codes.specs.Messages.{recovered_in}
 use Rattle.session.specs.declared.Session.{Session}
@@ -32,34 +32,34 @@ module _ (scheme_of : Catalogue → Scheme) (s : Session) (places : List ℕ) (s
   issue-same : (day : Day) (server : ℕ) (buffer : List ℕ) (v : Verdict) → v ≡ issue_verdict scheme_of s day server (length buffer)
       → issue scheme_of t day server buffer ≡ handed_with places (issue scheme_of s day server buffer)
   unfolding issue_verdict
-  issue-same day server buffer Accepted e =
-      let f : Accepted ≡ issue_verdict scheme_of t day server (length buffer) = rw same e in
-      rw (issue-by scheme_of t day server buffer Accepted f, issue-by scheme_of s day server buffer Accepted e)
-      (ap (λ (query : List ℕ). out Accepted (mark_issued t server (code_of scheme_of s).sizes.query) (put 0 query buffer)) (query-same server))
-  issue-same day server buffer (Refused refusal) e =
-      let f : Refused refusal ≡ issue_verdict scheme_of t day server (length buffer) = rw same e in
-      rw (issue-by scheme_of t day server buffer (Refused refusal) f, issue-by scheme_of s day server buffer (Refused refusal) e)
+  issue-same day server buffer (Ok _) e =
+      let f : accepted ≡ issue_verdict scheme_of t day server (length buffer) = rw same e in
+      rw (issue-by scheme_of t day server buffer accepted f, issue-by scheme_of s day server buffer accepted e)
+      (ap (λ (query : List ℕ). out accepted (mark_issued t server (code_of scheme_of s).sizes.query) (put 0 query buffer)) (query-same server))
+  issue-same day server buffer (Err refusal) e =
+      let f : Err refusal ≡ issue_verdict scheme_of t day server (length buffer) = rw same e in
+      rw (issue-by scheme_of t day server buffer (Err refusal) f, issue-by scheme_of s day server buffer (Err refusal) e)
 
   take_same : (server : ℕ) (answer buffer : List ℕ) (v : Verdict) → v ≡ take_verdict scheme_of s server (length answer) (length buffer)
       → take_answer scheme_of t server answer buffer ≡ handed_with places (take_answer scheme_of s server answer buffer)
   unfolding take_verdict
-  take_same server answer buffer Accepted e =
-      let f : Accepted ≡ take_verdict scheme_of t server (length answer) (length buffer) = rw (query-same server, same) e in
-      rw (take_by_lem scheme_of t server answer buffer Accepted f, take_by_lem scheme_of s server answer buffer Accepted e)
-  take_same server answer buffer (Refused refusal) e =
-      let f : Refused refusal ≡ take_verdict scheme_of t server (length answer) (length buffer) = rw (query-same server, same) e in
-      rw (take_by_lem scheme_of t server answer buffer (Refused refusal) f, take_by_lem scheme_of s server answer buffer (Refused refusal) e)
+  take_same server answer buffer (Ok _) e =
+      let f : accepted ≡ take_verdict scheme_of t server (length answer) (length buffer) = rw (query-same server, same) e in
+      rw (take_by_lem scheme_of t server answer buffer accepted f, take_by_lem scheme_of s server answer buffer accepted e)
+  take_same server answer buffer (Err refusal) e =
+      let f : Err refusal ≡ take_verdict scheme_of t server (length answer) (length buffer) = rw (query-same server, same) e in
+      rw (take_by_lem scheme_of t server answer buffer (Err refusal) f, take_by_lem scheme_of s server answer buffer (Err refusal) e)
 
   recover-as : (answers buffer : List ℕ) (v : Verdict) → v ≡ recover_verdict scheme_of s (length answers) (length buffer)
       → recover scheme_of t answers buffer ≡ handed_with places (recover scheme_of s answers buffer)
   unfolding recover_verdict
-  recover-as answers buffer Accepted e =
-      let f : Accepted ≡ recover_verdict scheme_of t (length answers) (length buffer) = rw same e in
-      rw (recover-by scheme_of t answers buffer Accepted f, recover-by scheme_of s answers buffer Accepted e)
-      (ap (λ (message : List ℕ). out Accepted t (put 0 message buffer)) (message-same answers))
-  recover-as answers buffer (Refused refusal) e =
-      let f : Refused refusal ≡ recover_verdict scheme_of t (length answers) (length buffer) = rw same e in
-      rw (recover-by scheme_of t answers buffer (Refused refusal) f, recover-by scheme_of s answers buffer (Refused refusal) e)
+  recover-as answers buffer (Ok _) e =
+      let f : accepted ≡ recover_verdict scheme_of t (length answers) (length buffer) = rw same e in
+      rw (recover-by scheme_of t answers buffer accepted f, recover-by scheme_of s answers buffer accepted e)
+      (ap (λ (message : List ℕ). out accepted t (put 0 message buffer)) (message-same answers))
+  recover-as answers buffer (Err refusal) e =
+      let f : Err refusal ≡ recover_verdict scheme_of t (length answers) (length buffer) = rw same e in
+      rw (recover-by scheme_of t answers buffer (Err refusal) f, recover-by scheme_of s answers buffer (Err refusal) e)
 
 pub unused-unread : (scheme_of : Catalogue → Scheme) → UnusedUnread scheme_of
 unused-unread scheme_of s places same = record {

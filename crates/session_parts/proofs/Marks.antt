@@ -1,14 +1,18 @@
 -- Marks that some history of calls gives: none at first (`marks-none`), and one more at an issue or a take keeps them so (`marks-issue`,
 -- `marks-take`).
-use mathlib.Core.Path.{◌≡◌, refl, ◌∙◌}
-use mathlib.Core.Bool.{Bool, true, false}
+use mathlib.Core.Path.{◌≡◌, refl, sym, ap, ◌∙◌}
+use mathlib.Core.Bool.{Bool, true, false, ◌&&◌}
 use mathlib.Core.List.{List}
-use Prim.Native.Nat.{ℕ, ◌≤◌, ◌<◌}
+use Prim.Native.Nat.{ℕ, zero, suc, ◌≤◌, ◌<◌}
+use native.Mathlib.Numerals.{add-one}
 use native.Mathlib.Omega.{arith}
 use borrow.Author.Tests.{eqb-true, eqb-false, lt-ltb, ltb-true, not-true}
 use lib.Dec.{eqb}
-use lib.ListN.{length, set, length-set, length-replicate}
+use lib.ListN.{length, take, set, length-set, length-replicate}
 use lib.Seq.{get_or-set_same, get_or-set_other}
+use Rattle.std.specs.List.{list_all}
+use Rattle.std.proofs.lemmas.List.Folds.{list_all_more}
+use Rattle.lists.specs.Ranges.{every}
 use Rattle.lists.proofs.Every.{every_true, every-at}
 use Rattle.lists.proofs.Replicate.{get_or-replicate-same}
 use Rattle.parameters.specs.Measures.{most_servers}
@@ -29,6 +33,14 @@ taken-below servers issued taken good place h t =
     go : (b : Bool) → mark_good servers place b (marked taken place) ≡ true → place < servers
     go true e = ltb-true place servers e
     go false e = let f = not-true (marked taken place) e in absurd (let z : ◌≡◌ {A = ℕ} 0 1 = cc in let w : ⊥ = omega arith in w)
+
+-- the first so many marks are all set, as a test of the list
+pub every_marked : (count : ℕ) (marks : List Bool) → count ≤ length marks → list_all (λ t. t) (take count marks) ≡ every count (marked marks)
+unfolding every
+every_marked zero marks h = refl
+every_marked (suc count) marks h =
+    ap (λ n. list_all (λ t. t) (take n marks)) (sym (add-one count)) ∙ list_all_more (λ t. t) marks count false (omega arith)
+    ∙ ap (λ t. t && marked marks count) (every_marked count marks (omega arith))
 
 pub none-marked : (place : ℕ) → marked no_marks place ≡ false
 unfolding no_marks

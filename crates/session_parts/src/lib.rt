@@ -17,6 +17,7 @@ pub struct Meters {
 }
 
 // Zeros.
+#[tactic(auto, unfolding(crate::specs::Meters::no_bytes))]
 pub fn no_meters() -> Meters
     ensures { result ≡ no_meters }
 {
@@ -26,14 +27,14 @@ pub fn no_meters() -> Meters
     }
 }
 
-// The meters after a query of so many bytes was issued to a server.
+// The meters after a query of so many bytes was issued to a server. One function for each meter: one over both, told which, is no plainer.
 pub fn count_issued(m: Meters, server: usize, bytes: usize) -> Meters
     requires server_bound { server < 16 }
     requires bytes_bound { counted m.sent server + bytes ≤ 4294967295 }
     ensures { result ≡ count_issued m server bytes }
 {
     let mut out = m;
-    out.sent[server] = out.sent[server] + bytes as u32;
+    out.sent[server] += bytes as u32;
     out
 }
 
@@ -44,7 +45,7 @@ pub fn count_taken(m: Meters, server: usize, bytes: usize) -> Meters
     ensures { result ≡ count_taken m server bytes }
 {
     let mut out = m;
-    out.got[server] = out.got[server] + bytes as u32;
+    out.got[server] += bytes as u32;
     out
 }
 
@@ -62,8 +63,7 @@ pub fn meter_full(m: Meters, server: usize, query: usize) -> bool
     requires query_bound { query ≤ 2048 }
     ensures { result ≡ meter_full m server query }
 {
-    let sent = m.sent;
-    passes(sent[server], query)
+    passes(m.sent[server], query)
 }
 
 // Whether some number of queries of `query` bytes each, none exactly if the mark is not set, has so many bytes. One query is the common case, and
@@ -85,22 +85,17 @@ pub fn sent_good(query: usize, issued: bool, bytes: u32) -> bool
 fn mark_good(servers: usize, place: usize, issued: bool, taken: bool) -> bool
     ensures { result ≡ mark_good servers place issued taken }
 {
-    if issued {
-        return place < servers;
-    }
-    !taken
+    if issued { place < servers } else { !taken }
 }
 
 // Whether some history of calls gives all these marks.
 pub fn marks_good<'a>(servers: usize, issued: &'a [bool; 16], taken: &'a [bool; 16]) -> bool
     ensures { result ≡ marks_good servers issued.now taken.now }
 {
-    let mut i: usize = 0;
-    while i < 16 {
-        if !mark_good(servers, i, issued[i], taken[i]) {
+    for place in 0..16 {
+        if !mark_good(servers, place, issued[place], taken[place]) {
             return false;
         }
-        i += 1;
     }
     true
 }
@@ -110,14 +105,7 @@ pub fn all_taken<'a>(servers: usize, taken: &'a [bool; 16]) -> bool
     requires { servers ≤ 16 }
     ensures { result ≡ all_taken servers taken.now }
 {
-    let mut i: usize = 0;
-    while i < servers {
-        if !taken[i] {
-            return false;
-        }
-        i += 1;
-    }
-    true
+    taken[..servers].iter().all(|mark| *mark)
 }
 
 // The key at the start of a session's places, the rest 0.
@@ -126,11 +114,7 @@ pub fn padded_key(key: &[u8]) -> [u8; 2048]
     ensures { result ≡ padded_key key.now }
 {
     let mut out = [0; 2048];
-    let mut i: usize = 0;
-    while i < key.len() {
-        out[i] = key[i];
-        i += 1;
-    }
+    out[..key.len()].copy_from_slice(key);
     out
 }
 
@@ -140,5 +124,5 @@ pub fn put_answer(buffer: &mut [u8], at: usize, answer: &[u8])
     ensures { buffer.new ≡ put at answer.now buffer.old }
 {
     let end = at + answer.len();
-    symbol::copy(&mut buffer[at..end], answer);
+    buffer[at..end].copy_from_slice(answer);
 }

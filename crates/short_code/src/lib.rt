@@ -1,5 +1,6 @@
 // The short code of Tian, Sun and Chen: keys, queries, admission, answers and recovery, for n servers and k messages of n - 1
 // symbols of s bytes. The rule is short_scheme/specs/Short.antt; rows are answered and recovered from in short_rows.
+// N, K and S stay parameters of their own: the clauses name them one by one, as the papers' formulas do.
 #![tactic(auto)]
 
 ghost use Rattle.std.specs.Prelude.{◌≡◌, true, ◌*◌, ◌≤◌, ◌<◌, length, get_or};
@@ -15,8 +16,9 @@ ghost use Rattle.short_scheme.specs.Short.{balancing, short_query, short_admits,
 ghost use Rattle.short_scheme.specs.Rows.{DigitRow};
 ghost use Rattle.short_scheme.specs.Asked.{digit_rows};
 
-use scheme::Place;
-use short_rows::{answering, digits, recovering};
+use short_rows::answering::Messages;
+use short_rows::digits;
+use short_rows::recovering::Received;
 use symbol::Operation;
 
 // The digit that makes the key's digits sum up to the server's number, modulo n.
@@ -55,12 +57,8 @@ fn insert(wanted: usize, digit: u8, key: &[u8], out: &mut [u8])
     requires { (wanted ≤ length key.now) × (length key.now < length out.old) }
     ensures { out.new ≡ put 0 (insert_at wanted digit key.now) out.old }
 {
-    let last = key.len();
-    let mut p = 0;
-    while p <= last {
-        let d = query_digit(wanted, digit, key, p);
-        out[p] = d;
-        p += 1;
+    for p in 0..=key.len() {
+        out[p] = query_digit(wanted, digit, key, p);
     }
 }
 
@@ -79,13 +77,7 @@ pub fn query(n: usize, wanted: usize, server: usize, key: &[u8], out: &mut [u8])
 pub fn admits(n: usize, k: usize, server: usize, query: &[u8]) -> bool
     ensures { result ≡ short_admits n k server query.now }
 {
-    if query.len() != k {
-        return false;
-    }
-    if !digits::all_below(n, query) {
-        return false;
-    }
-    digits::digit_sum(n, query) == server
+    query.len() == k && digits::all_below(n, query) && digits::digit_sum(n, query) == server
 }
 
 // The bytes that the query calls for.
@@ -99,15 +91,15 @@ pub fn answer_length(s: usize, query: &[u8]) -> usize
 }
 
 // Where a row, answered by symbols of s bytes, names a symbol of a message: at the start of its answer, if the message's digit does.
-pub fn locate(s: usize, query: &[u8], message: usize, symbol: usize) -> Place
+pub fn locate(s: usize, query: &[u8], message: usize, symbol: usize) -> Option<usize>
     requires message_in_bounds { message < length query.now }
     requires symbol_bound { symbol < 65536 }
     ensures { result ≡ place_naming s message symbol (digit_rows 0 query.now) }
 {
     if query[message] as usize == symbol + 1 {
-        return Place::At(0);
+        return Some(0);
     }
-    Place::Nowhere
+    None
 }
 
 // The bytes that the server's query calls for, without the query: only server 0 can be asked for the row of zeros, by the key of zeros.
@@ -137,7 +129,13 @@ pub fn answer(
     requires query_in_bounds { short_answer_length s query.now ≤ length out.old }
     ensures { out.new ≡ put 0 (short_answer (sum_of op) n s store.now query.now) out.old }
 {
-    answering::answer(op, 0, n - 1, s, store, query, out);
+    let messages = Messages {
+        op,
+        first: 0,
+        stride: n - 1,
+        size: s,
+    };
+    messages.answer(store, query, out);
 }
 
 // Writes as much of the wanted message as `message` has room for, from the slots of the answer buffer. The key is enough: k and `wanted`
@@ -159,5 +157,12 @@ pub fn recover(
         ≡ lay 0 (recover_in (short_scheme (sum_of op) n k s) n wanted key.now answers.now) message.old }
 {
     let t = digits::digit_sum(n, key);
-    recovering::recover_slots(op, n, s, t, key, answers, message);
+    let received = Received {
+        op,
+        servers: n,
+        size: s,
+        none: t,
+        answers,
+    };
+    received.recover_slots(key, message);
 }

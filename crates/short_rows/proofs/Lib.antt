@@ -2,3 +2,4 @@ pub mod Gathering
 pub mod Places
 pub mod Parts
 pub mod Running
+pub mod Made

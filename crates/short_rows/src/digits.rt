@@ -9,14 +9,7 @@ ghost use Rattle.short_rows.specs.Running.{sum_after};
 pub fn all_below(n: usize, digits: &[u8]) -> bool
     ensures { result ≡ all_below n digits.now }
 {
-    let mut i = 0;
-    while i < digits.len() {
-        if n <= digits[i] as usize {
-            return false;
-        }
-        i += 1;
-    }
-    true
+    digits.iter().all(|d| (*d as usize) < n)
 }
 
 // (a + b) modulo n, without a division.
@@ -60,10 +53,8 @@ pub fn digit_sum(n: usize, digits: &[u8]) -> usize
     ensures value_2 { result ≡ sum_after n digits.now (length digits.now) }
 {
     let mut sum = 0;
-    let mut i = 0;
-    while i < digits.len() {
+    for i in 0..digits.len() {
         sum = next_sum(n, digits, i, sum);
-        i += 1;
     }
     sum
 }

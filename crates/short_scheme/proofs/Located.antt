@@ -12,7 +12,7 @@ use lib.Dec.{eqb, eqb-zero-suc}
 use lib.ListN.{length, get_or, get_or-eq_default}
 use Rattle.lists.specs.Sums.{bit, sum}
 use Rattle.lists.proofs.Below.{all_below-below}
-use Rattle.scheme.specs.declared.Place.TheVariants.{At, Nowhere}
+use Rattle.std.specs.Prelude.{Option, Some, None}
 use Rattle.scheme.specs.Asked.{is_cell, times_in, place_naming}
 use Rattle.short_scheme.specs.Short.{all_zero}
 use Rattle.short_scheme.specs.Asked.{digit_cells, digit_rows}
@@ -56,21 +56,21 @@ digit-of-zeros row p e = go (dec_lt p (length row))
     go (no h) = get_or-eq_default row 0 {n = p} (omega arith)
 
 -- one row
-pub row-located : (S from d p : ℕ) (row : List ℕ) → place_naming S p (from + d) (digit_rows from row) ≡ cond (eqb (get_or row p 0) (suc d)) (At 0) Nowhere
+pub row-located : (S from d p : ℕ) (row : List ℕ) → place_naming S p (from + d) (digit_rows from row) ≡ cond (eqb (get_or row p 0) (suc d)) (Some 0) None
 unfolding place_naming digit_rows bit
 row-located S from d p row = go (all_zero row) refl
   where
     times : times_in p (from + d) (digit_cells from 0 row) ≡ bit (eqb (get_or row p 0) (suc d))
     times = ap (λ (n : ℕ). times_in n (from + d) (digit_cells from 0 row)) (sym (zero-add p)) ∙ digit-times from d 0 p row
 
-    tell : (u : Bool) → cond (not (eqb (bit u) 0)) (At 0) Nowhere ≡ cond u (At 0) Nowhere
+    tell : (u : Bool) → cond {A = Option ℕ} (not (eqb (bit u) 0)) (Some 0) None ≡ cond u (Some 0) None
     tell true = refl
     tell false = refl
 
     go : (t : Bool) → all_zero row ≡ t
-        → place_naming S p (from + d) (cond t [] (digit_cells from 0 row ∷ [])) ≡ cond (eqb (get_or row p 0) (suc d)) (At 0) Nowhere
-    go true e = sym (ap (λ (u : Bool). cond u (At 0) Nowhere) (ap (λ (x : ℕ). eqb x (suc d)) (digit-of-zeros row p e) ∙ eqb-zero-suc d))
-    go false e = ap (λ (n : ℕ). cond (not (eqb n 0)) (At 0) Nowhere) times ∙ tell (eqb (get_or row p 0) (suc d))
+        → place_naming S p (from + d) (cond t [] (digit_cells from 0 row ∷ [])) ≡ cond (eqb (get_or row p 0) (suc d)) (Some 0) None
+    go true e = sym (ap (λ (u : Bool). cond u (Some 0) None) (ap (λ (x : ℕ). eqb x (suc d)) (digit-of-zeros row p e) ∙ eqb-zero-suc d))
+    go false e = ap (λ (n : ℕ). cond (not (eqb n 0)) (Some 0) None) times ∙ tell (eqb (get_or row p 0) (suc d))
 
-pub short-located : (S i p : ℕ) (row : List ℕ) → place_naming S p i (digit_rows 0 row) ≡ cond (eqb (get_or row p 0) (suc i)) (At 0) Nowhere
+pub short-located : (S i p : ℕ) (row : List ℕ) → place_naming S p i (digit_rows 0 row) ≡ cond (eqb (get_or row p 0) (suc i)) (Some 0) None
 short-located S i p row = ap (λ (n : ℕ). place_naming S p n (digit_rows 0 row)) (sym (zero-add i)) ∙ row-located S 0 i p row

@@ -1,20 +1,20 @@
 -- One word more of a string changed in place (`word-step`), and its end: nothing is left (`words-done`), or one byte (`byte_left`).
-use mathlib.Core.Path.{◌≡◌, refl, sym, ap, ap₂, ◌∙◌}
+use mathlib.Core.Path.{◌≡◌, refl, ap}
 use mathlib.Core.List.{List, [], ◌∷◌, ◌++◌, append-nil}
 use Prim.Native.Nat.{ℕ, zero, suc, ◌+◌, ◌/◌, ◌%◌, ◌<◌, ◌≤◌}
-use native.Mathlib.Nat.{div-div-eq-div-mul}
 use native.Mathlib.Numerals.{add-one}
 use native.Mathlib.Omega.{arith}
 use lib.ListN.{length, take, drop, get_or, set, drop_of_length-le}
 use lib.Seq.{take_all}
-use Rattle.symbol.specs.Words.{word, on_words}
+use Rattle.symbol.specs.Words.{word, on_words, Steps}
 
 abbrev cons : ℕ → List ℕ → List ℕ
 cons x l = x ∷ l
 
--- the second byte of a number is that of its word
-high_byte : (value : ℕ) → value / 256 % 256 ≡ value % 65536 / 256
-high_byte value = omega (arith, div-div-eq-div-mul value 256 256)
+-- where a step gives what `change` does, the low byte that it gives for two bytes is what that does to them alone
+pub low_byte : (gives : ℕ → ℕ → ℕ → Type 0) (change : ℕ → ℕ → ℕ → ℕ) → Steps gives change
+    → (x y r : ℕ) → x < 256 → y < 256 → gives x y r → r % 256 ≡ change 256 x y
+low_byte gives change s x y r h k g = rw (s.on_word x y r (omega arith) (omega arith) g) (s.on_byte x y h k)
 
 module _ (f : ℕ → ℕ → ℕ → ℕ) where
   -- the first i bytes are done, the rest is to be changed by the rest of s
@@ -35,18 +35,12 @@ module _ (f : ℕ → ℕ → ℕ → ℕ) where
   step zero (x ∷ v ∷ d) (y ∷ w ∷ s) h k = refl
   step (suc i) (x ∷ d) (y ∷ s) h k = ap (cons x) (step i d s (omega arith) (omega arith))
 
-  -- of a number that is that word, but for multiples of 65,536, the low two bytes are written
-  pub word-step : (i value : ℕ) (d s e : List ℕ) → i + 1 < length d → i + 1 < length s → value % 65536 ≡ next i (i + 1) d s
-      → e ≡ set (set d i (value % 256)) (i + 1) (value / 256 % 256) → from i d s ≡ from (i + 2) e s
+  -- the word is written as its two bytes
+  pub word-step : (i value : ℕ) (d s e : List ℕ) → i + 1 < length d → i + 1 < length s → value ≡ next i (i + 1) d s
+      → e ≡ set (set d i (value % 256)) (i + 1) (value / 256) → from i d s ≡ from (i + 2) e s
   word-step i value d s e h k p q =
-      let two : suc (suc i) ≡ i + 2 = omega arith in
-      let same : next i (suc i) d s ≡ value % 65536 = ap (λ (j : ℕ). next i j d s) (sym (add-one i)) ∙ sym p in
-      let low : value % 256 ≡ next i (suc i) d s % 256 = omega (arith, same) in
-      let high : value / 256 % 256 ≡ next i (suc i) d s / 256 = high_byte value ∙ ap (λ (w : ℕ). w / 256) (sym same) in
-      step i d s (omega arith) (omega arith)
-      ∙ ap₂ (λ (n : ℕ) (l : List ℕ). from n l s) two
-      (sym (q ∙ ap (λ (j : ℕ). set (set d i (value % 256)) j (value / 256 % 256)) (add-one i)
-      ∙ ap₂ (λ (x y : ℕ). set (set d i x) (suc i) y) low high))
+      let two : i + 2 ≡ suc (suc i) = omega arith in
+      rw (q, p, add-one, two) (step i d s (omega arith) (omega arith))
 
   pub byte_left : (i : ℕ) (d s : List ℕ) → length d ≡ suc i → length s ≡ suc i → from i d s ≡ set d i (f 256 (get_or d i 0) (get_or s i 0))
   unfolding on_words

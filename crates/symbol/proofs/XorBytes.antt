@@ -7,11 +7,11 @@ use native.Mathlib.Nat.{le_of_suc-le-suc, not-suc-le-zero, le_of_eq, suc_inj}
 use native.Mathlib.Omega.{arith}
 use lib.Bits.{bit_xor, xor_zero_l, xor_comm, xor_self, xor_zero_r, xor_lt}
 use lib.ListN.{length, take, get_or, set}
+use Rattle.std.specs.Int.Bits.{xor_assoc}
 use Rattle.lists.specs.Below.{Below}
 use Rattle.lists.proofs.Below.{below-cons}
 use Rattle.symbol.specs.Sum.{zeros}
 use Rattle.symbol.specs.Xor.{xor_bytes}
-use Rattle.symbol.proofs.Bits.{xor_assoc}
 
 abbrev cons : ℕ → List ℕ → List ℕ
 cons x l = x ∷ l

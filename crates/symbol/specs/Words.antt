@@ -1,5 +1,5 @@
 -- Addition of 16-bit words, the low byte first, wrapping at 65,536 (document 02, item 2: `sum=add`), and the subtraction that undoes it.
-use Rattle.std.specs.Prelude.{ℕ, ◌+◌, ◌*◌, ◌-◌, ◌/◌, ◌%◌, Bool, true, false, List, [], ◌∷◌}
+use Rattle.std.specs.Prelude.{ℕ, ◌+◌, ◌*◌, ◌-◌, ◌/◌, ◌%◌, ◌≡◌, ◌<◌, List, [], ◌∷◌}
 use Rattle.symbol.specs.Sum.{Sum}
 
 -- the word of two bytes
@@ -18,11 +18,6 @@ add_at m a b = (a + b) % m
 abbrev pub sub_at : ℕ → ℕ → ℕ → ℕ
 sub_at m a b = (a + (m - b % m)) % m
 
--- the one or the other
-abbrev pub change_at : Bool → ℕ → ℕ → ℕ → ℕ
-change_at false = add_at
-change_at true = sub_at
-
 -- Word by word, wrapping at 65,536. Where the strings end inside a word, its lone low byte is changed by itself, wrapping at 256; no symbol of an
 -- admitted catalogue ends there. Where the second string is shorter, the rest of the first stays
 unfoldable pub on_words : (ℕ → ℕ → ℕ → ℕ) → List ℕ → List ℕ → List ℕ
@@ -40,3 +35,8 @@ sub_words = on_words sub_at
 
 abbrev pub words : Sum
 words = record { plus = add_words; minus = sub_words }
+
+-- what a step gives for two words is what the one changed by the other is; and what that is for two bytes has the low byte that they give alone
+pub record Steps (gives : ℕ → ℕ → ℕ → Type 0) (change : ℕ → ℕ → ℕ → ℕ) : Type 0 where
+  pub on_word : (a b r : ℕ) → a < 65536 → b < 65536 → gives a b r → r ≡ change 65536 a b
+  pub on_byte : (a b : ℕ) → a < 256 → b < 256 → change 65536 a b % 256 ≡ change 256 a b

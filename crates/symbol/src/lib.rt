@@ -2,7 +2,7 @@
 // and `write_difference`, which are told the operation; no code asks which it is.
 #![tactic(auto)]
 
-ghost use Rattle.std.specs.Prelude.{◌≡◌, min, length};
+ghost use Rattle.std.specs.Prelude.{◌≡◌, length};
 ghost use Rattle.lists.specs.Parts.{lay};
 ghost use Rattle.symbol.specs.Sum.{less};
 ghost use Rattle.symbol.specs.Xor.{xor_bytes};
@@ -12,7 +12,7 @@ ghost use Rattle.symbol.specs.Operations.{sum_of};
 mod words;
 
 // What symbols are combined by.
-#[derive(Clone, Copy)]
+#[derive(Clone, Copy, PartialEq, Eq)]
 pub enum Operation {
     // Exclusive or, byte by byte.
     ExclusiveOr,
@@ -25,10 +25,8 @@ fn exclusive_or(dst: &mut [u8], src: &[u8])
     requires { length src.now ≡ length dst.old }
     ensures { dst.new ≡ xor_bytes dst.old src.now }
 {
-    let mut i = 0;
-    while i < src.len() {
-        dst[i] = dst[i] ^ src[i];
-        i += 1;
+    for (i, byte) in src.iter().enumerate() {
+        dst[i] ^= *byte;
     }
 }
 
@@ -39,7 +37,7 @@ pub fn combine(op: Operation, dst: &mut [u8], src: &[u8])
 {
     match op {
         Operation::ExclusiveOr => exclusive_or(dst, src),
-        Operation::Addition => words::change(false, dst, src),
+        Operation::Addition => words::change(|a, b| a.wrapping_add(b), dst, src),
     }
 }
 
@@ -50,7 +48,7 @@ pub fn subtract(op: Operation, from: &mut [u8], taken: &[u8])
 {
     match op {
         Operation::ExclusiveOr => exclusive_or(from, taken),
-        Operation::Addition => words::change(true, from, taken),
+        Operation::Addition => words::change(|a, b| a.wrapping_sub(b), from, taken),
     }
 }
 
@@ -59,38 +57,24 @@ pub fn copy(dst: &mut [u8], src: &[u8])
     requires { length src.now ≡ length dst.old }
     ensures { dst.new ≡ src.now }
 {
-    let mut i = 0;
-    while i < src.len() {
-        dst[i] = src[i];
-        i += 1;
-    }
+    dst.copy_from_slice(src);
 }
 
 // Copies `first` over `part` and takes `other` away from it. `alone`: nothing is taken away.
+#[tactic(auto, unfolding(crate::specs::Sum::less))]
 fn difference(op: Operation, alone: bool, first: &[u8], other: &[u8], part: &mut [u8])
     requires first_len { length first.now ≡ length part.old }
     requires other_len { length other.now ≡ length part.old }
     ensures { part.new ≡ less (sum_of op) alone first.now other.now }
 {
     copy(part, first);
-    if alone {
-        return;
+    if !alone {
+        subtract(op, part, other);
     }
-    subtract(op, part, other);
-}
-
-// The smaller of two numbers.
-fn smaller(a: usize, b: usize) -> usize
-    ensures { result ≡ min a b }
-{
-    if a <= b {
-        return a;
-    }
-    b
 }
 
 // Writes the symbol `first`, less `other`, from byte `at` of the message on: as much of it as the message has room for. `alone`: nothing
-// is taken away.
+// is taken away. A flag beside `other`, and no `Option`: each caller has both symbols' places at hand, and an `Option` of one is no plainer there.
 pub fn write_difference(
     op: Operation,
     alone: bool,
@@ -106,7 +90,7 @@ pub fn write_difference(
     if message.len() <= at {
         return;
     }
-    let size = smaller(first.len(), message.len() - at);
+    let size = first.len().min(message.len() - at);
     let end = at + size;
     difference(
         op,

@@ -1,35 +1,24 @@
--- Whether a text begins with a name: byte by byte as a loop tests it (`begins-same`, `begins-other`, `begins-all`), and as one equation, the
--- text is the name and what follows (`begins-split`, `begins-joined`).
+-- Whether a text begins with a name: as the library tests it (`begins-pointwise`, `starts-zero`), and as one equation, the text is the name
+-- and what follows (`begins-split`, `begins-joined`).
 use mathlib.Core.Path.{◌≡◌, refl, sym, ap, ap₂, ◌∙◌}
-use mathlib.Core.Bool.{true, false}
+use mathlib.Core.Bool.{Bool, true, ◌&&◌, and-true}
 use mathlib.Core.List.{List, [], ◌∷◌, ◌++◌}
-use Prim.Native.Nat.{ℕ, ◌+◌, ◌<◌}
+use Prim.Native.Nat.{ℕ}
 use native.Mathlib.Omega.{arith}
-use borrow.Author.Tests.{eq-eqb, ne_eqb, eqb-true}
+use borrow.Author.Tests.{eq-eqb, eqb-true}
 use lib.Dec.{eqb}
-use lib.ListN.{length, get_or, drop}
-use lib.Seq.{drop-length}
+use lib.ListN.{length, get_or, take, drop}
+use lib.Pointwise.{pointwise}
 use Rattle.lists.proofs.Both.{both_true}
+use Rattle.lists.proofs.Distinct.{eqb_comm}
 use Rattle.text_lines.specs.Lines.{begins}
-use Rattle.text_lines.proofs.DigitTexts.{step}
 
-pub begins-same : (name text : List ℕ) (i : ℕ) → i < length name → i < length text → get_or name i 0 ≡ get_or text i 0
-    → begins (drop i name) (drop i text) ≡ begins (drop (i + 1) name) (drop (i + 1) text)
+-- the library's test of a text that begins with a name
+pub begins-pointwise : (name text : List ℕ) → pointwise eqb name (take (length name) text) ≡ begins name text
 unfolding begins
-begins-same name text i h k e = ap₂ begins (step name i h) (step text i k) ∙ simp (eq-eqb (get_or name i 0) (get_or text i 0) e)
-
-pub begins-other : (name text : List ℕ) (i : ℕ) → i < length name → i < length text → (get_or name i 0 ≡ get_or text i 0 → ⊥)
-    → begins (drop i name) (drop i text) ≡ false
-unfolding begins
-begins-other name text i h k e = ap₂ begins (step name i h) (step text i k) ∙ simp (ne_eqb (get_or name i 0) (get_or text i 0) e)
-
-pub begins-short : (name text : List ℕ) (i : ℕ) → i < length name → i ≡ length text → begins (drop i name) (drop i text) ≡ false
-unfolding begins
-begins-short name text i h e = ap₂ begins (step name i h) (ap (λ (n : ℕ). drop n text) e ∙ drop-length text)
-
-pub begins-all : (name text : List ℕ) (i : ℕ) → i ≡ length name → begins (drop i name) (drop i text) ≡ true
-unfolding begins
-begins-all name text i e = ap (λ (l : List ℕ). begins l (drop i text)) (ap (λ (n : ℕ). drop n name) e ∙ drop-length name)
+begins-pointwise [] text = refl
+begins-pointwise (x ∷ name) [] = refl
+begins-pointwise (x ∷ name) (y ∷ text) = ap (λ (b : Bool). eqb x y && b) (begins-pointwise name text)
 
 -- a text that begins with a name is the name and the rest, and the other way round
 pub begins-split : (name text : List ℕ) → begins name text ≡ true → text ≡ name ++ drop (length name) text
@@ -44,3 +33,8 @@ pub begins-joined : (name rest : List ℕ) → begins name (name ++ rest) ≡ tr
 unfolding begins
 begins-joined [] rest = refl
 begins-joined (x ∷ name) rest = simp (eq-eqb x x refl) (begins-joined name rest)
+
+-- the library's test of a text that begins with `0`
+pub starts-zero : (text : List ℕ) {r : Bool} → r ≡ pointwise eqb (48 ∷ []) (take 1 text) → r ≡ eqb (get_or text 0 0) 48
+starts-zero [] e = e
+starts-zero (x ∷ text) e = e ∙ and-true (eqb 48 x) ∙ eqb_comm 48 x

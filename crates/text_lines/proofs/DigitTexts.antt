@@ -1,5 +1,4 @@
--- Texts of digits (`Digits`): how many a text begins with (`digits-first`, `count-digits`), and their value (`value-append`); both byte by
--- byte, as a loop goes on from place i (`count-more`, `value-more`).
+-- Texts of digits (`Digits`): how many a text begins with (`digits-first`, `count-digits`), and their value (`value-append`).
 use mathlib.Core.Path.{◌≡◌, refl, sym, ap, ◌∙◌}
 use mathlib.Core.Bool.{Bool, true, false, cond}
 use mathlib.Core.List.{List, [], ◌∷◌, ◌++◌}
@@ -9,7 +8,7 @@ use native.Mathlib.Omega.{arith}
 use borrow.Author.Tests.{leb-true, le-leb, lt-leb}
 use lib.Dec.{leb}
 use lib.ListN.{length, get_or, take, drop}
-use lib.Seq.{drop-cons, drop-length, take-length}
+use lib.Seq.{drop-cons, take-length}
 use Rattle.lists.specs.Sums.{All, all_nil, all_cons}
 use Rattle.lists.proofs.Both.{both_true}
 use Rattle.text_lines.specs.Decimal.{digit, is_digit, digit_count, value_from}
@@ -76,34 +75,12 @@ pub count-first : (text : List ℕ) (count : ℕ) → count ≡ digit_count text
 count-first text count e =
     ap (λ (n : ℕ). digit_count (take n text)) e ∙ count-all (digits-first text) ∙ ap (λ (n : ℕ). length (take n text)) (sym e)
 
--- ---- counting digits in a loop
+-- ---- byte by byte
 
 pub step : (text : List ℕ) (i : ℕ) → i < length text → drop i text ≡ get_or text i 0 ∷ drop (i + 1) text
 step text i h = drop-cons text i 0 h ∙ ap (λ (n : ℕ). get_or text i 0 ∷ drop n text) (sym (add-one i))
 
-pub count-more : (text : List ℕ) (i : ℕ) → i < length text → is_digit (get_or text i 0) ≡ true
-    → digit_count (drop i text) ≡ digit_count (drop (i + 1) text) + 1
-unfolding digit_count
-count-more text i h e = ap digit_count (step text i h) ∙ simp e (sym (add-one _))
-
-pub count-stop : (text : List ℕ) (i : ℕ) → i < length text → is_digit (get_or text i 0) ≡ false → digit_count (drop i text) ≡ 0
-unfolding digit_count
-count-stop text i h e = ap digit_count (step text i h) ∙ simp e
-
-pub count-end : (text : List ℕ) (i : ℕ) → i ≡ length text → digit_count (drop i text) ≡ 0
-unfolding digit_count
-count-end text i e = ap digit_count (ap (λ (n : ℕ). drop n text) e ∙ drop-length text)
-
--- ---- their value in a loop
-
-pub value-more : (text : List ℕ) (front i : ℕ) → i < length text
-    → value_from front (drop i text) ≡ value_from (front * 10 + (get_or text i 0 - 48)) (drop (i + 1) text)
-unfolding value_from
-value-more text front i h = ap (value_from front) (step text i h)
-
-pub value-end : (text : List ℕ) (front i : ℕ) → i ≡ length text → value_from front (drop i text) ≡ front
-unfolding value_from
-value-end text front i e = ap (value_from front) (ap (λ (n : ℕ). drop n text) e ∙ drop-length text)
+-- ---- their value
 
 pub value-append : (front : ℕ) (xs ys : List ℕ) → value_from front (xs ++ ys) ≡ value_from (value_from front xs) ys
 unfolding value_from

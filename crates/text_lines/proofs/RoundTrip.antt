@@ -2,7 +2,7 @@
 -- digits.
 -- Rests on the decimal digits of a number (`Decimal`) and on digits without leading zero (`Numerals`).
 use mathlib.Core.Path.{◌≡◌, refl, ap, ◌∙◌}
-use mathlib.Core.Bool.{Bool, true, false, cond, ◌&&◌}
+use mathlib.Core.Bool.{Bool, true, false, ◌&&◌}
 use mathlib.Core.List.{List, ◌∷◌, ◌++◌, append_assoc}
 use Prim.Native.Nat.{ℕ, ◌+◌, ◌^◌, ◌<◌}
 use native.Mathlib.Numerals.{add-one}
@@ -13,19 +13,21 @@ use lib.ListN.{length, take, drop, get_or, get_or-eq_default}
 use lib.Seq.{take-append_seam, get_or-append_seam, drop-cons, drop-drop}
 use Rattle.lists.proofs.Both.{both_true}
 use Rattle.lists.proofs.Cuts.{drop-after}
-use Rattle.text_lines.specs.declared.Line.TheVariants.{Value, Refused}
+use Rattle.std.specs.Prelude.{Some}
+use Rattle.std.proofs.lemmas.Option.{none-some}
 use Rattle.text_lines.specs.Decimal.{decimal, digit_count, value_from}
-use Rattle.text_lines.specs.Lines.{number_text, begins, is_numeral, number_at, number_line}
+use Rattle.text_lines.specs.Lines.{number_text, begins, is_numeral, line_of, number_at, number_line}
 use Rattle.text_lines.proofs.DigitTexts.{below-digits, count-digits}
 use Rattle.text_lines.proofs.Decimal.{length-within, some-digits, decimal-digits, value-decimal}
 use Rattle.text_lines.proofs.Numerals.{no-leading-zero, NumeralRead, numeral-read}
 use Rattle.text_lines.proofs.Begins.{begins-split, begins-joined}
 use Rattle.text_lines.proofs.NumberLines.{number-text-length}
+use Rattle.text_lines.proofs.Taken.{passed}
 
 -- ---- what is written reads back
 
 number-written : (most at n : ℕ) (rest : List ℕ) → 0 < most → n < 10 ^ most
-    → number_at most at (decimal n ++ (10 ∷ rest)) ≡ Value n (at + length (decimal n) + 1)
+    → number_at most at (decimal n ++ (10 ∷ rest)) ≡ Some (line_of n (at + length (decimal n) + 1))
 unfolding number_at is_numeral
 number-written most at n rest some h =
     let text = decimal n ++ (10 ∷ rest) in
@@ -41,7 +43,7 @@ number-written most at n rest some h =
     )
 
 pub line-written : (most : ℕ) (name text rest : List ℕ) (at n : ℕ) → 0 < most → n < 10 ^ most → drop at text ≡ number_text name n ++ rest
-    → number_line most name text at ≡ Value n (at + length (number_text name n))
+    → number_line most name text at ≡ Some (line_of n (at + length (number_text name n)))
 unfolding number_line
 line-written most name text rest at n some h e =
     let here : drop at text ≡ name ++ (decimal n ++ (10 ∷ rest)) = e ∙ simp append_assoc in
@@ -50,7 +52,7 @@ line-written most name text rest at n some h e =
     let end : place + length (decimal n) + 1 ≡ at + length (number_text name n) = let l = number-text-length name n in omega arith in
     simp starts
     (ap (number_at most place) (drop-after text name (decimal n ++ (10 ∷ rest)) at here)
-    ∙ number-written most place n rest some h ∙ ap (Value n) end)
+    ∙ number-written most place n rest some h ∙ ap (λ (e : ℕ). Some (line_of n e)) end)
 
 -- ---- what is read is what is written
 
@@ -59,11 +61,6 @@ pub record LineRead (most : ℕ) (name text : List ℕ) (at n next : ℕ) : Type
   pub below : n < 10 ^ most
   pub next-is : next ≡ at + length (number_text name n)
   pub here : drop at text ≡ number_text name n ++ drop next text
-
--- a test that yields a line has passed
-passed : (t : Bool) (v place n next : ℕ) → cond t (Value v place) Refused ≡ Value n next → (t ≡ true) × (v ≡ n) × (place ≡ next)
-passed true v place n next e = (refl, cc, cc)
-passed false v place n next e = let z : ◌≡◌ {A = ℕ} 0 1 = cc in absurd (let w : ⊥ = omega arith in w)
 
 record NumberRead (most : ℕ) (text : List ℕ) (at n next : ℕ) : Type 0 where
   below : n < 10 ^ most
@@ -78,11 +75,11 @@ within text i e = go (ltb i (length text)) refl
     go false h =
         let d = get_or-eq_default text 0 (ltb-false i (length text) h) in absurd (let w : ⊥ = omega arith in w)
 
-number_read : (most : ℕ) (text : List ℕ) (at n next : ℕ) → number_at most at text ≡ Value n next → NumberRead most text at n next
+number_read : (most : ℕ) (text : List ℕ) (at n next : ℕ) → number_at most at text ≡ Some (line_of n next) → NumberRead most text at n next
 unfolding number_at
 number_read most text at n next e =
     let count = digit_count text in
-    let p = passed (is_numeral most count text && eqb (get_or text count 0) 10) (value_from 0 (take count text)) (at + count + 1) n next e in
+    let p = passed (is_numeral most count text && eqb (get_or text count 0) 10) (value_from 0 (take count text)) n (at + count + 1) next e in
     let q = both_true (is_numeral most count text) (eqb (get_or text count 0) 10) p.0 in
     let r : NumeralRead most text n = rw p.1 at (numeral-read most text q.0) in
     let ended : get_or text count 0 ≡ 10 = eqb-true (get_or text count 0) 10 q.1 in
@@ -94,7 +91,7 @@ number_read most text at n next e =
       here = r.here ∙ ap (λ (l : List ℕ). decimal n ++ l) rest;
     }
 
-pub line_read : (most : ℕ) (name text : List ℕ) (at n next : ℕ) → number_line most name text at ≡ Value n next → LineRead most name text at n next
+pub line_read : (most : ℕ) (name text : List ℕ) (at n next : ℕ) → number_line most name text at ≡ Some (line_of n next) → LineRead most name text at n next
 unfolding number_line
 line_read most name text at n next e = go (begins name (drop at text)) refl
   where
@@ -114,4 +111,4 @@ line_read most name text at n next e = go (begins name (drop at text)) refl
               ∙ ap (λ (l : List ℕ). name ++ l) (drop-drop (length name) at text ∙ r.here)
               ∙ rw (drop-drop (length (decimal n) + 1) place text, end) (simp append_assoc);
         }
-    go false other = let z : ◌≡◌ {A = ℕ} 0 1 = cc (rw other at e) in absurd (let w : ⊥ = omega arith in w)
+    go false other = absurd (none-some (line_of n next) (rw other at e))

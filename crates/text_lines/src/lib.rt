@@ -6,28 +6,18 @@ ghost use Rattle.lists.specs.Parts.{put};
 ghost use Rattle.text_lines.specs.Decimal.{decimal, digit_count, value_from};
 ghost use Rattle.text_lines.specs.Lines.{number_text, begins, is_numeral, number_at, number_line};
 
-// What stands at a place of the text: a line with this value, the next line at `next`; or no such line.
+// A line of a text, by its value, and where the next one begins.
 #[derive(Clone, Copy)]
-pub enum Line {
-    Value { value: usize, next: usize },
-    Refused,
+pub struct Line<T> {
+    pub value: T,
+    pub next: usize,
 }
 
 // Whether the text begins with the name.
 pub fn starts(name: &[u8], text: &[u8]) -> bool
     ensures { result ≡ begins name.now text.now }
 {
-    let mut i = 0;
-    while i < name.len() {
-        if text.len() <= i {
-            return false;
-        }
-        if name[i] != text[i] {
-            return false;
-        }
-        i += 1;
-    }
-    true
+    text.starts_with(name)
 }
 
 // How many digits the text begins with.
@@ -35,18 +25,12 @@ pub fn digits(text: &[u8]) -> usize
     ensures value { result ≡ digit_count text.now }
     ensures upper_bound { result ≤ length text.now }
 {
-    let mut i = 0;
-    while i < text.len() {
-        let byte = text[i];
-        if byte < 48 {
+    for (i, byte) in text.iter().enumerate() {
+        if !byte.is_ascii_digit() {
             return i;
         }
-        if 57 < byte {
-            return i;
-        }
-        i += 1;
     }
-    i
+    text.len()
 }
 
 // The number of at most seven digits.
@@ -56,11 +40,8 @@ pub fn value(text: &[u8]) -> usize
     ensures { result ≡ value_from 0 text.now }
 {
     let mut n: usize = 0;
-    let mut i = 0;
-    while i < text.len() {
-        let byte = text[i];
-        n = n * 10 + (byte as usize - 48);
-        i += 1;
+    for byte in text {
+        n = n * 10 + (*byte as usize - 48);
     }
     n
 }
@@ -69,54 +50,42 @@ pub fn value(text: &[u8]) -> usize
 pub fn is_numeral(most: usize, count: usize, text: &[u8]) -> bool
     ensures { result ≡ is_numeral most count text.now }
 {
-    if count < 1 {
-        return false;
-    }
-    if most < count {
-        return false;
-    }
-    if count <= 1 {
-        return true;
-    }
-    if text.len() < 1 {
-        return true;
-    }
-    text[0] != 48
+    1 <= count && count <= most && (count <= 1 || !text.starts_with(b"0"))
 }
 
 // A number and byte 10 at the start of the text, which begins at place `at`.
-fn number(most: usize, text: &[u8], at: usize) -> Line
+fn number(most: usize, text: &[u8], at: usize) -> Option<Line<usize>>
     requires most_bound { most ≤ 7 }
     requires text_bound { at + length text.now < 2 ^ 63 }
     ensures { result ≡ number_at most at text.now }
 {
     let count = digits(text);
     if !is_numeral(most, count, text) {
-        return Line::Refused;
+        return None;
     }
     if text.len() <= count {
-        return Line::Refused;
+        return None;
     }
     if text[count] != 10 {
-        return Line::Refused;
+        return None;
     }
     let n = value(&text[..count]);
-    Line::Value {
+    Some(Line {
         value: n,
         next: at + count + 1,
-    }
+    })
 }
 
 // The line at place `at`: the name, a number of one to `most` digits without leading zero, and byte 10.
-pub fn number_line(most: usize, name: &[u8], text: &[u8], at: usize) -> Line
+pub fn number_line(most: usize, name: &[u8], text: &[u8], at: usize) -> Option<Line<usize>>
     requires { most ≤ 7 }
     ensures { result ≡ number_line most name.now text.now at }
 {
     if text.len() < at {
-        return Line::Refused;
+        return None;
     }
     if !starts(name, &text[at..]) {
-        return Line::Refused;
+        return None;
     }
     let start = at + name.len();
     number(most, &text[start..], start)
@@ -128,6 +97,7 @@ pub fn width(n: usize) -> usize
 {
     let mut count = 1;
     let mut front = n;
+    // A `while`: how many digits are left shows by what is left of the number.
     while 10 <= front {
         front = front / 10;
         count += 1;
@@ -135,7 +105,7 @@ pub fn width(n: usize) -> usize
     count
 }
 
-// The bytes of the line of a name and a number.
+// The bytes of the line of a name and a number, worked out beside its writing: a text that does not fit is refused before a byte is written.
 pub fn line_length(name: &[u8], n: usize) -> usize
     ensures { result ≡ length (number_text name.now n) }
 {
@@ -162,6 +132,7 @@ pub fn put_decimal(out: &mut [u8], at: usize, n: usize) -> usize
     let end = at + width(n);
     let mut i = end;
     let mut front = n;
+    // A `while`: how many digits are left shows by what is left of the number.
     while 10 <= front {
         i -= 1;
         out[i] = 48 + (front % 10) as u8;

@@ -6,7 +6,7 @@ pub fn at_most(a: usize, most: usize) -> usize
     ensures upper_bound { result ≤ a }
     ensures upper_bound_2 { result ≤ most }
 {
-    if a < most { a } else { most }
+    a.min(most)
 }
 
 // The next number of the sequence.
@@ -29,21 +29,15 @@ pub fn byte(x: usize) -> u8 {
 
 // Fills a buffer with one byte.
 pub fn fill(value: u8, out: &mut [u8]) {
-    let mut i: usize = 0;
-    while i < out.len() {
-        out[i] = value;
-        i += 1;
-    }
+    out.fill(value);
 }
 
 // Fills a buffer with numbers below `n` of the sequence.
 pub fn numbers(seed: u64, n: usize, out: &mut [u8]) {
     let mut x = seed;
-    let mut i: usize = 0;
-    while i < out.len() {
+    for place in out.iter_mut() {
         x = next(x);
-        out[i] = byte(below(x, n));
-        i += 1;
+        *place = byte(below(x, n));
     }
 }
 
@@ -62,21 +56,15 @@ pub fn poke(out: &mut [u8], place: usize, value: usize) {
 
 // Exchanges two places, where there are such places.
 fn swap(out: &mut [u8], i: usize, j: usize) {
-    if i < out.len() {
-        if j < out.len() {
-            let first = out[i];
-            out[i] = out[j];
-            out[j] = first;
-        }
+    if i < out.len() && j < out.len() {
+        out.swap(i, j);
     }
 }
 
 // Writes 0, 1, 2 and so on.
 fn ascending(out: &mut [u8]) {
-    let mut i: usize = 0;
-    while i < out.len() {
-        out[i] = byte(i);
-        i += 1;
+    for (i, place) in out.iter_mut().enumerate() {
+        *place = byte(i);
     }
 }
 
@@ -86,11 +74,9 @@ fn shuffle(seed: u64, out: &mut [u8]) -> u64 {
         return 0;
     }
     let mut x = seed;
-    let mut i = out.len();
-    while 1 < i {
+    for i in (1..out.len()).rev() {
         x = next(x);
-        let j = below(x, i);
-        i -= 1;
+        let j = below(x, i + 1);
         swap(out, i, j);
     }
     x
@@ -103,12 +89,9 @@ pub fn permutations(seed: u64, m: usize, out: &mut [u8]) {
         return;
     }
     let mut x = seed;
-    let mut at: usize = 0;
-    while size <= out.len() - at {
-        let end = at + size;
-        ascending(&mut out[at..end]);
-        x = shuffle(x, &mut out[at..end]);
-        at = end;
+    for part in out.chunks_exact_mut(size) {
+        ascending(part);
+        x = shuffle(x, part);
     }
 }
 

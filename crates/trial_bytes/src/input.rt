@@ -22,53 +22,42 @@ pub struct Line {
 
 // The value with one digit more; a value of ten digits stays.
 fn appended(value: usize, digit: u8) -> usize {
-    if value < 1000000000 {
-        if 48 <= digit {
-            let d = (digit - 48) as usize;
-            return value * 10 + d;
-        }
+    if value < 1000000000 && b'0' <= digit {
+        value * 10 + (digit - b'0') as usize
+    } else {
+        value
     }
-    value
-}
-
-// Whether a byte is a decimal digit.
-fn is_digit(b: u8) -> bool {
-    48 <= b && b <= 57
 }
 
 // The number at `at`, one space before it passed over; 0 if no digit is there.
 pub fn number_at(text: &[u8], at: usize) -> Number {
-    let mut i = at;
-    if i < text.len() {
-        if text[i] == 32 {
-            i += 1;
-        }
-    }
+    let from = if at < text.len() && text[at] == b' ' {
+        at + 1
+    } else {
+        at
+    };
     let mut value: usize = 0;
-    while i < text.len() {
-        let b = text[i];
-        if !is_digit(b) {
-            break;
+    for next in from..text.len() {
+        let b = text[next];
+        if !b.is_ascii_digit() {
+            return Number { value, next };
         }
         value = appended(value, b);
-        i += 1;
     }
     Number {
-        value: value,
-        next: i,
+        value,
+        next: from.max(text.len()),
     }
 }
 
 // The place of the first `stop` from `at` on, or the end of the text.
 fn end(text: &[u8], at: usize, stop: u8) -> usize {
-    let mut i = at;
-    while i < text.len() {
+    for i in at..text.len() {
         if text[i] == stop {
-            break;
+            return i;
         }
-        i += 1;
     }
-    i
+    at.max(text.len())
 }
 
 // The place after `at`, or the end.
@@ -79,17 +68,18 @@ fn after(at: usize, end: usize) -> usize {
 // A part of the input as a line: `a` and `b` are its start and end.
 fn part(letter: u8, from: usize, to: usize, next: usize) -> Line {
     Line {
-        letter: letter,
+        letter,
         a: from,
         b: to,
         c: 0,
         d: 0,
         e: 0,
-        next: next,
+        next,
     }
 }
 
 // The line at `at`: for a comment (`#`) and a text, the part; past the end, the letter 0.
+// The letter 0 in place of an `Option`, which is no plainer: each loop asks before the end alone, and its test stays for `further`.
 pub fn line_at(text: &[u8], at: usize) -> Line {
     if text.len() <= at {
         return part(0, at, at, at);
@@ -109,7 +99,7 @@ pub fn line_at(text: &[u8], at: usize) -> Line {
     let d = number_at(text, c.next);
     let e = number_at(text, d.next);
     Line {
-        letter: letter,
+        letter,
         a: a.value,
         b: b.value,
         c: c.value,

@@ -1,5 +1,7 @@
 // The lines of a conformance program's input that make a single call on a session or a server, or write a catalogue's text. Proved safe and to end,
 // like all of the test program.
+// Buffers are lent one by one: the borrow checker does not cover a struct of lent buffers of which one is lent on while another is read, and one of
+// arrays would ask more of callers.
 #![tactic(auto)]
 
 use trial_bytes::draw;

@@ -18,24 +18,20 @@ pub fn write(s: State, out: &mut [u8]) {
 pub fn begin(s: State, wanted: usize, key: &[u8]) -> State {
     let handed = s.session.begin(s.catalogue, wanted, key);
     show::letter(b'b');
-    let verdict = handed.verdict;
-    show::verdict(verdict);
-    let session = handed.session;
-    show::session(session);
+    show::verdict(handed.verdict);
+    show::session(handed.session);
     show::end();
-    s.with_session(session)
+    s.with_session(handed.session)
 }
 
 // What a call on the session handed back, and the buffer that it may have written.
 fn shown(s: State, letter: u8, handed: Handed, buffer: &[u8]) -> State {
     show::letter(letter);
-    let verdict = handed.verdict;
-    show::verdict(verdict);
+    show::verdict(handed.verdict);
     show::bytes(buffer);
-    let session = handed.session;
-    show::session(session);
+    show::session(handed.session);
     show::end();
-    s.with_session(session)
+    s.with_session(handed.session)
 }
 
 // i SERVER ROOM: issues a query today.

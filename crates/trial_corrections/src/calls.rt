@@ -2,15 +2,15 @@
 // gives for the query.
 use catalogue::Catalogue;
 use correction::Edit;
-use refusal::{Outcome, Verdict};
+use refusal::Refusal;
 use trial_bytes::draw;
 use trials::show;
 
 // A: the saved answer made by the answering end on the opening day, where it has room.
 fn answer_of(c: Catalogue, server: usize, store: &[u8], query: &[u8], answer: &mut [u8]) {
     match server::answer(c, c.opening, server, store, query, answer) {
-        Outcome::Value(_) => (),
-        Outcome::Refused(_) => (),
+        Ok(_) => (),
+        Err(_) => (),
     }
 }
 
@@ -18,7 +18,7 @@ fn answer_of(c: Catalogue, server: usize, store: &[u8], query: &[u8], answer: &m
 fn afresh(c: Catalogue, server: usize, store: &[u8], query: &[u8], fresh: &mut [u8]) {
     let gave = server::answer(c, c.opening, server, store, query, fresh);
     show::outcome(gave);
-    if let Outcome::Value(length) = gave {
+    if let Ok(length) = gave {
         let end = draw::at_most(length, fresh.len());
         show::bytes(&fresh[..end]);
     }
@@ -26,7 +26,7 @@ fn afresh(c: Catalogue, server: usize, store: &[u8], query: &[u8], fresh: &mut [
 }
 
 // Prints what a call gave, and the answer and the store that it left.
-fn shown(letter: u8, gave: Verdict, answer: &[u8], store: &[u8]) {
+fn shown(letter: u8, gave: Result<(), Refusal>, answer: &[u8], store: &[u8]) {
     show::letter(letter);
     show::verdict(gave);
     show::bytes(answer);

@@ -1,5 +1,7 @@
 // What the conformance program of corrections is made of: its calls, what they are given, and what stands between two of them. Proved safe and to end,
 // like all test programs.
+// Buffers are lent one by one: the borrow checker does not cover a struct of lent buffers of which one is lent on while another is read, and one of
+// arrays would ask more of callers.
 #![tactic(auto)]
 
 use state::State;

@@ -1,13 +1,14 @@
 // Whole fetches: begin, then for each server issue, answer and take, then recover, all in buffers of exactly the length that they need, but for the
 // message's, which the line says.
+// Buffers are lent one by one: the borrow checker does not cover a struct of lent buffers of which one is lent on while another is read, and one of
+// arrays would ask more of callers.
 #![tactic(auto)]
 
 ghost use Rattle.std.specs.Prelude.{◌≤◌};
 
 use calendar::Day;
-use catalogue::Measured;
 use parameters::Sizes;
-use refusal::Outcome;
+use refusal::Refusal;
 use session::Session;
 use trial_bytes::draw;
 use trial_bytes::input::Line;
@@ -21,14 +22,6 @@ pub struct Exchanged {
     pub queries: u64,
     pub answers: u64,
     pub received: usize,
-}
-
-// The value that a call gave; refused, 0.
-fn value(o: Outcome) -> usize {
-    match o {
-        Outcome::Value(n) => n,
-        Outcome::Refused(_) => 0,
-    }
 }
 
 // The sum of two numbers below 2^24; else 0.
@@ -54,7 +47,7 @@ fn exchange(
     let session = so_far.session;
     let issued = session.issue(today, n, query);
     let given = server::answer(session.catalogue, today, n, store, query, answer);
-    let got = draw::at_most(value(given), answer.len());
+    let got = draw::at_most(given.unwrap_or(0), answer.len());
     let session = issued.session;
     let taken = session.take(n, &answer[..got], answers);
     let session = taken.session;
@@ -82,10 +75,8 @@ fn exchanges(
         received: 0,
     };
     let servers = draw::at_most(begun.catalogue.servers, 16);
-    let mut n: usize = 0;
-    while n < servers {
+    for n in 0..servers {
         so_far = exchange(so_far, today, n, store, query, answer, answers);
-        n += 1;
     }
     so_far
 }
@@ -94,11 +85,9 @@ fn exchanges(
 fn recovered(s: Session, answers: &[u8], message: &mut [u8]) {
     draw::fill(204, message);
     let handed = s.recover(answers, message);
-    let verdict = handed.verdict;
-    show::verdict(verdict);
+    show::verdict(handed.verdict);
     show::bytes(message);
-    let session = handed.session;
-    show::metered(session.meters);
+    show::metered(handed.session.meters);
 }
 
 // The exchanges and the recovery, after begin: the sums of queries and answers, the bytes received, recover's verdict and the message, and a sum of
@@ -142,7 +131,7 @@ fn exact(
 ) {
     let asked = draw::at_most(sizes.query, query.len());
     let slot = draw::at_most(sizes.slot, answer.len());
-    let slots = draw::at_most(value(session::bound(begun.catalogue)), answers.len());
+    let slots = draw::at_most(session::bound(begun.catalogue).unwrap_or(0), answers.len());
     let room = room_of(sizes.message, less, message.len());
     rest(
         begun,
@@ -169,10 +158,9 @@ fn whole(
 ) {
     show::letter(b'x');
     let begun = Session::blank().begin(s.catalogue, wanted, key);
-    let verdict = begun.verdict;
-    show::verdict(verdict);
+    show::verdict(begun.verdict);
     let session = begun.session;
-    let Measured::Of(sizes) = catalogue::sizes(session.catalogue) else {
+    let Ok(sizes) = catalogue::sizes(session.catalogue) else {
         show::end();
         return;
     };

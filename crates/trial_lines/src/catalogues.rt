@@ -1,8 +1,8 @@
 // Catalogues, read from a text or made of numbers, and the dates and lengths that they are given.
 use calendar::Day;
-use catalogue::{Catalogue, Code, Measured};
+use catalogue::{Catalogue, Code};
 use lengths::Lengths;
-use refusal::Outcome;
+use refusal::Refusal;
 use symbol::Operation;
 use trial_bytes::input::Line;
 use trials::show;
@@ -12,18 +12,15 @@ use trials::state::{Given, State};
 pub fn text(s: State, text: &[u8]) -> State {
     let reading = catalogue_text::read(text);
     show::letter(b't');
-    let verdict = reading.verdict;
-    show::verdict(verdict);
-    let c = reading.catalogue;
-    show::catalogue(c);
+    show::verdict(reading.verdict);
+    show::catalogue(reading.catalogue);
     let lines = catalogue_text::read_lines(text);
-    let verdict = lines.verdict;
-    show::verdict(verdict);
+    show::verdict(lines.verdict);
     let start = lines.catalogue;
     show::catalogue(start);
     show::number(lines.next);
     show::end();
-    s.with_catalogue(c)
+    s.with_catalogue(reading.catalogue)
 }
 
 // The code of a number: 0 short, 2 turning, 3 round, else even.
@@ -118,7 +115,7 @@ pub fn catalogue(s: State, line: Line) -> State {
     show::letter(b'c');
     show::verdict(catalogue::verdict(c));
     match catalogue::sizes(c) {
-        Measured::Of(sizes) => {
+        Ok(sizes) => {
             show::number(sizes.symbols);
             show::number(sizes.message);
             show::number(sizes.store);
@@ -126,7 +123,7 @@ pub fn catalogue(s: State, line: Line) -> State {
             show::number(sizes.query);
             show::number(sizes.slot);
         }
-        Measured::Refused(refusal) => show::outcome(Outcome::Refused(refusal)),
+        Err(refusal) => show::outcome(Err(refusal)),
     }
     show::outcome(session::bound(c));
     show::end();

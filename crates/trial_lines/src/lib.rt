@@ -1,5 +1,7 @@
 // The lines of a conformance program's input that read a catalogue, or set what later calls are lent. Proved safe and to end, like all of the
 // test program; the other calls are `trial_calls`, whole fetches `trial_fetches`.
+// Buffers are lent one by one: the borrow checker does not cover a struct of lent buffers of which one is lent on while another is read, and one of
+// arrays would ask more of callers.
 #![tactic(auto)]
 
 use session::Session;

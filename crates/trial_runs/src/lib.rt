@@ -1,5 +1,7 @@
 // The lines of a conformance program's input, one after another: each makes its call, or sets what later calls are lent. Proved safe and to end,
 // like all of the test program.
+// Buffers are lent one by one: the borrow checker does not cover a struct of lent buffers of which one is lent on while another is read, and one of
+// arrays would ask more of callers.
 #![tactic(auto)]
 
 use trial_bytes::input;
@@ -50,6 +52,7 @@ pub fn run(
 ) {
     let mut s = state::first();
     let mut at: usize = 0;
+    // A `while`: only the line that was read says where the next one begins.
     while at < text.len() {
         let line = input::line_at(text, at);
         s = on_line(s, line, text, key, store, query, answer, answers, message);

@@ -52,34 +52,28 @@ fn blank() -> AnswerUnit {
 fn set_up(before: AnswerUnit, c: Catalogue, server: usize) -> AnswerUnit {
     let handed = before.set_up(c, server);
     show::letter(b'S');
-    let verdict = handed.verdict;
-    show::verdict(verdict);
-    let unit = handed.unit;
-    shown(unit);
-    unit
+    show::verdict(handed.verdict);
+    shown(handed.unit);
+    handed.unit
 }
 
 // R REGISTER: reads a register.
 fn read(before: AnswerUnit, register: usize, store: &[u8]) -> AnswerUnit {
     let got = before.read(register, store);
     show::letter(b'R');
-    let verdict = got.verdict;
-    show::verdict(verdict);
+    show::verdict(got.verdict);
     show::number(got.byte as usize);
-    let unit = got.unit;
-    shown(unit);
-    unit
+    shown(got.unit);
+    got.unit
 }
 
 // W REGISTER VALUE: writes a register.
 fn write(before: AnswerUnit, register: usize, value: u8, store: &[u8]) -> AnswerUnit {
     let handed = before.write(register, value, store);
     show::letter(b'W');
-    let verdict = handed.verdict;
-    show::verdict(verdict);
-    let unit = handed.unit;
-    shown(unit);
-    unit
+    show::verdict(handed.verdict);
+    shown(handed.unit);
+    handed.unit
 }
 
 // A line that makes a call, with the store as it is lent: the unit after it.

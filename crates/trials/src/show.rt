@@ -3,7 +3,7 @@
 use calendar::Day;
 use catalogue::{Catalogue, Code};
 use lengths::Lengths;
-use refusal::{Outcome, Verdict};
+use refusal::Refusal;
 use session::Session;
 use session_parts::Meters;
 use symbol::Operation;
@@ -29,18 +29,18 @@ pub fn number(n: usize) {
 }
 
 // Prints whether a call was accepted, 0, or the number of its refusal.
-pub fn verdict(v: Verdict) {
+pub fn verdict(v: Result<(), Refusal>) {
     match v {
-        Verdict::Accepted => number(0),
-        Verdict::Refused(refusal) => number(wide(refusal::number(refusal))),
+        Ok(()) => number(0),
+        Err(refusal) => number(wide(refusal::number(refusal))),
     }
 }
 
 // Prints the number that a call gave, or the number of its refusal after a minus sign.
-pub fn outcome(o: Outcome) {
+pub fn outcome(o: Result<usize, Refusal>) {
     match o {
-        Outcome::Value(n) => number(n),
-        Outcome::Refused(refusal) => {
+        Ok(n) => number(n),
+        Err(refusal) => {
             io::write_all(STDOUT_FILENO, b" -");
             io::print_decimal(STDOUT_FILENO, refusal::number(refusal) as u64);
         }
@@ -59,20 +59,16 @@ fn added(sum: u64, x: usize) -> u64 {
 // The sum with the bytes of a buffer.
 pub fn sum(start: u64, bytes: &[u8]) -> u64 {
     let mut out = start;
-    let mut i: usize = 0;
-    while i < bytes.len() {
-        out = added(out, wide(bytes[i]));
-        i += 1;
+    for byte in bytes {
+        out = added(out, wide(*byte));
     }
     out
 }
 
 // Prints bytes, one by one.
 fn each(bytes: &[u8]) {
-    let mut i: usize = 0;
-    while i < bytes.len() {
-        number(wide(bytes[i]));
-        i += 1;
+    for byte in bytes {
+        number(wide(*byte));
     }
 }
 
@@ -123,12 +119,10 @@ fn day(d: Day) {
 // How many places there are up to the last one that does not hold 0.
 fn used(places: &[u32; 32]) -> usize {
     let mut count: usize = 0;
-    let mut i: usize = 0;
-    while i < 32 {
-        if places[i] != 0 {
+    for (i, place) in places.iter().enumerate() {
+        if *place != 0 {
             count = i + 1;
         }
-        i += 1;
     }
     count
 }
@@ -139,12 +133,8 @@ fn ends(l: Lengths) {
     let places = l.places;
     let count = used(&places);
     number(count);
-    let mut i: usize = 0;
-    while i < 32 {
-        if i < count {
-            number(places[i] as usize);
-        }
-        i += 1;
+    for place in places.iter().take(count) {
+        number(*place as usize);
     }
 }
 
@@ -165,13 +155,11 @@ pub fn catalogue(c: Catalogue) {
 // Marks as a number, the first one the most.
 fn marks(all: &[bool; 16]) -> usize {
     let mut out: usize = 0;
-    let mut i: usize = 0;
-    while i < 16 {
+    for mark in all {
         out = out % 32768 * 2;
-        if all[i] {
+        if *mark {
             out += 1;
         }
-        i += 1;
     }
     out
 }
@@ -183,11 +171,9 @@ fn wider(x: u32) -> usize {
 // The sum with the meters of a row, each as two numbers: its high half, then its low one.
 fn row_sum(start: u64, row: &[u32; 16]) -> u64 {
     let mut out = start;
-    let mut i: usize = 0;
-    while i < 16 {
-        let bytes = wider(row[i]);
+    for meter in row {
+        let bytes = wider(*meter);
         out = added(added(out, bytes / 65536), bytes);
-        i += 1;
     }
     out
 }
@@ -201,10 +187,8 @@ pub fn metered(m: Meters) {
 
 // Prints a row of meters, one by one.
 fn row(meters: &[u32; 16]) {
-    let mut i: usize = 0;
-    while i < 16 {
-        number(wider(meters[i]));
-        i += 1;
+    for meter in meters {
+        number(wider(*meter));
     }
 }
 

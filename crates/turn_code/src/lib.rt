@@ -1,6 +1,7 @@
 // The turning code: the short code, in which each server plays the one that lies r further on, modulo n. The last digit of a key is the turn r, the
 // others are a key of the short code. The rule is specs/Turn.antt. Which digits are good, how long an answer is and what it says are the short
 // code's, and so are the functions (`key_good`, `answer_length`, `answer` of short_code); what knows the turn is here.
+// N, K and S stay parameters of their own: the clauses name them one by one, as the papers' formulas do.
 #![tactic(auto)]
 
 ghost use Rattle.std.specs.Prelude.{◌≡◌, true, ◌*◌, ◌≤◌, ◌<◌, length};
@@ -13,7 +14,8 @@ ghost use Rattle.scheme.specs.Scheme.{Valid, recover_in};
 ghost use Rattle.short_scheme.specs.Short.{short_answer_length};
 ghost use Rattle.turn_code.specs.Turn.{part_of, turn_query, turn_admits, turn_scheme};
 
-use short_rows::{digits, recovering};
+use short_rows::digits;
+use short_rows::recovering::Received;
 use symbol::Operation;
 
 // The server of the short code that the server plays.
@@ -42,10 +44,7 @@ pub fn query(n: usize, wanted: usize, server: usize, key: &[u8], out: &mut [u8])
 pub fn admits(n: usize, k: usize, query: &[u8]) -> bool
     ensures { result ≡ turn_admits n k query.now }
 {
-    if query.len() != k {
-        return false;
-    }
-    digits::all_below(n, query)
+    query.len() == k && digits::all_below(n, query)
 }
 
 // The bytes that the server's query calls for, without the query: those of the part that it plays.
@@ -82,5 +81,12 @@ pub fn recover(
     let turn = key[last] as usize;
     let t = digits::digit_sum(n, &key[..last]);
     let player = digits::subtract_modulo(n, t, turn);
-    recovering::recover_slots(op, n, s, player, &key[..last], answers, message);
+    let received = Received {
+        op,
+        servers: n,
+        size: s,
+        none: player,
+        answers,
+    };
+    received.recover_slots(&key[..last], message);
 }

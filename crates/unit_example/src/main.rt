@@ -4,7 +4,7 @@
 
 use answer_unit::{AnswerUnit, Handed};
 use catalogue::Catalogue;
-use refusal::Verdict;
+use refusal::Refusal;
 
 // Standard output.
 const STDOUT_FILENO: i32 = 1;
@@ -16,8 +16,8 @@ fn put(name: &[u8], n: u8) {
 }
 
 // Prints what a call ended with, and the line after it.
-fn ended(unit: AnswerUnit, verdict: Verdict) {
-    if let Verdict::Refused(refusal) = verdict {
+fn ended(unit: AnswerUnit, verdict: Result<(), Refusal>) {
+    if let Err(refusal) = verdict {
         put(b" refused=", refusal::number(refusal));
     }
     put(b" line=", if unit.line() { 1 } else { 0 });
@@ -29,10 +29,8 @@ fn write(unit: AnswerUnit, register: u8, value: u8, store: &[u8]) -> AnswerUnit 
     let handed = unit.write(register as usize, value, store);
     put(b"write=", register);
     put(b" value=", value);
-    let verdict = handed.verdict;
-    let after = handed.unit;
-    ended(after, verdict);
-    after
+    ended(handed.unit, handed.verdict);
+    handed.unit
 }
 
 // Reads a register, and prints it.
@@ -40,10 +38,8 @@ fn read(unit: AnswerUnit, register: u8, store: &[u8]) -> AnswerUnit {
     let got = unit.read(register as usize, store);
     put(b"read=", register);
     put(b" byte=", got.byte);
-    let verdict = got.verdict;
-    let after = got.unit;
-    ended(after, verdict);
-    after
+    ended(got.unit, got.verdict);
+    got.unit
 }
 
 // A unit for server 0 of two, with two messages of one byte.

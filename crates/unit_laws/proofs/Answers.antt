@@ -9,11 +9,9 @@ use native.Mathlib.Omega.{arith}
 use lib.ListN.{length}
 use borrow.Author.Tests.{le-ltb}
 use Rattle.lists.proofs.Puts.{put-length}
-use Rattle.refusal.specs.declared.Verdict.{Verdict}
-use Rattle.refusal.specs.declared.Verdict.TheVariants.{Accepted, Refused}
-use Rattle.refusal.specs.declared.Outcome.{Outcome}
-use Rattle.refusal.specs.declared.Outcome.TheVariants.{Value, Refused as NoValue}
 use Rattle.calendar.specs.declared.Day.{Day}
+use Rattle.std.specs.Prelude.{Ok, Err}
+use Rattle.refusal.specs.Verdicts.{accepted, Verdict, Outcome}
 use Rattle.catalogue.specs.declared.Catalogue.{Catalogue}
 use Rattle.catalogue.specs.Catalogue.{Admitted}
 use Rattle.catalogue.specs.Days.{Served}
@@ -28,8 +26,8 @@ use Rattle.answer_unit.proofs.Chains.{unit-takes}
 
 -- an outcome is a refusal, or the length of an empty answer or of one symbol
 abbrev pub Fits : ℕ → Outcome → Type 0
-Fits S (Value size) = (size ≡ 0) ⊎ (size ≡ S)
-Fits S (NoValue refusal) = Unit {0}
+Fits S (Ok size) = (size ≡ 0) ⊎ (size ≡ S)
+Fits S (Err refusal) = Unit {0}
 
 -- two calls gave the same
 pub record Same (a b : Answered) : Type 0 where
@@ -71,20 +69,20 @@ module _ (c : Catalogue) (takes : unit_takes c ≡ true) where
       where
         go : (v : Verdict) → v ≡ answer_verdict scheme_of c day server (length store) query (length buffer)
             → Fits c.symbol (answering scheme_of c day server store query buffer).outcome
-        go Accepted e = rw (answer-by scheme_of c day server store query buffer Accepted e) (short-length query)
-        go (Refused refusal) e = rw (answer-by scheme_of c day server store query buffer (Refused refusal) e) tt
+        go (Ok _) e = rw (answer-by scheme_of c day server store query buffer accepted e) (short-length query)
+        go (Err refusal) e = rw (answer-by scheme_of c day server store query buffer (Err refusal) e) tt
 
     pub kept-length : (day : Day) (buffer : List ℕ) → length (answering scheme_of c day server store query buffer).buffer ≡ length buffer
     kept-length day buffer = go (answer_verdict scheme_of c day server (length store) query (length buffer)) refl
       where
         go : (v : Verdict) → v ≡ answer_verdict scheme_of c day server (length store) query (length buffer)
             → length (answering scheme_of c day server store query buffer).buffer ≡ length buffer
-        go Accepted e =
+        go (Ok _) e =
             let a = answer-passed scheme_of c day server (length store) query (length buffer) (sym e) in
             let long = (promises c admitted).answer-length server store query a.store_long a.admits in
             let room : 0 + length ((scheme_of c).answer store query) ≤ length buffer = omega (arith, long, a.roomy) in
-            rw (answer-by scheme_of c day server store query buffer Accepted e) (put-length 0 ((scheme_of c).answer store query) buffer room)
-        go (Refused refusal) e = rw (answer-by scheme_of c day server store query buffer (Refused refusal) e)
+            rw (answer-by scheme_of c day server store query buffer accepted e) (put-length 0 ((scheme_of c).answer store query) buffer room)
+        go (Err refusal) e = rw (answer-by scheme_of c day server store query buffer (Err refusal) e)
 
     pub same_answer : (day other : Day) (buffer least : List ℕ) → c.symbol ≤ length buffer → c.symbol ≤ length least
         → Same (answering scheme_of c day server store query buffer) (answering scheme_of c other server store query least)
@@ -96,17 +94,17 @@ module _ (c : Catalogue) (takes : unit_takes c ≡ true) where
             → answer_verdict scheme_of c day server (length store) query (length buffer)
             ≡ answer_verdict scheme_of c other server (length store) query (length least)
             → Same (answering scheme_of c day server store query buffer) (answering scheme_of c other server store query least)
-        go Accepted e f = record {
+        go (Ok _) e f = record {
           outcome = rw (
-            answer-by scheme_of c day server store query buffer Accepted e,
-            answer-by scheme_of c other server store query least Accepted (e ∙ f),
+            answer-by scheme_of c day server store query buffer accepted e,
+            answer-by scheme_of c other server store query least accepted (e ∙ f),
           );
           written =
               writes-answer scheme_of c (promises c admitted) day server store query buffer (sym e)
               ∙ sym (writes-answer scheme_of c (promises c admitted) other server store query least (sym (e ∙ f)));
         }
-        go (Refused refusal) e f =
+        go (Err refusal) e f =
             rw (
-              answer-by scheme_of c day server store query buffer (Refused refusal) e,
-              answer-by scheme_of c other server store query least (Refused refusal) (e ∙ f),
+              answer-by scheme_of c day server store query buffer (Err refusal) e,
+              answer-by scheme_of c other server store query least (Err refusal) (e ∙ f),
             ) (record { outcome = refl; written = refl })

@@ -10,10 +10,8 @@ use lib.Dec.{ltb, eqb}
 use lib.ListN.{length, get_or, set, length-set}
 use borrow.Author.Tests.{ltb-true}
 use Rattle.lists.specs.Sums.{All, all_nil, all_cons}
-use Rattle.refusal.specs.declared.Verdict.{Verdict}
-use Rattle.refusal.specs.declared.Verdict.TheVariants.{Accepted, Refused}
-use Rattle.refusal.specs.declared.Outcome.{Outcome}
-use Rattle.refusal.specs.declared.Outcome.TheVariants.{Value, Refused as NoValue}
+use Rattle.std.specs.Prelude.{Ok, Err}
+use Rattle.refusal.specs.Verdicts.{accepted, Verdict, Outcome}
 use Rattle.refusal.specs.Numbers.{refusal_of}
 use Rattle.calendar.specs.Calendar.{no_day}
 use Rattle.catalogue.specs.declared.Catalogue.{Catalogue}
@@ -36,18 +34,18 @@ whichever P u p (v ∷ units) (all_cons q rest) zero = q
 whichever P u p (v ∷ units) (all_cons q rest) (suc register) = whichever P u p units rest register
 
 pub access-by : (P : AnswerUnit → Type 0) (u : AnswerUnit) → P u → ((register : ℕ) → P (after_read u register))
-    → ((register value : ℕ) (store : List ℕ) → access_verdict u register (length store) ≡ Accepted → P (after_write u register value store))
+    → ((register value : ℕ) (store : List ℕ) → access_verdict u register (length store) ≡ accepted → P (after_write u register value store))
     → (access : Access) → P (after u access)
 access-by P u p read write (reading register store) = go (access_verdict u register (length store)) refl
   where
     go : (v : Verdict) → v ≡ access_verdict u register (length store) → P (read_register u register store).unit
-    go Accepted e = rw (read-by u register store Accepted e) (read register)
-    go (Refused refusal) e = rw (read-by u register store (Refused refusal) e) p
+    go (Ok _) e = rw (read-by u register store accepted e) (read register)
+    go (Err refusal) e = rw (read-by u register store (Err refusal) e) p
 access-by P u p read write (writing register value store) = go (access_verdict u register (length store)) refl
   where
     go : (v : Verdict) → v ≡ access_verdict u register (length store) → P (write_register u register value store).unit
-    go Accepted e = rw (write-by u register value store Accepted e) (write register value store (sym e))
-    go (Refused refusal) e = rw (write-by u register value store (Refused refusal) e) p
+    go (Ok _) e = rw (write-by u register value store accepted e) (write register value store (sym e))
+    go (Err refusal) e = rw (write-by u register value store (Err refusal) e) p
 
 -- ---- what is kept, of the parts of a unit
 
@@ -60,13 +58,13 @@ kept u v query answer held waiting catalogue server = record {
 }
 
 -- the places for an answer have room for one
-pub answer-room : (u : AnswerUnit) (stored : ℕ) → Placed u → access_verdict u 0 stored ≡ Accepted → u.catalogue.symbol ≤ length u.answer
+pub answer-room : (u : AnswerUnit) (stored : ℕ) → Placed u → access_verdict u 0 stored ≡ accepted → u.catalogue.symbol ≤ length u.answer
 answer-room u stored placed done =
     let s = set-up-passed u.catalogue u.server (access-passed u 0 stored done).set-up in
     omega (arith, (unit-takes u.catalogue s.takes).small, placed.answer-places)
 
 -- an access that was done finds the unit sound
-pub sound-at : (u : AnswerUnit) (register stored : ℕ) → Placed u → access_verdict u register stored ≡ Accepted → Sound u
+pub sound-at : (u : AnswerUnit) (register stored : ℕ) → Placed u → access_verdict u register stored ≡ accepted → Sound u
 sound-at u register stored placed done =
     let a = access-passed u register stored done in record { placed = placed; held_fits = a.held_fits; waiting-fits = a.waiting-fits }
 
@@ -132,20 +130,20 @@ module _ (u : AnswerUnit) (sound : Sound u) where
   -- a start that ended
   pub ended-keeps : (buffer : List ℕ) → length buffer ≡ 64 → (outcome : Outcome) → Fits u.catalogue.symbol outcome
       → Keeps u (finished (ended_by u outcome buffer))
-  ended-keeps buffer places (Value size) fits =
+  ended-keeps buffer places (Ok size) fits =
       let least : size ≤ u.catalogue.symbol =
       ⊎_elim (λ e. let w : size ≤ u.catalogue.symbol = omega (arith, e) in w) (λ e. let w : size ≤ u.catalogue.symbol = omega (arith, e) in w) fits in
-      kept u (finished (ended_by u (Value size) buffer)) query-long places (nought 32) least refl refl
-  ended-keeps buffer places (NoValue refusal) fits =
-      kept u (finished (ended_by u (NoValue refusal) buffer)) query-long places (nought 32) (nought u.catalogue.symbol) refl refl
+      kept u (finished (ended_by u (Ok size) buffer)) query-long places (nought 32) least refl refl
+  ended-keeps buffer places (Err refusal) fits =
+      kept u (finished (ended_by u (Err refusal) buffer)) query-long places (nought 32) (nought u.catalogue.symbol) refl refl
 
   start-keeps : (store : List ℕ) → SetUp u.catalogue u.server → Keeps u (start u store)
   unfolding start answer_of
   start-keeps store s = go u.overrun
     where
       go : (over : Bool) → Keeps u (finished
-          (cond over (ended_by u (NoValue (refusal_of 7)) u.answer) (ended_by u (answered_for u store).outcome (answered_for u store).buffer)))
-      go true = ended-keeps u.answer answer-long (NoValue (refusal_of 7)) tt
+          (cond over (ended_by u (Err (refusal_of 7)) u.answer) (ended_by u (answered_for u store).outcome (answered_for u store).buffer)))
+      go true = ended-keeps u.answer answer-long (Err (refusal_of 7)) tt
       go false =
           ended-keeps (answered_for u store).buffer
           (kept-length u.catalogue s.takes s.admitted u.server store (asked u) no_day u.answer ∙ answer-long)
@@ -193,7 +191,7 @@ run-keeps u (access ∷ accesses) sound =
     chained u (after u access) (run (after u access) accesses) k (run-keeps (after u access) accesses k.sound)
 
 -- accessible where the set-up is the same
-pub still-done : (u v : AnswerUnit) (stored : ℕ) → Keeps u v → access_verdict u 0 stored ≡ Accepted → access_verdict v 0 stored ≡ Accepted
+pub still-done : (u v : AnswerUnit) (stored : ℕ) → Keeps u v → access_verdict u 0 stored ≡ accepted → access_verdict v 0 stored ≡ accepted
 still-done u v stored k done =
     let a = access-passed u 0 stored done in
     access-accepted v 0 stored (record {
@@ -213,7 +211,7 @@ unfolding fresh
 never-refused c server accesses register store admitted known long =
     let k = run-keeps (fresh c server) accesses (fresh-sound c server) in
     let u = run (fresh c server) accesses in
-    rw (set-up-by c server Accepted (sym admitted))
+    rw (set-up-by c server accepted (sym admitted))
     (access-accepted u register (length store) (record {
       known = known;
       set-up = rw (k.catalogue, k.server) admitted;

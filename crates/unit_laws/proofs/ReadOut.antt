@@ -7,23 +7,23 @@ use lib.ListN.{length, get_or}
 use lib.Seq.{drop-cons}
 use borrow.Author.Tests.{lt-ltb, le-ltb}
 use Rattle.lists.specs.Parts.{cut}
-use Rattle.refusal.specs.declared.Verdict.TheVariants.{Accepted}
 use Rattle.answer_unit.specs.declared.AnswerUnit.{AnswerUnit}
 use Rattle.answer_unit.specs.Registers.{shown, advance, after_read, access_verdict}
 use Rattle.unit_laws.specs.Runs.{read_out, emptied, Sound}
 use Rattle.unit_laws.specs.Claims.{Keeps}
 use Rattle.unit_laws.proofs.Seen.{done-read, waiting-bit}
 use Rattle.unit_laws.proofs.Kept.{same, chained, advanced, answer-room, still-done}
+use Rattle.refusal.specs.Verdicts.{accepted}
 
 -- with nothing waiting nothing is read
-none_out : (most : ℕ) (u : AnswerUnit) (store : List ℕ) → access_verdict u 0 (length store) ≡ Accepted → u.waiting ≡ 0 → read_out most u store ≡ []
+none_out : (most : ℕ) (u : AnswerUnit) (store : List ℕ) → access_verdict u 0 (length store) ≡ accepted → u.waiting ≡ 0 → read_out most u store ≡ []
 unfolding read_out
 none_out zero u store done none = refl
 none_out (suc most) u store done none =
     let few : u.waiting ≤ 0 = omega (arith, none) in rw (waiting-bit u store done, le-ltb 0 u.waiting few)
 
 -- with bytes waiting the next is read, and then the others
-next-out : (most : ℕ) (u : AnswerUnit) (store : List ℕ) → access_verdict u 0 (length store) ≡ Accepted → 0 < u.waiting
+next-out : (most : ℕ) (u : AnswerUnit) (store : List ℕ) → access_verdict u 0 (length store) ≡ accepted → 0 < u.waiting
     → read_out (suc most) u store ≡ get_or u.answer (u.catalogue.symbol - u.waiting) 0 ∷ read_out most (advance u) store
 unfolding read_out shown after_read
 next-out most u store done some =
@@ -38,10 +38,10 @@ longer bytes S j low high =
     rw (drop-cons bytes (S - suc j) 0 inside, next)
 
 -- the unit after one byte more is as accessible
-still : (u : AnswerUnit) (store : List ℕ) → Sound u → access_verdict u 0 (length store) ≡ Accepted → access_verdict (advance u) 0 (length store) ≡ Accepted
+still : (u : AnswerUnit) (store : List ℕ) → Sound u → access_verdict u 0 (length store) ≡ accepted → access_verdict (advance u) 0 (length store) ≡ accepted
 still u store sound = still-done u (advance u) (length store) (advanced u sound)
 
-pub read_out_lem : (most k : ℕ) (u : AnswerUnit) (store : List ℕ) → Sound u → access_verdict u 0 (length store) ≡ Accepted
+pub read_out_lem : (most k : ℕ) (u : AnswerUnit) (store : List ℕ) → Sound u → access_verdict u 0 (length store) ≡ accepted
     → u.waiting ≡ k → k ≤ most → read_out most u store ≡ cut (u.catalogue.symbol - k) k u.answer
 read_out_lem most zero u store sound done e low = none_out most u store done e
 read_out_lem zero (suc j) u store sound done e low = absurd (let w : ⊥ = omega (arith, low) in w)
@@ -66,19 +66,19 @@ pub record Emptied (u v : AnswerUnit) : Type 0 where
   pub overrun : v.overrun ≡ u.overrun
   pub none-waits : v.waiting ≡ 0
 
-none_left : (most : ℕ) (u : AnswerUnit) (store : List ℕ) → access_verdict u 0 (length store) ≡ Accepted → u.waiting ≡ 0 → emptied most u store ≡ u
+none_left : (most : ℕ) (u : AnswerUnit) (store : List ℕ) → access_verdict u 0 (length store) ≡ accepted → u.waiting ≡ 0 → emptied most u store ≡ u
 unfolding emptied
 none_left zero u store done none = refl
 none_left (suc most) u store done none =
     let few : u.waiting ≤ 0 = omega (arith, none) in rw (waiting-bit u store done, le-ltb 0 u.waiting few)
 
-next-left : (most : ℕ) (u : AnswerUnit) (store : List ℕ) → access_verdict u 0 (length store) ≡ Accepted → 0 < u.waiting
+next-left : (most : ℕ) (u : AnswerUnit) (store : List ℕ) → access_verdict u 0 (length store) ≡ accepted → 0 < u.waiting
     → emptied (suc most) u store ≡ emptied most (advance u) store
 unfolding emptied after_read
 next-left most u store done some =
     rw (waiting-bit u store done, done-read u store done 3 (omega arith), lt-ltb 0 u.waiting some)
 
-pub emptied-so : (most k : ℕ) (u : AnswerUnit) (store : List ℕ) → Sound u → access_verdict u 0 (length store) ≡ Accepted
+pub emptied-so : (most k : ℕ) (u : AnswerUnit) (store : List ℕ) → Sound u → access_verdict u 0 (length store) ≡ accepted
     → u.waiting ≡ k → k ≤ most → Emptied u (emptied most u store)
 emptied-so most zero u store sound done e low =
     rw (none_left most u store done e) (record { keeps = same u sound; held = refl; overrun = refl; none-waits = e })

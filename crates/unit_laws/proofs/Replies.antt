@@ -5,8 +5,8 @@ use mathlib.Core.List.{List, [], ◌∷◌, map}
 use Prim.Native.Nat.{ℕ, ◌≤◌}
 use native.Mathlib.Omega.{arith}
 use lib.ListN.{length}
-use Rattle.refusal.specs.declared.Verdict.TheVariants.{Accepted}
 use Rattle.calendar.specs.declared.Day.{Day}
+use Rattle.refusal.specs.Verdicts.{accepted}
 use Rattle.catalogue.specs.declared.Catalogue.{Catalogue}
 use Rattle.codes.specs.Codes.{scheme_of}
 use Rattle.server.specs.Answering.{answering}
@@ -29,7 +29,7 @@ module _ (c : Catalogue) (server : ℕ) (store : List ℕ) (value : ℕ) (no-res
   record Ready (u : AnswerUnit) : Type 0 where
     placed : Placed u
     idle : Idle u
-    done : access_verdict u 0 (length store) ≡ Accepted
+    done : access_verdict u 0 (length store) ≡ accepted
     of-catalogue : u.catalogue ≡ c
     of-server : u.server ≡ server
 
@@ -85,7 +85,7 @@ pub queries-answered : QueriesAnswered
 unfolding fresh
 queries-answered c server queries store value day buffer admitted long no-reset start-bit room =
     let sound = fresh-sound c server in
-    rw (set-up-by c server Accepted (sym admitted))
+    rw (set-up-by c server accepted (sym admitted))
     (all-replies c server store value no-reset start-bit day buffer room queries (fresh c server) (record {
       placed = sound.placed;
       idle = record { none-held = refl; no-overrun = refl; none-waits = refl };

@@ -6,13 +6,13 @@ use mathlib.Core.List.{List}
 use Prim.Native.Nat.{ℕ, ◌+◌, ◌≤◌}
 use native.Mathlib.Omega.{arith}
 use lib.ListN.{length}
-use Rattle.refusal.specs.declared.Verdict.TheVariants.{Accepted}
 use Rattle.answer_unit.specs.declared.AnswerUnit.{AnswerUnit}
 use Rattle.answer_unit.specs.Unit.{bit, weigh, waits}
 use Rattle.answer_unit.specs.Registers.{shown, access_verdict, read_by, read_register, line}
 use Rattle.answer_unit.proofs.Chains.{access-passed, access-accepted}
 use Rattle.answer_unit.proofs.Steps.{read-by}
 use Rattle.unit_laws.specs.Claims.{LineSeen}
+use Rattle.refusal.specs.Verdicts.{accepted}
 
 waiting-of : (w r o : Bool) → bit 1 (weigh w 1 + weigh r 2 + weigh o 4) ≡ w
 waiting-of true true true = refl
@@ -53,8 +53,8 @@ enable-of true = refl
 enable-of false = refl
 
 -- accessible at one register, accessible at all
-other-register : (u : AnswerUnit) (register other stored : ℕ) → other ≤ 5 → access_verdict u register stored ≡ Accepted
-    → access_verdict u other stored ≡ Accepted
+other-register : (u : AnswerUnit) (register other stored : ℕ) → other ≤ 5 → access_verdict u register stored ≡ accepted
+    → access_verdict u other stored ≡ accepted
 other-register u register other stored known done =
     let a = access-passed u register stored done in
     access-accepted u other stored (record {
@@ -65,15 +65,15 @@ other-register u register other stored known done =
       waiting-fits = a.waiting-fits;
     })
 
-pub first-register : (u : AnswerUnit) (register stored : ℕ) → access_verdict u register stored ≡ Accepted → access_verdict u 0 stored ≡ Accepted
+pub first-register : (u : AnswerUnit) (register stored : ℕ) → access_verdict u register stored ≡ accepted → access_verdict u 0 stored ≡ accepted
 first-register u register stored = other-register u register 0 stored (omega arith)
 
-module _ (u : AnswerUnit) (store : List ℕ) (done : access_verdict u 0 (length store) ≡ Accepted) where
-  pub any-register : (register : ℕ) → register ≤ 5 → access_verdict u register (length store) ≡ Accepted
+module _ (u : AnswerUnit) (store : List ℕ) (done : access_verdict u 0 (length store) ≡ accepted) where
+  pub any-register : (register : ℕ) → register ≤ 5 → access_verdict u register (length store) ≡ accepted
   any-register register known = other-register u 0 register (length store) known done
 
-  pub done-read : (register : ℕ) → register ≤ 5 → read_register u register store ≡ read_by u register Accepted
-  done-read register known = read-by u register store Accepted (sym (any-register register known))
+  pub done-read : (register : ℕ) → register ≤ 5 → read_register u register store ≡ read_by u register accepted
+  done-read register known = read-by u register store accepted (sym (any-register register known))
 
   pub waiting-bit : bit 1 (read_register u 1 store).byte ≡ waits u
   unfolding shown

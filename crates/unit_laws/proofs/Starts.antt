@@ -10,10 +10,9 @@ use native.Mathlib.Omega.{arith}
 use lib.ListN.{length, take}
 use borrow.Author.Tests.{lt-ltb, le-ltb}
 use Rattle.lists.specs.Parts.{cut}
-use Rattle.refusal.specs.declared.Verdict.TheVariants.{Accepted}
+use Rattle.std.specs.Prelude.{Ok, Err}
+use Rattle.refusal.specs.Verdicts.{accepted, Outcome}
 use Rattle.refusal.specs.Numbers.{refusal_of}
-use Rattle.refusal.specs.declared.Outcome.{Outcome}
-use Rattle.refusal.specs.declared.Outcome.TheVariants.{Value, Refused as NoValue}
 use Rattle.calendar.specs.Calendar.{no_day}
 use Rattle.codes.specs.Codes.{scheme_of}
 use Rattle.server.specs.Answering.{Answered, answering}
@@ -35,7 +34,7 @@ pub start-after : (u : AnswerUnit) (value : ℕ) (store : List ℕ) → Starts u
 unfolding after_write control
 start-after u value store s =
     let few : u.waiting ≤ 0 = omega (arith, s.none-waits) in
-    rw (write-by u 0 value store Accepted (sym s.done), s.no-reset, s.start-bit, le-ltb 0 u.waiting few)
+    rw (write-by u 0 value store accepted (sym s.done), s.no-reset, s.start-bit, le-ltb 0 u.waiting few)
 
 start-ended : (u : AnswerUnit) (store : List ℕ) → u.overrun ≡ false
     → start u store ≡ finished (ended_by u (answered_for u store).outcome (answered_for u store).buffer)
@@ -44,12 +43,12 @@ start-ended u store e = rw e
 
 -- ---- a unit whose start ended
 
-module _ (u : AnswerUnit) (store : List ℕ) (sound : Sound u) (done : access_verdict u 0 (length store) ≡ Accepted) (buffer : List ℕ) (long : length buffer ≡ 64)
+module _ (u : AnswerUnit) (store : List ℕ) (sound : Sound u) (done : access_verdict u 0 (length store) ≡ accepted) (buffer : List ℕ) (long : length buffer ≡ 64)
   where
     after-keeps : (outcome : Outcome) → Fits u.catalogue.symbol outcome → Keeps u (finished (ended_by u outcome buffer))
     after-keeps outcome fits = ended-keeps u sound buffer long outcome fits
 
-    accessible : (outcome : Outcome) → Fits u.catalogue.symbol outcome → access_verdict (finished (ended_by u outcome buffer)) 0 (length store) ≡ Accepted
+    accessible : (outcome : Outcome) → Fits u.catalogue.symbol outcome → access_verdict (finished (ended_by u outcome buffer)) 0 (length store) ≡ accepted
     accessible outcome fits = still-done u (finished (ended_by u outcome buffer)) (length store) (after-keeps outcome fits) done
 
     -- the whole answer, or none of it, is the first `size` bytes
@@ -58,10 +57,10 @@ module _ (u : AnswerUnit) (store : List ℕ) (sound : Sound u) (done : access_ve
 
     shows-ended : (outcome : Outcome) → Fits u.catalogue.symbol outcome
         → Shows (finished (ended_by u outcome buffer)) store (record { outcome = outcome; buffer = buffer })
-    shows-ended (Value size) fits =
-        let after = finished (ended_by u (Value size) buffer) in
-        let ok = accessible (Value size) fits in
-        let kept = (after-keeps (Value size) fits).sound in
+    shows-ended (Ok size) fits =
+        let after = finished (ended_by u (Ok size) buffer) in
+        let ok = accessible (Ok size) fits in
+        let kept = (after-keeps (Ok size) fits).sound in
         let S = u.catalogue.symbol in
         record {
           number = number_read after store ok;
@@ -71,15 +70,15 @@ module _ (u : AnswerUnit) (store : List ℕ) (sound : Sound u) (done : access_ve
           answer = λ most high.
               let few : size ≤ most = omega (arith, kept.waiting-fits, high) in read_out_lem most size after store kept ok refl few ∙ whole S size fits;
         }
-    shows-ended (NoValue refusal) fits =
-        let after = finished (ended_by u (NoValue refusal) buffer) in
-        let ok = accessible (NoValue refusal) fits in
+    shows-ended (Err refusal) fits =
+        let after = finished (ended_by u (Err refusal) buffer) in
+        let ok = accessible (Err refusal) fits in
         record {
           number = number_read after store ok;
           refused = refused-bit after store ok;
           flag = flag-read after store ok;
           no-overrun = overrun-bit after store ok;
-          answer = λ most high. read_out_lem most 0 after store (after-keeps (NoValue refusal) fits).sound ok refl (let w : 0 ≤ most = omega arith in w);
+          answer = λ most high. read_out_lem most 0 after store (after-keeps (Err refusal) fits).sound ok refl (let w : 0 ≤ most = omega arith in w);
         }
 
 -- what is shown goes by the outcome and the bytes written
@@ -108,9 +107,9 @@ start-answers u value store day buffer placed starts overrun room =
     (shows-ended lit store k.sound (still-done u lit (length store) k starts.done) given.buffer (kept ∙ placed.answer-places) given.outcome fits))
 
 abbrev refused_with : List ℕ → Answered
-refused_with buffer = record { outcome = NoValue (refusal_of 7); buffer = buffer }
+refused_with buffer = record { outcome = Err (refusal_of 7); buffer = buffer }
 
-start-over : (u : AnswerUnit) (store : List ℕ) → u.overrun ≡ true → start u store ≡ finished (ended_by u (NoValue (refusal_of 7)) u.answer)
+start-over : (u : AnswerUnit) (store : List ℕ) → u.overrun ≡ true → start u store ≡ finished (ended_by u (Err (refusal_of 7)) u.answer)
 unfolding start answer_of
 start-over u store e = rw e
 
@@ -119,9 +118,9 @@ overrun-is-seven u value store buffer placed starts overrun =
     let lit = with_line u (bit 2 value) u.flag in
     let k = lined u (sound-at u 0 (length store) placed starts.done) (bit 2 value) u.flag in
     rw (start-after u value store starts ∙ start-over lit store overrun)
-    (shows_same (finished (ended_by lit (NoValue (refusal_of 7)) u.answer)) store (refused_with u.answer) (refused_with buffer)
+    (shows_same (finished (ended_by lit (Err (refusal_of 7)) u.answer)) store (refused_with u.answer) (refused_with buffer)
     (record { outcome = refl; written = refl })
-    (shows-ended lit store k.sound (still-done u lit (length store) k starts.done) u.answer placed.answer-places (NoValue (refusal_of 7)) tt))
+    (shows-ended lit store k.sound (still-done u lit (length store) k starts.done) u.answer placed.answer-places (Err (refusal_of 7)) tt))
 
 pub start-empties : StartEmpties
 unfolding start
@@ -133,15 +132,15 @@ unfolding start answer_of
 start-enable u store = go u.overrun (answered_for u store).outcome
   where
     go : (over : Bool) (outcome : Outcome)
-        → (finished (cond over (ended_by u (NoValue (refusal_of 7)) u.answer) (ended_by u outcome (answered_for u store).buffer))).enable ≡ u.enable
+        → (finished (cond over (ended_by u (Err (refusal_of 7)) u.answer) (ended_by u outcome (answered_for u store).buffer))).enable ≡ u.enable
     go true outcome = refl
-    go false (Value size) = refl
-    go false (NoValue refusal) = refl
+    go false (Ok size) = refl
+    go false (Err refusal) = refl
 
 pub enable-stored : EnableStored
 unfolding after_write control
 enable-stored u value store done no-reset =
-    rw (write-by u 0 value store Accepted (sym done), no-reset) (go (bit 1 value && not (waits u)))
+    rw (write-by u 0 value store accepted (sym done), no-reset) (go (bit 1 value && not (waits u)))
   where
     go : (begin : Bool)
         → (cond begin (start (with_line u (bit 2 value) u.flag) store) (with_line u (bit 2 value) u.flag)).enable ≡ bit 2 value
@@ -151,7 +150,7 @@ enable-stored u value store done no-reset =
 pub start-ignored : StartIgnored
 unfolding after_write control
 start-ignored u value store done no-reset waits =
-    rw (write-by u 0 value store Accepted (sym done), no-reset, lt-ltb 0 u.waiting waits) (go (bit 1 value))
+    rw (write-by u 0 value store accepted (sym done), no-reset, lt-ltb 0 u.waiting waits) (go (bit 1 value))
   where
     go : (begin : Bool) → cond (begin && false) (start (with_line u (bit 2 value) u.flag) store) (with_line u (bit 2 value) u.flag)
         ≡ with_line u (bit 2 value) u.flag
@@ -162,4 +161,4 @@ pub reset-is-set-up : ResetIsSetUp
 unfolding after_write control
 reset-is-set-up u value store done reset =
     let a = access-passed u 0 (length store) done in
-    rw (write-by u 0 value store Accepted (sym done), set-up-by u.catalogue u.server Accepted (sym a.set-up), reset)
+    rw (write-by u 0 value store accepted (sym done), set-up-by u.catalogue u.server accepted (sym a.set-up), reset)

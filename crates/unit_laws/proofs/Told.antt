@@ -8,8 +8,8 @@ use native.Mathlib.Omega.{arith}
 use lib.Dec.{ltb, eqb}
 use lib.ListN.{length, set}
 use Rattle.lists.specs.Sums.{all_nil, all_cons}
-use Rattle.refusal.specs.declared.Verdict.TheVariants.{Accepted}
-use Rattle.refusal.specs.declared.Outcome.TheVariants.{Value, Refused as NoValue}
+use Rattle.std.specs.Prelude.{Ok, Err}
+use Rattle.refusal.specs.Verdicts.{accepted}
 use Rattle.refusal.specs.Chain.{refused}
 use Rattle.refusal.specs.Numbers.{refusal_of}
 use Rattle.calendar.specs.Calendar.{no_day}
@@ -31,17 +31,17 @@ use Rattle.unit_laws.proofs.Starts.{start-after}
 
 -- ---- a start
 
-module _ (u : AnswerUnit) (store : List ℕ) (placed : Placed u) (done : access_verdict u 0 (length store) ≡ Accepted) where
+module _ (u : AnswerUnit) (store : List ℕ) (placed : Placed u) (done : access_verdict u 0 (length store) ≡ accepted) where
   is-set-up : SetUp u.catalogue u.server
   is-set-up = set-up-passed u.catalogue u.server (access-passed u 0 (length store) done).set-up
 
   answered-value : (scheme_of u.catalogue).admits u.server (asked u) ≡ true
-      → (answered_for u store).outcome ≡ Value ((scheme_of u.catalogue).answer_length (asked u))
+      → (answered_for u store).outcome ≡ Ok ((scheme_of u.catalogue).answer_length (asked u))
   answered-value admits =
       let s = is-set-up in
       let small = length-small u.catalogue s.takes (asked u) in
       let room = answer-room u (length store) placed done in
-      let accepted = answer-accepted scheme_of u.catalogue no_day u.server (length store) (asked u) (length u.answer) (record {
+      let agrees = answer-accepted scheme_of u.catalogue no_day u.server (length store) (asked u) (length u.answer) (record {
         admitted = s.admitted;
         served = undated-served u.catalogue s.takes no_day;
         below = s.below;
@@ -49,9 +49,9 @@ module _ (u : AnswerUnit) (store : List ℕ) (placed : Placed u) (done : access_
         store_long = (access-passed u 0 (length store) done).store_long;
         roomy = let w : (scheme_of u.catalogue).answer_length (asked u) ≤ length u.answer = omega (arith, small, room) in w;
       }) in
-      rw (answer-by scheme_of u.catalogue no_day u.server store (asked u) u.answer Accepted (sym accepted))
+      rw (answer-by scheme_of u.catalogue no_day u.server store (asked u) u.answer accepted (sym agrees))
 
-  answered-seven : (scheme_of u.catalogue).admits u.server (asked u) ≡ false → (answered_for u store).outcome ≡ NoValue (refusal_of 7)
+  answered-seven : (scheme_of u.catalogue).admits u.server (asked u) ≡ false → (answered_for u store).outcome ≡ Err (refusal_of 7)
   answered-seven refuses =
       let s = is-set-up in
       let seven = query-refused scheme_of u.catalogue no_day u.server (length store) (asked u) (length u.answer) s.admitted
@@ -64,13 +64,13 @@ module _ (u : AnswerUnit) (store : List ℕ) (placed : Placed u) (done : access_
     where
       go : (over good : Bool) → (scheme_of u.catalogue).admits u.server (asked u) ≡ good
           → Told (finished
-          (cond over (ended_by u (NoValue (refusal_of 7)) u.answer) (ended_by u (answered_for u store).outcome (answered_for u store).buffer)))
+          (cond over (ended_by u (Err (refusal_of 7)) u.answer) (ended_by u (answered_for u store).outcome (answered_for u store).buffer)))
       go true good e = inr (refl, refl)
       go false true e = rw (answered-value e) (inl (refl, refl))
       go false false e = rw (answered-seven e) (inr (refl, refl))
 
 -- with bit 1 stored before it
-lit-told : (u : AnswerUnit) (store : List ℕ) (enable flag : Bool) → Placed u → access_verdict u 0 (length store) ≡ Accepted
+lit-told : (u : AnswerUnit) (store : List ℕ) (enable flag : Bool) → Placed u → access_verdict u 0 (length store) ≡ accepted
     → Told (start (with_line u enable flag) store)
 lit-told u store enable flag placed done =
     let k = lined u (sound-at u 0 (length store) placed done) enable flag in
@@ -107,7 +107,7 @@ module _ (u : AnswerUnit) (told : Told u) where
       go true = told
       go false = told
 
-  control-told : (value : ℕ) (store : List ℕ) → Placed u → access_verdict u 0 (length store) ≡ Accepted → Told (control u value store)
+  control-told : (value : ℕ) (store : List ℕ) → Placed u → access_verdict u 0 (length store) ≡ accepted → Told (control u value store)
   unfolding control fresh
   control-told value store placed done = go (bit 128 value) (bit 1 value && not (waits u))
     where
@@ -117,7 +117,7 @@ module _ (u : AnswerUnit) (told : Told u) where
       go false true = lit-told u store (bit 2 value) u.flag placed done
       go false false = told
 
-  write-told : Placed u → (register value : ℕ) (store : List ℕ) → access_verdict u register (length store) ≡ Accepted
+  write-told : Placed u → (register value : ℕ) (store : List ℕ) → access_verdict u register (length store) ≡ accepted
       → Told (after_write u register value store)
   unfolding after_write
   write-told placed register value store done =
@@ -136,4 +136,4 @@ run-told u (access ∷ accesses) sound told =
 pub always-told : AlwaysTold
 unfolding fresh
 always-told c server accesses admitted =
-    rw (set-up-by c server Accepted (sym admitted)) (run-told (fresh c server) accesses (fresh-sound c server) (inl (refl, refl)))
+    rw (set-up-by c server accepted (sym admitted)) (run-told (fresh c server) accesses (fresh-sound c server) (inl (refl, refl)))

@@ -8,8 +8,8 @@ use native.Mathlib.Omega.{arith}
 use lib.Dec.{leb}
 use lib.ListN.{length}
 use borrow.Author.Tests.{leb-true, leb-false, ne_eqb}
-use Rattle.refusal.specs.declared.Verdict.TheVariants.{Accepted}
-use Rattle.refusal.specs.declared.Outcome.TheVariants.{Refused as NoValue}
+use Rattle.std.specs.Prelude.{Err}
+use Rattle.refusal.specs.Verdicts.{accepted}
 use Rattle.refusal.specs.Chain.{refused}
 use Rattle.refusal.specs.Numbers.{refusal_of}
 use Rattle.parameters.proofs.Bounds.{short-bounds}
@@ -57,7 +57,7 @@ module _ (c : Catalogue) (server : ℕ) (s : SetUp c server) where
       rw (scheme-short c short, ne_eqb (length query) c.messages (λ e. omega (arith, e, long, few)))
 
   long-answer : (day : Day) (store query buffer : List ℕ) → 32 < length query
-      → answering scheme_of c day server store query buffer ≡ record { outcome = NoValue (refusal_of 7); buffer = buffer }
+      → answering scheme_of c day server store query buffer ≡ record { outcome = Err (refusal_of 7); buffer = buffer }
   long-answer day store query buffer long =
       answer-by scheme_of c day server store query buffer (refused 7)
       (query-refused scheme_of c day server (length store) query (length buffer) s.admitted (undated-served c s.takes day) s.below
@@ -102,7 +102,7 @@ query-answered u query store value day buffer placed idle done no-reset start-bi
     (shown u query store value day buffer idle no-reset start-bit room (run u (writing_all query store)) s w (leb (length query) 32) refl)
 
 -- it leaves no query behind
-pub asking-empties : (u : AnswerUnit) (query store : List ℕ) (value : ℕ) → Placed u → Idle u → access_verdict u 0 (length store) ≡ Accepted
+pub asking-empties : (u : AnswerUnit) (query store : List ℕ) (value : ℕ) → Placed u → Idle u → access_verdict u 0 (length store) ≡ accepted
     → bit 128 value ≡ false → bit 1 value ≡ true
     → let v = run u (asking query value store) in
     (v.held ≡ 0) × (v.overrun ≡ false)

@@ -9,7 +9,6 @@ use lib.Dec.{ltb}
 use lib.ListN.{length, set}
 use lib.Seq.{take-suc-set, append_snoc}
 use borrow.Author.Tests.{ltb-true, ltb-false, lt-ltb, le-ltb}
-use Rattle.refusal.specs.declared.Verdict.TheVariants.{Accepted}
 use Rattle.answer_unit.specs.declared.AnswerUnit.{AnswerUnit}
 use Rattle.answer_unit.specs.Unit.{with_query, asked}
 use Rattle.answer_unit.specs.Registers.{access_verdict, append, after_write, write_register}
@@ -18,6 +17,7 @@ use Rattle.unit_laws.specs.Runs.{Access, writing, run, Sound, writing_all}
 use Rattle.unit_laws.specs.Claims.{Keeps}
 use Rattle.unit_laws.proofs.Seen.{any-register}
 use Rattle.unit_laws.proofs.Kept.{same, chained, access-keeps, still-done}
+use Rattle.refusal.specs.Verdicts.{accepted}
 
 -- ---- one byte
 
@@ -62,7 +62,7 @@ module _ (u : AnswerUnit) (byte : ℕ) where
 
 pub record Wrote (store : List ℕ) (u : AnswerUnit) (bytes : List ℕ) (v : AnswerUnit) : Type 0 where
   pub keeps : Keeps u v
-  pub done : access_verdict v 0 (length store) ≡ Accepted
+  pub done : access_verdict v 0 (length store) ≡ accepted
   pub waiting : v.waiting ≡ u.waiting
   pub stays : u.overrun ≡ true → v.overrun ≡ true
   pub query : u.held + length bytes ≤ 32 → asked v ≡ asked u ++ bytes
@@ -70,14 +70,14 @@ pub record Wrote (store : List ℕ) (u : AnswerUnit) (bytes : List ℕ) (v : Ans
   pub beyond : 32 < u.held + length bytes → v.overrun ≡ true
 
 module _ (store : List ℕ) where
-  one : (u : AnswerUnit) (byte : ℕ) → access_verdict u 0 (length store) ≡ Accepted → (write_register u 2 byte store).unit ≡ append u byte
+  one : (u : AnswerUnit) (byte : ℕ) → access_verdict u 0 (length store) ≡ accepted → (write_register u 2 byte store).unit ≡ append u byte
   unfolding after_write
-  one u byte done = rw (write-by u 2 byte store Accepted (sym (any-register u store done 2 (omega arith))))
+  one u byte done = rw (write-by u 2 byte store accepted (sym (any-register u store done 2 (omega arith))))
 
-  one-keeps : (u : AnswerUnit) (byte : ℕ) → Sound u → access_verdict u 0 (length store) ≡ Accepted → Keeps u (append u byte)
+  one-keeps : (u : AnswerUnit) (byte : ℕ) → Sound u → access_verdict u 0 (length store) ≡ accepted → Keeps u (append u byte)
   one-keeps u byte sound done = rw (one u byte done) at (access-keeps u (writing 2 byte store) sound)
 
-  one-done : (u : AnswerUnit) (byte : ℕ) → Sound u → access_verdict u 0 (length store) ≡ Accepted → access_verdict (append u byte) 0 (length store) ≡ Accepted
+  one-done : (u : AnswerUnit) (byte : ℕ) → Sound u → access_verdict u 0 (length store) ≡ accepted → access_verdict (append u byte) 0 (length store) ≡ accepted
   one-done u byte sound done = still-done u (append u byte) (length store) (one-keeps u byte sound done) done
 
   past : (byte : ℕ) (bytes : List ℕ) (u v : AnswerUnit) → Wrote store (append u byte) bytes v → (room : Bool) → ltb u.held 32 ≡ room
@@ -89,7 +89,7 @@ module _ (store : List ℕ) where
       w.beyond over
   past byte bytes u v w false e h = w.stays (full-overrun u byte (ltb-false u.held 32 e))
 
-  more : (byte : ℕ) (bytes : List ℕ) (u : AnswerUnit) → Sound u → access_verdict u 0 (length store) ≡ Accepted → (v : AnswerUnit)
+  more : (byte : ℕ) (bytes : List ℕ) (u : AnswerUnit) → Sound u → access_verdict u 0 (length store) ≡ accepted → (v : AnswerUnit)
       → Wrote store (append u byte) bytes v → Wrote store u (byte ∷ bytes) v
   more byte bytes u sound done v w = record {
     keeps = chained u (append u byte) v (one-keeps u byte sound done) w.keeps;
@@ -109,7 +109,7 @@ module _ (store : List ℕ) where
     beyond = λ h. past byte bytes u v w (ltb u.held 32) refl h;
   }
 
-  none : (u : AnswerUnit) → Sound u → access_verdict u 0 (length store) ≡ Accepted → Wrote store u [] u
+  none : (u : AnswerUnit) → Sound u → access_verdict u 0 (length store) ≡ accepted → Wrote store u [] u
   none u sound done = record {
     keeps = same u sound;
     done = done;
@@ -124,12 +124,12 @@ module _ (store : List ℕ) where
   unfolding run
   run_none u = refl
 
-  run-byte : (u : AnswerUnit) (byte : ℕ) (rest : List Access) → access_verdict u 0 (length store) ≡ Accepted
+  run-byte : (u : AnswerUnit) (byte : ℕ) (rest : List Access) → access_verdict u 0 (length store) ≡ accepted
       → run u (writing 2 byte store ∷ rest) ≡ run (append u byte) rest
   unfolding run
   run-byte u byte rest done = ap (λ (v : AnswerUnit). run v rest) (one u byte done)
 
-  pub written : (bytes : List ℕ) (u : AnswerUnit) → Sound u → access_verdict u 0 (length store) ≡ Accepted
+  pub written : (bytes : List ℕ) (u : AnswerUnit) → Sound u → access_verdict u 0 (length store) ≡ accepted
       → Wrote store u bytes (run u (writing_all bytes store))
   written [] u sound done = rw (run_none u) (none u sound done)
   written (byte ∷ bytes) u sound done =

@@ -1,6 +1,6 @@
 -- The numbers that the answer unit can give, for every input (document 02, item 12).
 use Rattle.std.specs.Prelude.{true, false, List, [], ◌∷◌, ◌⊎◌, ◌≡◌, ℕ, ◌≤◌, ◌<◌}
-use Rattle.refusal.specs.declared.Verdict.TheVariants.{Accepted}
+use Rattle.refusal.specs.Verdicts.{accepted}
 use Rattle.refusal.specs.Chain.{refused}
 use Rattle.refusal.specs.Within.{Within}
 use Rattle.catalogue.specs.declared.Catalogue.{Catalogue}
@@ -34,4 +34,4 @@ OnlySeven = (u : AnswerUnit) (value : ℕ) (store : List ℕ) → Placed u → S
 
 -- after a set-up and any run of accesses the two agree
 abbrev pub AlwaysTold : Type 0
-AlwaysTold = (c : Catalogue) (server : ℕ) (accesses : List Access) → set_up_verdict c server ≡ Accepted → Told (run (set_up c server).unit accesses)
+AlwaysTold = (c : Catalogue) (server : ℕ) (accesses : List Access) → set_up_verdict c server ≡ accepted → Told (run (set_up c server).unit accesses)

@@ -7,8 +7,7 @@ use Prim.Native.Nat.{ℕ}
 use lib.ListN.{set}
 use Rattle.lists.specs.Below.{all_below}
 use Rattle.lists.specs.Ranges.{range, every}
-use Rattle.refusal.specs.declared.Verdict.{Verdict}
-use Rattle.refusal.specs.declared.Verdict.TheVariants.{Accepted}
+use Rattle.refusal.specs.Verdicts.{Verdict, accepted}
 use Rattle.refusal.specs.Chain.{refused}
 use Rattle.refusal.specs.Foremost.{foremost}
 use Rattle.parameters.specs.Bounds.{short_fits}
@@ -48,7 +47,7 @@ pub record Counted (f : Fetch) (verdicts : List Verdict) (meters : List Meter) :
   pub counts : map (λ (n : ℕ). meters_of scheme_of (cat Short 2 2 1) n f) (0 ∷ 1 ∷ 2 ∷ []) ≡ meters
 
 pub metered-run : Counted calls-made
-    (Accepted ∷ refused 9 ∷ Accepted ∷ Accepted ∷ refused 10 ∷ Accepted ∷ Accepted ∷ refused 11 ∷ [])
+    (accepted ∷ refused 9 ∷ accepted ∷ accepted ∷ refused 10 ∷ accepted ∷ accepted ∷ refused 11 ∷ [])
     (record { sent = 4; got = 0 } ∷ record { sent = 2; got = 1 } ∷ record { sent = 0; got = 0 } ∷ [])
 unfolding foremost all_below range every short_fits short_sizes is_none undated dates_fit no_lengths lengths_fit sizes_of catalogue_verdict digit_sum short_query
     short_answer_length scheme_of begin_verdict begin issue_verdict issue take_verdict take_answer no_marks marks_good no_bytes meters_good flat_map
@@ -70,19 +69,19 @@ pub record OneMore (bytes : ℕ) (to-1 to-0 : Verdict) : Type 0 where
   pub server-1 : issue_verdict scheme_of (metering bytes) no_day 1 3 ≡ to-1
   pub server-0 : issue_verdict scheme_of (metering bytes) no_day 0 3 ≡ to-0
 
-pub one_more : OneMore 4294967289 Accepted Accepted
+pub one_more : OneMore 4294967289 accepted accepted
 unfolding foremost all_below range every short_fits short_sizes is_none undated dates_fit no_lengths lengths_fit sizes_of catalogue_verdict digit_sum short_query
     short_answer_length scheme_of issue_verdict no_marks marks_good no_bytes meters_good flat_map
 one_more = record { server-1 = refl; server-0 = refl }
 
 -- the meter comes to 4,294,967,295
-pub to_the_end : OneMore 4294967292 Accepted Accepted
+pub to_the_end : OneMore 4294967292 accepted accepted
 unfolding foremost all_below range every short_fits short_sizes is_none undated dates_fit no_lengths lengths_fit sizes_of catalogue_verdict digit_sum short_query
     short_answer_length scheme_of issue_verdict no_marks marks_good no_bytes meters_good flat_map
 to_the_end = record { server-1 = refl; server-0 = refl }
 
 -- and is full; server 0's is not
-pub full : OneMore 4294967295 (refused 16) Accepted
+pub full : OneMore 4294967295 (refused 16) accepted
 unfolding foremost all_below range every short_fits short_sizes is_none undated dates_fit no_lengths lengths_fit sizes_of catalogue_verdict digit_sum short_query
     short_answer_length scheme_of issue_verdict no_marks marks_good no_bytes meters_good flat_map
 full = record { server-1 = refl; server-0 = refl }

@@ -6,7 +6,7 @@ use Rattle.lists.specs.Below.{all_below}
 use Rattle.lists.specs.Distinct.{stands, distinct, is_permutation}
 use Rattle.lists.specs.Ranges.{range, every}
 use Rattle.lists.specs.Sums.{sum, All, all_nil, all_cons}
-use Rattle.refusal.specs.declared.Outcome.TheVariants.{Value}
+use Rattle.std.specs.Prelude.{Ok}
 use Rattle.refusal.specs.Foremost.{foremost}
 use Rattle.parameters.specs.Bounds.{round_fits}
 use Rattle.parameters.specs.Measures.{round_sizes}
@@ -58,8 +58,8 @@ pub table-four : Run (cat Round 2 2 1) letters (record {
   calls = issuing 0 no_day (9 ∷ 9 ∷ 9 ∷ 9 ∷ []) no_day (9 ∷ 9 ∷ []) ∷ issuing 1 no_day (9 ∷ 9 ∷ 9 ∷ 9 ∷ []) no_day (9 ∷ 9 ∷ []) ∷ taking 0 (10 ∷ [])
       ∷ taking 1 (1 ∷ 8 ∷ []) ∷ recovering (9 ∷ 9 ∷ 9 ∷ []) ∷ [];
 })
-    (asked (0 ∷ 0 ∷ 1 ∷ 1 ∷ []) (Value 1) (10 ∷ []) ∷ [])
-    (asked (1 ∷ 0 ∷ 0 ∷ 1 ∷ []) (Value 2) (1 ∷ 8 ∷ []) ∷ [])
+    (asked (0 ∷ 0 ∷ 1 ∷ 1 ∷ []) (Ok 1) (10 ∷ []) ∷ [])
+    (asked (1 ∷ 0 ∷ 0 ∷ 1 ∷ []) (Ok 2) (1 ∷ 8 ∷ []) ∷ [])
     ((0 ∷ 0 ∷ 1 ∷ 1 ∷ []) ∷ (1 ∷ 0 ∷ 0 ∷ 1 ∷ []) ∷ [] ∷ [] ∷ (1 ∷ 2 ∷ 9 ∷ []) ∷ [])
 unfolding foremost all_below stands distinct is_permutation range every sum round_fits round_sizes total total_from xor_bytes answers_in is_none undated dates_fit
     no_lengths lengths_fit length_of sizes_of catalogue_verdict digit_sum short_query short_admits short_answer_length named or_zeros recovered short_recover digits number

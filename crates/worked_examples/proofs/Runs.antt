@@ -10,7 +10,7 @@ use Rattle.lists.specs.Below.{all_below}
 use Rattle.lists.specs.Distinct.{stands}
 use Rattle.lists.specs.Padded.{padded}
 use Rattle.lists.specs.Ranges.{range, every}
-use Rattle.refusal.specs.declared.Outcome.TheVariants.{Value, Refused as NoValue}
+use Rattle.std.specs.Prelude.{Ok, Err}
 use Rattle.refusal.specs.Numbers.{refusal_of}
 use Rattle.refusal.specs.Foremost.{foremost}
 use Rattle.parameters.specs.Bounds.{short_fits}
@@ -65,8 +65,8 @@ pub record Run (c : Catalogue) (store : List ℕ) (f : Fetch) (to-0 to-1 : List 
 
 -- B2: key 1
 pub b2 : Run small store (any_day 1 (153 ∷ []) (195 ∷ []))
-    (asked (1 ∷ 1 ∷ []) (Value 1) (153 ∷ []) ∷ [])
-    (asked (0 ∷ 1 ∷ []) (Value 1) (195 ∷ []) ∷ [])
+    (asked (1 ∷ 1 ∷ []) (Ok 1) (153 ∷ []) ∷ [])
+    (asked (0 ∷ 1 ∷ []) (Ok 1) (195 ∷ []) ∷ [])
     ((1 ∷ 1 ∷ []) ∷ (0 ∷ 1 ∷ []) ∷ [] ∷ [] ∷ (90 ∷ 9 ∷ []) ∷ [])
 unfolding foremost all_below range every short_fits short_sizes
     total total_from xor_bytes answers_in is_none undated dates_fit no_lengths lengths_fit length_of sizes_of catalogue_verdict digit_sum short_query
@@ -77,8 +77,8 @@ b2 = record { server-0 = refl; server-1 = refl; buffers = refl }
 
 -- B3: key 0. Server 0 gets the row of zeros and answers with no bytes
 pub b3 : Run small store (any_day 0 [] (90 ∷ []))
-    (asked (0 ∷ 0 ∷ []) (Value 0) [] ∷ [])
-    (asked (1 ∷ 0 ∷ []) (Value 1) (90 ∷ []) ∷ [])
+    (asked (0 ∷ 0 ∷ []) (Ok 0) [] ∷ [])
+    (asked (1 ∷ 0 ∷ []) (Ok 1) (90 ∷ []) ∷ [])
     ((0 ∷ 0 ∷ []) ∷ (1 ∷ 0 ∷ []) ∷ [] ∷ [] ∷ (90 ∷ 9 ∷ []) ∷ [])
 unfolding foremost all_below range every short_fits short_sizes
     total total_from xor_bytes answers_in is_none undated dates_fit no_lengths lengths_fit length_of sizes_of catalogue_verdict digit_sum short_query
@@ -98,8 +98,8 @@ pub b3-turned : Run turning store (record {
   calls = issuing 0 no_day (0 ∷ 0 ∷ []) no_day (0 ∷ []) ∷ issuing 1 no_day (0 ∷ 0 ∷ []) no_day (0 ∷ []) ∷ taking 0 (90 ∷ []) ∷ taking 1 []
       ∷ recovering (9 ∷ 9 ∷ []) ∷ [];
 })
-    (asked (1 ∷ 0 ∷ []) (Value 1) (90 ∷ []) ∷ [])
-    (asked (0 ∷ 0 ∷ []) (Value 0) [] ∷ [])
+    (asked (1 ∷ 0 ∷ []) (Ok 1) (90 ∷ []) ∷ [])
+    (asked (0 ∷ 0 ∷ []) (Ok 0) [] ∷ [])
     ((1 ∷ 0 ∷ []) ∷ (0 ∷ 0 ∷ []) ∷ [] ∷ [] ∷ (90 ∷ 9 ∷ []) ∷ [])
 unfolding foremost all_below range every short_fits short_sizes turn_sizes
     total total_from xor_bytes answers_in is_none undated dates_fit no_lengths lengths_fit length_of sizes_of catalogue_verdict digit_sum short_query
@@ -123,8 +123,8 @@ pub added : Run adding words (record {
   calls = issuing 0 no_day (0 ∷ 0 ∷ []) no_day (0 ∷ 0 ∷ []) ∷ issuing 1 no_day (0 ∷ 0 ∷ []) no_day (0 ∷ 0 ∷ []) ∷ taking 0 (0 ∷ 1 ∷ []) ∷ taking 1 (1 ∷ 0 ∷ [])
       ∷ recovering (9 ∷ 9 ∷ 9 ∷ []) ∷ [];
 })
-    (asked (1 ∷ 1 ∷ []) (Value 2) (0 ∷ 1 ∷ []) ∷ [])
-    (asked (0 ∷ 1 ∷ []) (Value 2) (1 ∷ 0 ∷ []) ∷ [])
+    (asked (1 ∷ 1 ∷ []) (Ok 2) (0 ∷ 1 ∷ []) ∷ [])
+    (asked (0 ∷ 1 ∷ []) (Ok 2) (1 ∷ 0 ∷ []) ∷ [])
     ((1 ∷ 1 ∷ []) ∷ (0 ∷ 1 ∷ []) ∷ [] ∷ [] ∷ (255 ∷ 0 ∷ 9 ∷ []) ∷ [])
 unfolding foremost all_below range every short_fits short_sizes
     total total_from on_words answers_in is_none undated dates_fit no_lengths lengths_fit length_of sizes_of catalogue_verdict digit_sum short_query
@@ -152,8 +152,8 @@ seasonal = record {
 
 -- B2 in season: server 0 is asked on the opening day and answers on the last day, server 1 the other way round
 pub in-season : Run seasonal store (fetch (on 2096 2 29) (on 2096 3 1) (on 2096 3 1) (on 2096 2 29) 1 (153 ∷ []) (195 ∷ []))
-    (asked (1 ∷ 1 ∷ []) (Value 1) (153 ∷ []) ∷ [])
-    (asked (0 ∷ 1 ∷ []) (Value 1) (195 ∷ []) ∷ [])
+    (asked (1 ∷ 1 ∷ []) (Ok 1) (153 ∷ []) ∷ [])
+    (asked (0 ∷ 1 ∷ []) (Ok 1) (195 ∷ []) ∷ [])
     ((1 ∷ 1 ∷ []) ∷ (0 ∷ 1 ∷ []) ∷ [] ∷ [] ∷ (90 ∷ 9 ∷ []) ∷ [])
 unfolding stands foremost all_below range every short_fits short_sizes
     total total_from xor_bytes answers_in leap_year days_in real_day before in_season is_none undated dates_fit
@@ -166,7 +166,7 @@ in-season = record { server-0 = refl; server-1 = refl; buffers = refl }
 -- the same fetch where server 0 is asked on the last day and answers on the closing day, and server 1 is asked on a day that is not real: server 0
 -- refuses by 14, the second issue is refused by 13, and nothing is recovered
 pub out-of-season : Run seasonal store (fetch (on 2096 3 1) (on 2096 3 2) (on 2096 2 30) (on 2096 2 29) 1 (153 ∷ []) (195 ∷ []))
-    (asked (1 ∷ 1 ∷ []) (NoValue (refusal_of 14)) [] ∷ [])
+    (asked (1 ∷ 1 ∷ []) (Err (refusal_of 14)) [] ∷ [])
     (refused (refusal_of 13) ∷ [])
     ((1 ∷ 1 ∷ []) ∷ (0 ∷ 0 ∷ []) ∷ [] ∷ [] ∷ (9 ∷ 9 ∷ []) ∷ [])
 unfolding stands foremost all_below range every short_fits short_sizes
@@ -200,8 +200,8 @@ pub cut_short : Run measured words (record {
   calls = issuing 0 no_day (0 ∷ 0 ∷ []) no_day (0 ∷ 0 ∷ []) ∷ issuing 1 no_day (0 ∷ 0 ∷ []) no_day (0 ∷ 0 ∷ []) ∷ taking 0 (0 ∷ 1 ∷ []) ∷ taking 1 (1 ∷ 0 ∷ [])
       ∷ recovering (9 ∷ []) ∷ recovering (9 ∷ 9 ∷ 9 ∷ []) ∷ [];
 })
-    (asked (1 ∷ 1 ∷ []) (Value 2) (0 ∷ 1 ∷ []) ∷ [])
-    (asked (0 ∷ 1 ∷ []) (Value 2) (1 ∷ 0 ∷ []) ∷ [])
+    (asked (1 ∷ 1 ∷ []) (Ok 2) (0 ∷ 1 ∷ []) ∷ [])
+    (asked (0 ∷ 1 ∷ []) (Ok 2) (1 ∷ 0 ∷ []) ∷ [])
     ((1 ∷ 1 ∷ []) ∷ (0 ∷ 1 ∷ []) ∷ [] ∷ [] ∷ (255 ∷ []) ∷ (255 ∷ 9 ∷ 9 ∷ []) ∷ [])
 unfolding foremost all_below range every short_fits short_sizes
     total total_from on_words answers_in is_none undated dates_fit lengths_fit length_of sizes_of catalogue_verdict digit_sum short_query

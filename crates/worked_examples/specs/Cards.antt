@@ -1,12 +1,9 @@
 -- The bench cards B1 to B12 of document 01, as one table (`cards`): what each says of the published rules, and the bytes and numbers that it
 -- prints. B11 and B12 have one message, and show the number of document 02, item 9.
-use Rattle.std.specs.Prelude.{◌≡◌, List, [], ◌∷◌, ◌++◌, map, ℕ, length}
+use Rattle.std.specs.Prelude.{◌≡◌, List, [], ◌∷◌, ◌++◌, map, ℕ, length, Ok, Err}
 use Rattle.lists.specs.Ascii.{ascii}
 use Rattle.lists.specs.Ranges.{range}
-use Rattle.refusal.specs.declared.Verdict.{Verdict}
-use Rattle.refusal.specs.declared.Verdict.TheVariants.{Accepted}
-use Rattle.refusal.specs.declared.Outcome.{Outcome}
-use Rattle.refusal.specs.declared.Outcome.TheVariants.{Value, Refused as NoValue}
+use Rattle.refusal.specs.Verdicts.{accepted, Verdict, Outcome}
 use Rattle.refusal.specs.Numbers.{refusal_of}
 use Rattle.refusal.specs.Chain.{refused}
 use Rattle.parameters.specs.Measures.{even_rows}
@@ -83,9 +80,9 @@ cards =
     ∷ asks (cat Short 2 2 1) 0 (0 ∷ []) ((0 ∷ 0 ∷ []) ∷ (1 ∷ 0 ∷ []) ∷ [])
     ∷ recovers (cat Short 2 2 1) pair 0 (0 ∷ []) ([] ∷ (90 ∷ []) ∷ []) (90 ∷ [])
     -- B4, B5, B6
-    ∷ answers (cat Short 3 3 4) 0 filled (0 ∷ 0 ∷ 1 ∷ []) (NoValue (refusal_of 7))
-    ∷ answers (cat Short 3 3 4) 0 filled (0 ∷ 1 ∷ 3 ∷ []) (NoValue (refusal_of 7))
-    ∷ answers (cat Short 3 3 4) 0 filled (0 ∷ 0 ∷ 0 ∷ []) (Value 0)
+    ∷ answers (cat Short 3 3 4) 0 filled (0 ∷ 0 ∷ 1 ∷ []) (Err (refusal_of 7))
+    ∷ answers (cat Short 3 3 4) 0 filled (0 ∷ 1 ∷ 3 ∷ []) (Err (refusal_of 7))
+    ∷ answers (cat Short 3 3 4) 0 filled (0 ∷ 0 ∷ 0 ∷ []) (Ok 0)
     -- B7
     ∷ asks (cat Even 2 2 1) 0 identities ((0 ∷ 0 ∷ 2 ∷ 1 ∷ []) ∷ (1 ∷ 1 ∷ 3 ∷ 0 ∷ []) ∷ [])
     -- B8
@@ -95,7 +92,7 @@ cards =
     ∷ rows 2 8 255
     ∷ rows 16 2 17
     -- B10
-    ∷ judges (cat Even 2 8 1) Accepted
+    ∷ judges (cat Even 2 8 1) accepted
     ∷ judges (cat Even 2 9 1) (refused 2)
     -- B11, at begin and in the printer
     ∷ begins (cat Short 2 1 1) 0 [] (refused 17)

@@ -1,9 +1,8 @@
 -- The round code worked out by hand, as one table (`rounds`): source 000's example of section V-D, its Table IV, and what document 02, item 8, says of keys,
 -- rows and bounds. Table IV lists a server's symbols without their order; here they stand in the order of the blocks.
-use Rattle.std.specs.Prelude.{List, [], ◌∷◌, ℕ}
+use Rattle.std.specs.Prelude.{List, [], ◌∷◌, ℕ, Err}
 use Rattle.lists.specs.Ascii.{ascii}
-use Rattle.refusal.specs.declared.Verdict.TheVariants.{Accepted}
-use Rattle.refusal.specs.declared.Outcome.TheVariants.{Refused as NoValue}
+use Rattle.refusal.specs.Verdicts.{accepted}
 use Rattle.refusal.specs.Numbers.{refusal_of}
 use Rattle.refusal.specs.Chain.{refused}
 use Rattle.catalogue.specs.declared.Code.TheVariants.{Round}
@@ -28,19 +27,19 @@ rounds =
     ∷ prints (ascii "code=round\nmirrors=2\npacks=3\npiece=4\nwanted=1\nkey=2 0 3 1\n")
     (ascii "mirror=0 request=1 1 0 0 0 0 1 0 1 0 1 1\nmirror=1 request=1 0 0 0 1 0 1 1 1 0 0 1\n")
     -- a row twice, a row of the other server's set, a digit N, a digit too few
-    ∷ answers (cat Round 2 2 1) 0 letters (1 ∷ 1 ∷ 1 ∷ 1 ∷ []) (NoValue (refusal_of 7))
-    ∷ answers (cat Round 2 2 1) 0 letters (1 ∷ 1 ∷ 0 ∷ 1 ∷ []) (NoValue (refusal_of 7))
-    ∷ answers (cat Round 2 2 1) 0 letters (0 ∷ 0 ∷ 0 ∷ 2 ∷ []) (NoValue (refusal_of 7))
-    ∷ answers (cat Round 2 2 1) 0 letters (0 ∷ 0 ∷ 1 ∷ []) (NoValue (refusal_of 7))
+    ∷ answers (cat Round 2 2 1) 0 letters (1 ∷ 1 ∷ 1 ∷ 1 ∷ []) (Err (refusal_of 7))
+    ∷ answers (cat Round 2 2 1) 0 letters (1 ∷ 1 ∷ 0 ∷ 1 ∷ []) (Err (refusal_of 7))
+    ∷ answers (cat Round 2 2 1) 0 letters (0 ∷ 0 ∷ 0 ∷ 2 ∷ []) (Err (refusal_of 7))
+    ∷ answers (cat Round 2 2 1) 0 letters (0 ∷ 0 ∷ 1 ∷ []) (Err (refusal_of 7))
     -- a key is a permutation of as many numbers as there are blocks
-    ∷ begins (cat Round 2 2 1) 0 (1 ∷ 0 ∷ []) Accepted
+    ∷ begins (cat Round 2 2 1) 0 (1 ∷ 0 ∷ []) accepted
     ∷ begins (cat Round 2 2 1) 0 (0 ∷ 0 ∷ []) (refused 6)
     ∷ begins (cat Round 2 2 1) 0 (0 ∷ 2 ∷ []) (refused 6)
     ∷ begins (cat Round 2 2 1) 0 (0 ∷ []) (refused 5)
     -- 64 blocks, and more; one message
-    ∷ judges (cat Round 2 7 1) Accepted
+    ∷ judges (cat Round 2 7 1) accepted
     ∷ judges (cat Round 2 8 1) (refused 2)
-    ∷ judges (cat Round 8 3 1) Accepted
+    ∷ judges (cat Round 8 3 1) accepted
     ∷ judges (cat Round 9 3 1) (refused 2)
     ∷ judges (cat Round 2 1 1) (refused 17)
     ∷ []

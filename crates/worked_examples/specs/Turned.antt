@@ -1,8 +1,7 @@
 -- Bench cards B1, B3, B5 and B6 of document 01 with a turn, worked out by hand from document 02, item 4, as one table (`turned`): the rows and the
 -- empty answer go to other servers.
-use Rattle.std.specs.Prelude.{List, [], ◌∷◌}
+use Rattle.std.specs.Prelude.{List, [], ◌∷◌, Ok, Err}
 use Rattle.lists.specs.Ascii.{ascii}
-use Rattle.refusal.specs.declared.Outcome.TheVariants.{Value, Refused as NoValue}
 use Rattle.refusal.specs.Numbers.{refusal_of}
 use Rattle.refusal.specs.Chain.{refused}
 use Rattle.catalogue.specs.declared.Code.TheVariants.{Turn}
@@ -19,10 +18,10 @@ turned =
     -- B3 with turn 1: it is server 1 that answers with no bytes
     ∷ recovers (cat Turn 2 2 1) pair 0 (0 ∷ 1 ∷ []) ((90 ∷ []) ∷ [] ∷ []) (90 ∷ [])
     -- B5: a digit 3 is refused; B6: the row of zeros is answered with no bytes by each server
-    ∷ answers (cat Turn 3 3 4) 1 filled (0 ∷ 1 ∷ 3 ∷ []) (NoValue (refusal_of 7))
-    ∷ answers (cat Turn 3 3 4) 0 filled (0 ∷ 0 ∷ 0 ∷ []) (Value 0)
-    ∷ answers (cat Turn 3 3 4) 1 filled (0 ∷ 0 ∷ 0 ∷ []) (Value 0)
-    ∷ answers (cat Turn 3 3 4) 2 filled (0 ∷ 0 ∷ 0 ∷ []) (Value 0)
+    ∷ answers (cat Turn 3 3 4) 1 filled (0 ∷ 1 ∷ 3 ∷ []) (Err (refusal_of 7))
+    ∷ answers (cat Turn 3 3 4) 0 filled (0 ∷ 0 ∷ 0 ∷ []) (Ok 0)
+    ∷ answers (cat Turn 3 3 4) 1 filled (0 ∷ 0 ∷ 0 ∷ []) (Ok 0)
+    ∷ answers (cat Turn 3 3 4) 2 filled (0 ∷ 0 ∷ 0 ∷ []) (Ok 0)
     -- B1's own key has a digit too few, and a turn of N is no digit
     ∷ begins (cat Turn 3 3 4) 1 (2 ∷ 0 ∷ []) (refused 5)
     ∷ begins (cat Turn 3 3 4) 1 (2 ∷ 0 ∷ 3 ∷ []) (refused 6)

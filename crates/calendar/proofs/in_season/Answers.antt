@@ -1,12 +1,9 @@
--- `calendar::in_season` meets its contract: each test is a part of the rule.
-use mathlib.Core.Path.{sym, ◌∙◌}
-use Rattle.calendar.specs.Calendar.{in_season}
+-- `calendar::in_season` meets its contract: the order of days is that of their numbers.
+use Rattle.std.proofs.Common.{arith}
+use Rattle.std.proofs.lemmas.Bool.Decides.{nat_tests}
+use Rattle.calendar.specs.Calendar.{before, in_season}
 use Rattle.calendar.proofs.in_season.Goals as goal
 
-pub returns-then-is_before : goal.returns-then-is_before
-unfolding in_season
-returns-then-is_before c = simp (sym c.is_before.ensures ∙ c.if-is_before.true)
-
-pub returns : goal.returns
-unfolding in_season
-returns c = simp (sym c.is_before.ensures ∙ c.if-is_before.false, sym c.is_before-2.ensures)
+pub returns-then-le : goal.returns-then-le
+unfolding in_season before
+returns-then-le c = grind (arith, nat_tests)

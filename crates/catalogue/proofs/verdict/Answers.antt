@@ -1,6 +1,6 @@
 -- `catalogue::verdict` meets its contract: the chain's links are the test of the bounds, then that of a single message, then that of an odd symbol.
 use mathlib.Core.Path.{◌≡◌, sym, ◌∙◌}
-use mathlib.Core.Bool.{Bool, true, false, not}
+use mathlib.Core.Bool.{true, false}
 use borrow.Author.Tests.{eq-eqb, ne_eqb, not-true, not-false}
 use lib.Dec.{eqb}
 use Rattle.catalogue.specs.Catalogue.{in_bounds}

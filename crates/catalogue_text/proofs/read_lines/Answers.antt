@@ -3,15 +3,15 @@ use mathlib.Core.Path.{sym, ◌∙◌}
 use Rattle.catalogue_text.proofs.Faults.{lines-is}
 use Rattle.catalogue_text.proofs.read_lines.Goals as goal
 
-pub returns-in-Refused : goal.returns-in-Refused
-returns-in-Refused c = c.refused.ensures ∙ sym (lines-is _ ∙ simp (sym c.catalogue_lines-found.ensures, c.in-Refused.is))
+pub returns-in-Err : goal.returns-in-Err
+returns-in-Err c = c.refused.ensures ∙ sym (lines-is _ ∙ simp (sym c.catalogue_lines-found.ensures, c.in-Err.is))
 
-pub returns-in-Refused-verdict : goal.returns-in-Refused-verdict
-returns-in-Refused-verdict c = c.refused-in-Refused-verdict.ensures
+pub returns-in-Err-verdict : goal.returns-in-Err-verdict
+returns-in-Err-verdict c = c.refused-in-Err-verdict.ensures
     ∙ sym (lines-is _ ∙ simp (
       sym c.catalogue_lines-found.ensures,
       c.in_default.is,
-      sym c.verdict.ensures ∙ c.in-Refused-verdict.is,
+      sym c.verdict.ensures ∙ c.in-Err-verdict.is,
     ))
 
 pub returns : goal.returns

@@ -1,5 +1,4 @@
 -- `codes::query` meets its contract: a valid key of the catalogue's code is what that code's query asks for.
-use Prim.Native.Nat.{◌-◌}
 use native.Mathlib.Omega.{arith}
 use Rattle.parameters.specs.Measures.{short_sizes, even_sizes, turn_sizes, round_sizes}
 use Rattle.parameters.proofs.Bounds.{short-bounds, even-bounds}

@@ -1,16 +1,16 @@
 -- `correction::place_of` meets its contract: an admitted catalogue is measured, and its sizes are its scheme's.
-use mathlib.Core.Path.{◌≡◌, sym, ap, ◌∙◌}
+use mathlib.Core.Path.{◌≡◌, ap}
 use Prim.Native.Nat.{ℕ, ◌+◌, ◌*◌, ◌^◌, ◌≤◌, ◌<◌}
 use native.Mathlib.Nat.{le-mul_of_pos_right}
 use native.Mathlib.Omega.{arith}
+use Rattle.std.proofs.Common.{rules}
 use Rattle.lists.proofs.Cuts.{slot-end}
 use Rattle.parameters.specs.declared.Sizes.{Sizes}
-use Rattle.refusal.proofs.Chain.{not-refused}
 use Rattle.catalogue.specs.declared.Catalogue.{Catalogue}
 use Rattle.catalogue.specs.Catalogue.{Admitted}
 use Rattle.catalogue.proofs.Admitted.{admitted-numbers, admitted-small}
 use Rattle.codes.specs.Codes.{scheme_of}
-use Rattle.codes.proofs.Measured.{measured, unmeasured}
+use Rattle.codes.proofs.Measured.{measured, measured-admitted}
 use Rattle.codes.proofs.Promises.{scheme-sizes}
 use Rattle.correction.specs.declared.Edit.{Edit}
 use Rattle.correction.specs.Correction.{EditIn}
@@ -44,45 +44,43 @@ way c e a i sizes same =
       place = omega (arith, last, store, i.byte-in);
     })
 
-pub returns-in_default : goal.returns-in_default
-returns-in_default c = let from = c.sizes in
-    not-refused c.in_default.field-0
-    (sym (unmeasured c.args.c c.sizes.result _ c.sizes.ensures c.in_default.is) ∙ c.requires.admitted)
+pub unwrap-sizes-requires : goal.unwrap-sizes-requires
+unwrap-sizes-requires c = search (rules, measured-admitted c.args.c c.requires.admitted)
 
 pub overflow_mul-result : goal.overflow_mul-result
-overflow_mul-result c = let sized : c.in-Of.sizes ≡ (scheme_of c.args.c).sizes =
-    (measured c.args.c c.sizes.result c.in-Of.sizes c.sizes.ensures c.in-Of.is).1 in
+overflow_mul-result c = let sized : c.unwrap-sizes.result ≡ (scheme_of c.args.c).sizes =
+    (measured c.args.c c.sizes.result c.unwrap-sizes.result c.sizes.ensures c.unwrap-sizes.ensures).1 in
     let on-way : let a = c.args in
-    Way c.in-Of.sizes.symbols a.c.symbol a.edit.message a.edit.symbol a.edit.byte =
-    way c.args.c c.args.edit c.requires.admitted c.requires.edit_in c.in-Of.sizes (sized) in
+    Way c.unwrap-sizes.result.symbols a.c.symbol a.edit.message a.edit.symbol a.edit.byte =
+    way c.args.c c.args.edit c.requires.admitted c.requires.edit_in c.unwrap-sizes.result (sized) in
     omega (arith, (on-way).first)
 
 pub overflow_add-result : goal.overflow_add-result
-overflow_add-result c = let sized : c.in-Of.sizes ≡ (scheme_of c.args.c).sizes =
-    (measured c.args.c c.sizes.result c.in-Of.sizes c.sizes.ensures c.in-Of.is).1 in
+overflow_add-result c = let sized : c.unwrap-sizes.result ≡ (scheme_of c.args.c).sizes =
+    (measured c.args.c c.sizes.result c.unwrap-sizes.result c.sizes.ensures c.unwrap-sizes.ensures).1 in
     let on-way : let a = c.args in
-    Way c.in-Of.sizes.symbols a.c.symbol a.edit.message a.edit.symbol a.edit.byte =
-    way c.args.c c.args.edit c.requires.admitted c.requires.edit_in c.in-Of.sizes (sized) in
+    Way c.unwrap-sizes.result.symbols a.c.symbol a.edit.message a.edit.symbol a.edit.byte =
+    way c.args.c c.args.edit c.requires.admitted c.requires.edit_in c.unwrap-sizes.result (sized) in
     omega (arith, (on-way).number)
 
 pub overflow_mul-result-2 : goal.overflow_mul-result-2
-overflow_mul-result-2 c = let sized : c.in-Of.sizes ≡ (scheme_of c.args.c).sizes =
-    (measured c.args.c c.sizes.result c.in-Of.sizes c.sizes.ensures c.in-Of.is).1 in
+overflow_mul-result-2 c = let sized : c.unwrap-sizes.result ≡ (scheme_of c.args.c).sizes =
+    (measured c.args.c c.sizes.result c.unwrap-sizes.result c.sizes.ensures c.unwrap-sizes.ensures).1 in
     let on-way : let a = c.args in
-    Way c.in-Of.sizes.symbols a.c.symbol a.edit.message a.edit.symbol a.edit.byte =
-    way c.args.c c.args.edit c.requires.admitted c.requires.edit_in c.in-Of.sizes (sized) in
+    Way c.unwrap-sizes.result.symbols a.c.symbol a.edit.message a.edit.symbol a.edit.byte =
+    way c.args.c c.args.edit c.requires.admitted c.requires.edit_in c.unwrap-sizes.result (sized) in
     omega (arith, (on-way).begins)
 
 pub overflow_add-result-2 : goal.overflow_add-result-2
-overflow_add-result-2 c = let sized : c.in-Of.sizes ≡ (scheme_of c.args.c).sizes =
-    (measured c.args.c c.sizes.result c.in-Of.sizes c.sizes.ensures c.in-Of.is).1 in
+overflow_add-result-2 c = let sized : c.unwrap-sizes.result ≡ (scheme_of c.args.c).sizes =
+    (measured c.args.c c.sizes.result c.unwrap-sizes.result c.sizes.ensures c.unwrap-sizes.ensures).1 in
     let on-way : let a = c.args in
-    Way c.in-Of.sizes.symbols a.c.symbol a.edit.message a.edit.symbol a.edit.byte =
-    way c.args.c c.args.edit c.requires.admitted c.requires.edit_in c.in-Of.sizes (sized) in
+    Way c.unwrap-sizes.result.symbols a.c.symbol a.edit.message a.edit.symbol a.edit.byte =
+    way c.args.c c.args.edit c.requires.admitted c.requires.edit_in c.unwrap-sizes.result (sized) in
     omega (arith, (on-way).place)
 
 pub returns : goal.returns
-returns c = let sized : c.in-Of.sizes ≡ (scheme_of c.args.c).sizes =
-    (measured c.args.c c.sizes.result c.in-Of.sizes c.sizes.ensures c.in-Of.is).1 in
+returns c = let sized : c.unwrap-sizes.result ≡ (scheme_of c.args.c).sizes =
+    (measured c.args.c c.sizes.result c.unwrap-sizes.result c.sizes.ensures c.unwrap-sizes.ensures).1 in
     let a = c.args in
     ap (λ (s : Sizes). (a.edit.message * s.symbols + a.edit.symbol) * a.c.symbol + a.edit.byte) (sized)

@@ -2,7 +2,9 @@
 use mathlib.Core.Path.{◌≡◌, refl, sym, ap, ◌∙◌}
 use mathlib.Core.Bool.{true}
 use borrow.Author.Tests.{not-true, not-false}
+use Rattle.std.specs.Prelude.{Err}
 use Rattle.parameters.specs.declared.Sizes.{Sizes}
+use Rattle.refusal.proofs.Passed.{passed}
 use Rattle.catalogue.specs.Catalogue.{Admitted}
 use Rattle.catalogue.proofs.Faults.{after-catalogue}
 use Rattle.codes.specs.Codes.{scheme_of}
@@ -11,35 +13,35 @@ use Rattle.correction.specs.Calls.{outside_of, outside, correct_verdict}
 use Rattle.correction.proofs.Verdicts.{correct-accepted, server-refused, query-refused, store-refused, edit-refused, length-refused}
 use Rattle.correction.proofs.verdict.Goals as goal
 
-pub returns-in_default : goal.returns-in_default
+pub returns-in_err-sizes : goal.returns-in_err-sizes
 unfolding correct_verdict
-returns-in_default c = let value = c.args.c in
-    let refused = unmeasured value c.sizes.result c.in_default.field-0 c.sizes.ensures c.in_default.is in
-    after-catalogue value _ refl c.verdict.result _ c.verdict.ensures (rw (c.verdict.ensures, refused))
+returns-in_err-sizes c = let value = c.args.c in
+    let refused = unmeasured value c.sizes.result c.in_err-sizes.field-0.0 c.sizes.ensures c.in_err-sizes.was in
+    passed _ _ c.from_residual.ensures.1 ∙ after-catalogue value _ refl (Err c.in_err-sizes.field-0.0) _ (sym refused) refl
 
 pub returns-then-c-server : goal.returns-then-c-server
-returns-then-c-server c = let sized : let value = c.args.c in (Admitted value) × (c.in-Of.sizes ≡ (scheme_of value).sizes) =
-    measured c.args.c c.sizes.result c.in-Of.sizes c.sizes.ensures c.in-Of.is in
+returns-then-c-server c = let sized : let value = c.args.c in (Admitted value) × (c.in_ok-sizes.sizes ≡ (scheme_of value).sizes) =
+    measured c.args.c c.sizes.result c.in_ok-sizes.sizes c.sizes.ensures c.in_ok-sizes.was in
     let a = c.args in
     server-refused a.c a.server a.stored a.query.now a.edit a.saved (sized).0 c.if-c-server.true
 
 pub admits-requires : goal.admits-requires
-admits-requires c = let sized : let value = c.args.c in (Admitted value) × (c.in-Of.sizes ≡ (scheme_of value).sizes) =
-    measured c.args.c c.sizes.result c.in-Of.sizes c.sizes.ensures c.in-Of.is in
+admits-requires c = let sized : let value = c.args.c in (Admitted value) × (c.in_ok-sizes.sizes ≡ (scheme_of value).sizes) =
+    measured c.args.c c.sizes.result c.in_ok-sizes.sizes c.sizes.ensures c.in_ok-sizes.was in
     (sized).0
 
 pub returns-then-not-admits : goal.returns-then-not-admits
-returns-then-not-admits c = let sized : let value = c.args.c in (Admitted value) × (c.in-Of.sizes ≡ (scheme_of value).sizes) =
-    measured c.args.c c.sizes.result c.in-Of.sizes c.sizes.ensures c.in-Of.is in
+returns-then-not-admits c = let sized : let value = c.args.c in (Admitted value) × (c.in_ok-sizes.sizes ≡ (scheme_of value).sizes) =
+    measured c.args.c c.sizes.result c.in_ok-sizes.sizes c.sizes.ensures c.in_ok-sizes.was in
     let a = c.args in
     let asked = c.admits in
     query-refused a.c a.server a.stored a.query.now a.edit a.saved (sized).0 c.if-c-server.false
     (sym c.admits.ensures ∙ not-true c.admits.result c.if-not-admits.true-raw)
 
 pub returns-then-stored-sizes : goal.returns-then-stored-sizes
-returns-then-stored-sizes c = let sized : let value = c.args.c in (Admitted value) × (c.in-Of.sizes ≡ (scheme_of value).sizes) =
-    measured c.args.c c.sizes.result c.in-Of.sizes c.sizes.ensures c.in-Of.is in
-    let store-size : c.in-Of.sizes.store ≡ (scheme_of c.args.c).sizes.store =
+returns-then-stored-sizes c = let sized : let value = c.args.c in (Admitted value) × (c.in_ok-sizes.sizes ≡ (scheme_of value).sizes) =
+    measured c.args.c c.sizes.result c.in_ok-sizes.sizes c.sizes.ensures c.in_ok-sizes.was in
+    let store-size : c.in_ok-sizes.sizes.store ≡ (scheme_of c.args.c).sizes.store =
     ap (λ (s : Sizes). s.store) (sized).1 in
     let good : let a = c.args in
     (scheme_of a.c).admits a.server a.query.now ≡ true =
@@ -49,9 +51,9 @@ returns-then-stored-sizes c = let sized : let value = c.args.c in (Admitted valu
     (good) (λ e. c.if-stored-sizes.true (e ∙ sym (store-size)))
 
 pub returns-then-is_outside : goal.returns-then-is_outside
-returns-then-is_outside c = let sized : let value = c.args.c in (Admitted value) × (c.in-Of.sizes ≡ (scheme_of value).sizes) =
-    measured c.args.c c.sizes.result c.in-Of.sizes c.sizes.ensures c.in-Of.is in
-    let store-size : c.in-Of.sizes.store ≡ (scheme_of c.args.c).sizes.store =
+returns-then-is_outside c = let sized : let value = c.args.c in (Admitted value) × (c.in_ok-sizes.sizes ≡ (scheme_of value).sizes) =
+    measured c.args.c c.sizes.result c.in_ok-sizes.sizes c.sizes.ensures c.in_ok-sizes.was in
+    let store-size : c.in_ok-sizes.sizes.store ≡ (scheme_of c.args.c).sizes.store =
     ap (λ (s : Sizes). s.store) (sized).1 in
     let good : let a = c.args in
     (scheme_of a.c).admits a.server a.query.now ≡ true =
@@ -66,14 +68,14 @@ returns-then-is_outside c = let sized : let value = c.args.c in (Admitted value)
     (good) (c.if-stored-sizes.false ∙ store-size) (sym (told-outside) ∙ c.if-is_outside.true)
 
 pub answer_length-requires : goal.answer_length-requires
-answer_length-requires c = let sized : let value = c.args.c in (Admitted value) × (c.in-Of.sizes ≡ (scheme_of value).sizes) =
-    measured c.args.c c.sizes.result c.in-Of.sizes c.sizes.ensures c.in-Of.is in
+answer_length-requires c = let sized : let value = c.args.c in (Admitted value) × (c.in_ok-sizes.sizes ≡ (scheme_of value).sizes) =
+    measured c.args.c c.sizes.result c.in_ok-sizes.sizes c.sizes.ensures c.in_ok-sizes.was in
     (sized).0
 
 pub returns-then-saved-answer_length : goal.returns-then-saved-answer_length
-returns-then-saved-answer_length c = let sized : let value = c.args.c in (Admitted value) × (c.in-Of.sizes ≡ (scheme_of value).sizes) =
-    measured c.args.c c.sizes.result c.in-Of.sizes c.sizes.ensures c.in-Of.is in
-    let store-size : c.in-Of.sizes.store ≡ (scheme_of c.args.c).sizes.store =
+returns-then-saved-answer_length c = let sized : let value = c.args.c in (Admitted value) × (c.in_ok-sizes.sizes ≡ (scheme_of value).sizes) =
+    measured c.args.c c.sizes.result c.in_ok-sizes.sizes c.sizes.ensures c.in_ok-sizes.was in
+    let store-size : c.in_ok-sizes.sizes.store ≡ (scheme_of c.args.c).sizes.store =
     ap (λ (s : Sizes). s.store) (sized).1 in
     let good : let a = c.args in
     (scheme_of a.c).admits a.server a.query.now ≡ true =
@@ -89,9 +91,9 @@ returns-then-saved-answer_length c = let sized : let value = c.args.c in (Admitt
     (λ e. c.if-saved-answer_length.true (e ∙ sym c.answer_length.ensures))
 
 pub returns : goal.returns
-returns c = let sized : let value = c.args.c in (Admitted value) × (c.in-Of.sizes ≡ (scheme_of value).sizes) =
-    measured c.args.c c.sizes.result c.in-Of.sizes c.sizes.ensures c.in-Of.is in
-    let store-size : c.in-Of.sizes.store ≡ (scheme_of c.args.c).sizes.store =
+returns c = let sized : let value = c.args.c in (Admitted value) × (c.in_ok-sizes.sizes ≡ (scheme_of value).sizes) =
+    measured c.args.c c.sizes.result c.in_ok-sizes.sizes c.sizes.ensures c.in_ok-sizes.was in
+    let store-size : c.in_ok-sizes.sizes.store ≡ (scheme_of c.args.c).sizes.store =
     ap (λ (s : Sizes). s.store) (sized).1 in
     let good : let a = c.args in
     (scheme_of a.c).admits a.server a.query.now ≡ true =

@@ -1,7 +1,6 @@
 -- `even_admission::admits` meets its contract: a query of the right length is admitted if the pass over it finds all fresh.
 use mathlib.Core.Path.{◌≡◌, sym, ap, ap₂, ◌∙◌}
-use Prim.Native.Nat.{ℕ, ◌-◌, ◌*◌, ◌^◌, ◌≤◌}
-use native.Mathlib.Nat.{mul-le-mul}
+use Prim.Native.Nat.{ℕ, ◌-◌, ◌*◌, ◌^◌}
 use native.Mathlib.Omega.{arith}
 use lib.ListN.{length}
 use borrow.Author.Tests.{ne_eqb}
@@ -12,43 +11,14 @@ use Rattle.lists.specs.Distinct.{distinct}
 use Rattle.even_admission.specs.Cells.{cell_of}
 use Rattle.even_places.proofs.Positions.{positions-length, positions-below}
 use Rattle.even_scheme.specs.Even.{even_admits}
-use Rattle.even_admission.proofs.Admission.{positions-front, positions-fit, admits-pass, power-less}
+use Rattle.even_admission.proofs.Admission.{positions-front, admits-pass}
 use Rattle.even_admission.proofs.admits.Goals as goal
-
-pub overflow_sub-k : goal.overflow_sub-k
-overflow_sub-k c = omega (arith, c.requires.messages-low)
-
-pub power-requires : goal.power-requires
-power-requires c = let n = c.args.n in
-    omega (arith, power-less n c.args.k c.requires)
-
-pub overflow_mul-k : goal.overflow_mul-k
-overflow_mul-k c = let n = c.args.n in
-    let k = c.args.k in
-    let few : c.power.result ≤ 256 = omega (arith, c.power.ensures, power-less n k c.requires) in
-    omega (arith, mul-le-mul c.requires.messages-high few)
 
 pub returns-then-query-k : goal.returns-then-query-k
 unfolding even_admits
 returns-then-query-k c = let k = c.args.k in
     rw (ne_eqb (length c.args.query.now) (k * c.args.n ^ (k - 1))
     (λ e. c.if-query-k.true (e ∙ ap (λ (m : ℕ). k * m) (sym c.power.ensures))))
-
-pub slice_bounds-messages-end : goal.slice_bounds-messages-end
-slice_bounds-messages-end c = let n = c.args.n in
-    let k = c.args.k in
-    let query = c.args.query.now in
-    let long : length query ≡ k * n ^ (k - 1) = c.if-query-k.false ∙ ap (λ (m : ℕ). k * m) c.power.ensures in
-    positions-fit n k c.positions-messages.result query c.requires c.positions-messages.ensures long
-
-pub slice_bounds-all_fresh-end : goal.slice_bounds-all_fresh-end
-slice_bounds-all_fresh-end c = let n = c.args.n in
-    let k = c.args.k in
-    let query = c.args.query.now in
-    let long : length query ≡ k * n ^ (k - 1) = c.if-query-k.false ∙ ap (λ (m : ℕ). k * m) c.power.ensures in
-    let table = c.positions-messages in
-    sym (ap length (positions-front n k c.positions-messages.result query c.requires c.positions-messages.ensures long)
-    ∙ positions-length n k c.requires.servers-low c.requires.messages-low ∙ sym long)
 
 pub all_fresh-requires : goal.all_fresh-requires
 all_fresh-requires c = let n = c.args.n in

@@ -1,74 +1,50 @@
--- `even_admission::all_fresh` meets its contract: after i turns the numbers from i on decide, with the marks so far.
-use mathlib.Core.Path.{sym, ◌∙◌}
+-- `even_admission::all_fresh` meets its contract: before each turn the numbers that are left decide, with the marks so far.
+use mathlib.Core.Path.{◌≡◌, sym, ◌∙◌}
 use mathlib.Core.Bool.{Bool, false}
-use Prim.Native.Nat.{◌<◌}
-use native.Mathlib.Nat.{mul-le-mul, le_of_suc-le-suc}
+use mathlib.Core.Logic.{inl, inr}
+use Prim.Native.Nat.{suc}
 use native.Mathlib.Omega.{arith}
-use lib.ListN.{get_or, length-set, length-replicate}
+use lib.ListN.{length, length-set, length-replicate}
 use Rattle.even_admission.proofs.Fresh.{fresh_start, fresh-high, fresh-marked, fresh-more, fresh-end, cell_room}
 use Rattle.even_admission.proofs.all_fresh.Goals as goal
 
-pub loop-i-init : goal.loop-i-init
-loop-i-init c = let size = c.args.size in
-    (omega arith, length-replicate {A = Bool} 2048 false, fresh_start size 2048 c.args.messages.now c.args.numbers.now)
-
-pub bounds-numbers-i : goal.bounds-numbers-i
-bounds-numbers-i c = omega arith
-
-pub overflow_cast-number : goal.overflow_cast-number
-overflow_cast-number c = omega (arith, c.type_inv.numbers c.loop-i.i)
+pub loop-message-init : goal.loop-message-init
+loop-message-init c =
+    let first : c.into_iter-message-iterator.result.a.rest.now ≡ c.args.messages.now = cc in
+    let second : c.into_iter-message-iterator.result.b.rest.now ≡ c.args.numbers.now = cc in (
+      rw (first, second) c.requires.1,
+      rw first c.requires.2,
+      length-replicate {A = Bool} 2048 false,
+      rw (first, second) (fresh_start c.args.size 2048 c.args.messages.now c.args.numbers.now),
+    )
 
 pub returns-then-size-number : goal.returns-then-size-number
-returns-then-size-number c = sym (sym c.loop-i.invariant.2 ∙ fresh-high c.args.size c.loop-i.marks c.args.messages.now c.args.numbers.now c.loop-i.i
-    (omega arith) c.requires.1 (omega (arith, c.if-size-number.true)))
-
-pub bounds-messages-i : goal.bounds-messages-i
-bounds-messages-i c = omega arith
-
-pub overflow_cast-cell : goal.overflow_cast-cell
-overflow_cast-cell c = omega (arith, c.requires.2 c.loop-i.i (omega arith))
-
-pub overflow_mul-cell : goal.overflow_mul-cell
-overflow_mul-cell c = let m : get_or c.args.messages.now c.loop-i.i 0 < 8 = c.requires.2 c.loop-i.i (omega arith) in
-    omega (arith, mul-le-mul (le_of_suc-le-suc m) c.requires.0)
-
-pub overflow_add-cell : goal.overflow_add-cell
-overflow_add-cell c = omega (
-  arith,
-  cell_room c.args.size (get_or c.args.messages.now c.loop-i.i 0) (get_or c.args.numbers.now c.loop-i.i 0)
-      c.requires.0 (c.requires.2 c.loop-i.i (omega arith)) c.if-size-number.false,
-)
+returns-then-size-number c = let left = rw (c.in-Some.ensures.steps.0, c.in-Some.ensures.steps.1) at c.loop-message.invariant in
+    sym (fresh-high c.args.size c.loop-message.marks _ c.in-Some.number.now _ _ (omega (arith, c.if-size-number.true))) ∙ left.3
 
 pub bounds-marks-cell : goal.bounds-marks-cell
-bounds-marks-cell c = cell_room c.args.size (get_or c.args.messages.now c.loop-i.i 0) (get_or c.args.numbers.now c.loop-i.i 0) c.requires.0
-    (c.requires.2 c.loop-i.i (omega arith)) c.if-size-number.false
+bounds-marks-cell c = let left = rw (c.in-Some.ensures.steps.0) at c.loop-message.invariant in
+    cell_room c.args.size _ _ c.requires.0 (left.1 0 (omega arith)) c.if-size-number.false
 
 pub returns-then-marks-cell : goal.returns-then-marks-cell
-returns-then-marks-cell c = sym (sym c.loop-i.invariant.2 ∙ fresh-marked c.args.size c.loop-i.marks c.args.messages.now c.args.numbers.now c.loop-i.i
-    (omega arith) c.requires.1 c.if-size-number.false c.if-marks-cell.true)
+returns-then-marks-cell c = let left = rw (c.in-Some.ensures.steps.0, c.in-Some.ensures.steps.1) at c.loop-message.invariant in
+    sym (fresh-marked c.args.size c.loop-message.marks _ _ _ _ c.if-size-number.false c.if-marks-cell.true) ∙ left.3
 
-pub bounds-marks-cell-in-loop-i : goal.bounds-marks-cell-in-loop-i
-bounds-marks-cell-in-loop-i c = cell_room c.args.size (get_or c.args.messages.now c.loop-i.i 0) (get_or c.args.numbers.now c.loop-i.i 0) c.requires.0
-    (c.requires.2 c.loop-i.i (omega arith)) c.if-size-number.false
+pub bounds-marks-cell-in-loop-message : goal.bounds-marks-cell-in-loop-message
+bounds-marks-cell-in-loop-message c = let left = rw (c.in-Some.ensures.steps.0) at c.loop-message.invariant in
+    cell_room c.args.size _ _ c.requires.0 (left.1 0 (omega arith)) c.if-size-number.false
 
-pub overflow_add-i : goal.overflow_add-i
-overflow_add-i c = omega arith
-
-pub loop-i-smaller : goal.loop-i-smaller
-loop-i-smaller c = omega arith
-
-pub loop-i-preserved : goal.loop-i-preserved
-loop-i-preserved c = let size = c.args.size in
-    let messages = c.args.messages.now in
-    let numbers = c.args.numbers.now in
-    let i = c.loop-i.i in
-    let room = cell_room size (get_or messages i 0) (get_or numbers i 0) c.requires.0 (c.requires.2 i (omega arith)) c.if-size-number.false in (
-      omega arith,
-      simp length-set c.loop-i.invariant.1,
-      sym (fresh-more size c.loop-i.marks messages numbers i (omega arith) c.requires.1 c.if-size-number.false
-          (omega (arith, c.loop-i.invariant.1)) c.if-marks-cell.false) ∙ c.loop-i.invariant.2,
+pub loop-message-preserved : goal.loop-message-preserved
+loop-message-preserved c = let left = rw (c.in-Some.ensures.steps.0, c.in-Some.ensures.steps.1) at c.loop-message.invariant in
+    let room = cell_room c.args.size _ _ c.requires.0 (left.1 0 (omega arith)) c.if-size-number.false in (
+      omega (arith, left.0),
+      (λ i h. left.1 (suc i) (omega arith)),
+      simp length-set c.loop-message.invariant.2,
+      sym (fresh-more c.args.size c.loop-message.marks _ _ _ _ c.if-size-number.false (omega (arith, room, left.2)) c.if-marks-cell.false) ∙ left.3,
     )
 
 pub returns : goal.returns
-returns c = sym (sym c.loop-i.invariant.2 ∙ fresh-end c.args.size c.loop-i.marks c.args.messages.now c.args.numbers.now c.loop-i.i
-    (omega arith) c.requires.1)
+returns c = let a = c.loop-message.message-iterator.a.rest.now in
+    let b = c.loop-message.message-iterator.b.rest.now in
+    let none : length a ≡ 0 = elim c.in-None.ensures.steps [ inl w ↦ w.1.0 | inr w ↦ omega arith ] in
+    sym (fresh-end c.args.size c.loop-message.marks a b none (omega arith)) ∙ c.loop-message.invariant.3

@@ -19,9 +19,6 @@ pub power-requires : goal.power-requires
 power-requires c = let args = c.args in
     size_fits args.n args.k (2 ^ 64) (omega arith) (let fits : length args.key.now < 2 ^ 64 = omega arith in omega arith)
 
-pub permutations_good-requires : goal.permutations_good-requires
-permutations_good-requires c = rw c.power.ensures c.requires
-
 pub returns : goal.returns
 unfolding even_key_good permutation
 returns c = let args = c.args in

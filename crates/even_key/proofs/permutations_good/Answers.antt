@@ -6,11 +6,10 @@ use Prim.Native.Nat.{ℕ, ◌+◌, ◌-◌, ◌*◌}
 use native.Mathlib.Nat.{add-sub_cancel_left}
 use native.Mathlib.Omega.{arith}
 use borrow.Author.Tests.{not-true, not-false}
-use lib.ListN.{length, take, drop}
+use lib.ListN.{take, drop}
 use Rattle.lists.specs.Distinct.{is_permutation}
 use Rattle.lists.specs.Parts.{cut}
 use Rattle.lists.specs.Ranges.{every}
-use Rattle.lists.proofs.Cuts.{slot-end, cut-length}
 use Rattle.lists.proofs.Every.{every_more, every-false}
 use Rattle.even_key.proofs.permutations_good.Goals as goal
 
@@ -20,31 +19,7 @@ lent size p key = ap (λ (n : ℕ). take n (drop (p * size) key)) (add-sub_cance
 
 pub loop-p-init : goal.loop-p-init
 unfolding every
-loop-p-init c = (omega arith, refl)
-
-pub overflow_mul-p : goal.overflow_mul-p
-overflow_mul-p c = omega (arith, slot-end c.loop-p.p c.args.k c.args.size (omega arith))
-
-pub overflow_mul-p-in-loop-p : goal.overflow_mul-p-in-loop-p
-overflow_mul-p-in-loop-p c = omega (arith, slot-end c.loop-p.p c.args.k c.args.size (omega arith))
-
-pub overflow_add-p : goal.overflow_add-p
-overflow_add-p c = omega (arith, slot-end c.loop-p.p c.args.k c.args.size (omega arith))
-
-pub slice_bounds-is_permutation-count : goal.slice_bounds-is_permutation-count
-slice_bounds-is_permutation-count c = omega arith
-
-pub slice_bounds-is_permutation-start : goal.slice_bounds-is_permutation-start
-slice_bounds-is_permutation-start c = omega (arith, slot-end c.loop-p.p c.args.k c.args.size (omega arith))
-
-pub slice_bounds-is_permutation-end : goal.slice_bounds-is_permutation-end
-slice_bounds-is_permutation-end c = omega (arith, slot-end c.loop-p.p c.args.k c.args.size (omega arith))
-
-pub is_permutation-requires : goal.is_permutation-requires
-is_permutation-requires c = let args = c.args in
-    let p = c.loop-p.p in
-    ap length (lent args.size p args.key.now)
-    ∙ cut-length (p * args.size) args.size args.key.now (omega (arith, slot-end p args.k args.size (omega arith)))
+loop-p-init c = refl
 
 pub returns-then-not-is_permutation : goal.returns-then-not-is_permutation
 returns-then-not-is_permutation c = let args = c.args in
@@ -53,20 +28,9 @@ returns-then-not-is_permutation c = let args = c.args in
     ap (is_permutation args.size) (sym (lent args.size p args.key.now)) ∙ sym c.is_permutation.ensures ∙ not-true _ c.if-not-is_permutation.true-raw in
     sym (every-false args.k (λ q. is_permutation args.size (cut (q * args.size) args.size args.key.now)) p (omega arith) not_good)
 
-pub overflow_add-p-in-loop-p : goal.overflow_add-p-in-loop-p
-overflow_add-p-in-loop-p c = omega arith
-
-pub loop-p-smaller : goal.loop-p-smaller
-loop-p-smaller c = omega arith
-
 pub loop-p-preserved : goal.loop-p-preserved
 loop-p-preserved c = let args = c.args in
     let p = c.loop-p.p in
     let good : is_permutation args.size (cut (p * args.size) args.size args.key.now) ≡ true =
     ap (is_permutation args.size) (sym (lent args.size p args.key.now)) ∙ sym c.is_permutation.ensures ∙ not-false _ c.if-not-is_permutation.false-raw in
-    (omega arith, every_more p (λ q. is_permutation args.size (cut (q * args.size) args.size args.key.now)) c.loop-p.invariant.1 good)
-
-pub returns : goal.returns
-returns c = let args = c.args in
-    let all : c.loop-p.p ≡ args.k = omega arith in
-    sym (ap (λ (n : ℕ). every n (λ q. is_permutation args.size (cut (q * args.size) args.size args.key.now))) (sym all) ∙ c.loop-p.invariant.1)
+    every_more p (λ q. is_permutation args.size (cut (q * args.size) args.size args.key.now)) c.loop-p.invariant good

@@ -1,6 +1,6 @@
 -- `even_locate::locate` meets its contract: after i turns no row of the sets before names the symbol, and the rows of the sets from i on decide.
 use mathlib.Core.Path.{◌≡◌}
-use Prim.Native.Nat.{◌+◌, ◌-◌, ◌*◌, ◌≤◌}
+use Prim.Native.Nat.{◌+◌, ◌*◌}
 use lib.ListN.{length, drop}
 use Rattle.even_places.specs.Rule.{layout}
 use Rattle.even_layout.proofs.Tables.{positions_from}
@@ -9,12 +9,8 @@ use Rattle.scheme.specs.Asked.{later, place_naming}
 use Rattle.even_scheme.specs.Asked.{set_rows, layout_rows}
 use Rattle.even_locate.proofs.locate.Given as goal
 
-abbrev pub invariant-loop-i : goal.invariant-loop-i
-invariant-loop-i l =
-    (l.i ≤ l.count)
-    × (l.at + length (positions_from l.n l.k l.i) ≡ length l.query)
-    × (l.end + length (rows_from l.n l.k l.i) * l.s ≡ length (layout l.n l.k) * l.s)
-    × (place_naming l.s l.message l.symbol (layout_rows l.n l.k l.query) ≡ later l.end (place_naming l.s l.message l.symbol (set_rows (rows_from l.n l.k l.i) (drop l.at l.query))))
-
-abbrev pub decreases-loop-i : goal.decreases-loop-i
-decreases-loop-i l = l.count - l.i
+abbrev pub invariant-loop-set : goal.invariant-loop-set
+invariant-loop-set l =
+    (l.at + length (positions_from l.n l.k l.set-index) ≡ length l.query)
+    × (l.end + length (rows_from l.n l.k l.set-index) * l.s ≡ length (layout l.n l.k) * l.s)
+    × (place_naming l.s l.message l.symbol (layout_rows l.n l.k l.query) ≡ later l.end (place_naming l.s l.message l.symbol (set_rows (rows_from l.n l.k l.set-index) (drop l.at l.query))))

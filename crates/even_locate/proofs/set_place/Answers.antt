@@ -2,21 +2,20 @@
 use mathlib.Core.Path.{◌≡◌, sym, ap, ◌∙◌}
 use mathlib.Core.Bool.{Bool, cond}
 use mathlib.Core.List.{List, zip}
-use Prim.Native.Nat.{ℕ, ◌+◌, ◌-◌, ◌*◌, ◌≤◌}
-use native.Mathlib.Nat.{sub-zero, zero-mul, add-zero, suc-mul}
+use Prim.Native.Nat.{ℕ, ◌+◌, ◌-◌, ◌*◌}
+use native.Mathlib.Nat.{add-zero, suc-mul}
 use native.Mathlib.Numerals.{add-one}
 use native.Mathlib.Omega.{arith}
-use borrow.Author.Rules.{rules}
-use lib.Count.{ones as count, ones-le}
-use lib.ListN.{length, drop, replicate, length-drop}
+use lib.Count.{ones as count}
+use lib.ListN.{drop, replicate, length-drop}
 use Rattle.lists.proofs.Cuts.{slot-end, to_end}
 use Rattle.even_places.specs.Rule.{members}
 use Rattle.even_sets.specs.Sets.{set_in}
 use Rattle.even_places.proofs.Positions.{members-length}
-use Rattle.scheme.specs.declared.Place.TheVariants.{At}
+use Rattle.std.specs.Prelude.{Some}
 use Rattle.scheme.specs.Asked.{named_in, later, place_naming}
 use Rattle.even_scheme.specs.Asked.{set_rows}
-use Rattle.scheme.proofs.Places.{later-zero, later-twice}
+use Rattle.scheme.proofs.Places.{later-twice}
 use Rattle.even_locate.proofs.Scan.{row_next}
 use Rattle.even_locate.proofs.set_place.Goals as goal
 use Rattle.even_locate.proofs.set_place.Goals.{After-row_names}
@@ -25,7 +24,7 @@ use Rattle.even_locate.proofs.set_place.Goals.{After-row_names}
 row-decides : (c : After-row_names) (t : Bool) → c.row_names.result ≡ t
     → let a = c.args in
     place_naming a.s a.message a.symbol (set_rows (replicate a.rows (set_in a.k a.set)) a.numbers.now)
-    ≡ later (c.loop-row.row * a.s) (cond t (At 0)
+    ≡ later (c.loop-row.row * a.s) (cond t (Some 0)
     (later a.s (place_naming a.s a.message a.symbol
     (set_rows (replicate (a.rows - (c.loop-row.row + 1)) (set_in a.k a.set)) (drop ((c.loop-row.row + 1) * count a.set) a.numbers.now)))))
 row-decides c t e =
@@ -37,73 +36,20 @@ row-decides c t e =
     let rest = later a.s (place_naming a.s a.message a.symbol (set_rows (replicate (a.rows - (row + 1)) A) (drop ((row + 1) * size) numbers))) in
     let told : named_in a.message a.symbol (zip (members 0 A) (drop (row * size) numbers)) ≡ t =
     sym (c.row_names.ensures ∙ ap (λ (l : List ℕ). named_in a.message a.symbol (zip (members 0 A) l)) (to_end numbers (row * size))) ∙ e in
-    c.loop-row.invariant.1
+    c.loop-row.invariant
     ∙ ap (later (row * a.s))
     (row_next a.s a.message a.symbol A a.rows row size numbers (omega arith) c.requires.set_value.0
-    ∙ ap (λ (u : Bool). cond u (At 0) rest) told)
-
-pub overflow_cast-size : goal.overflow_cast-size
-overflow_cast-size c = omega (arith, ones-le 8 c.args.set (search rules))
-
-pub loop-row-init : goal.loop-row-init
-loop-row-init c = let a = c.args in
-    let place = place_naming a.s a.message a.symbol (set_rows (replicate a.rows (set_in a.k a.set)) a.numbers.now) in
-    (omega arith, rw (zero-mul a.s, zero-mul (count a.set), sub-zero a.rows) (sym (later-zero place)))
-
-pub overflow_mul-at : goal.overflow_mul-at
-overflow_mul-at c = let within : let a = c.args in
-    (c.loop-row.row * count a.set + count a.set ≤ length a.numbers.now) × (c.loop-row.row * a.s + a.s ≤ a.rows * a.s) =
-    let a = c.args in
-    (omega (arith, slot-end c.loop-row.row a.rows (count a.set) (omega arith), c.requires.set_value), slot-end c.loop-row.row a.rows a.s (omega arith)) in
-    omega (arith, within)
-
-pub slice_bounds-row_names-count : goal.slice_bounds-row_names-count
-slice_bounds-row_names-count c = let within : let a = c.args in
-    (c.loop-row.row * count a.set + count a.set ≤ length a.numbers.now) × (c.loop-row.row * a.s + a.s ≤ a.rows * a.s) =
-    let a = c.args in
-    (omega (arith, slot-end c.loop-row.row a.rows (count a.set) (omega arith), c.requires.set_value), slot-end c.loop-row.row a.rows a.s (omega arith)) in
-    omega (arith, within)
-
-pub slice_bounds-row_names-start : goal.slice_bounds-row_names-start
-slice_bounds-row_names-start c = let within : let a = c.args in
-    (c.loop-row.row * count a.set + count a.set ≤ length a.numbers.now) × (c.loop-row.row * a.s + a.s ≤ a.rows * a.s) =
-    let a = c.args in
-    (omega (arith, slot-end c.loop-row.row a.rows (count a.set) (omega arith), c.requires.set_value), slot-end c.loop-row.row a.rows a.s (omega arith)) in
-    omega (arith, within)
-
-pub slice_bounds-row_names-end : goal.slice_bounds-row_names-end
-slice_bounds-row_names-end c = let within : let a = c.args in
-    (c.loop-row.row * count a.set + count a.set ≤ length a.numbers.now) × (c.loop-row.row * a.s + a.s ≤ a.rows * a.s) =
-    let a = c.args in
-    (omega (arith, slot-end c.loop-row.row a.rows (count a.set) (omega arith), c.requires.set_value), slot-end c.loop-row.row a.rows a.s (omega arith)) in
-    omega (arith, within)
+    ∙ ap (λ (u : Bool). cond u (Some 0) rest) told)
 
 pub row_names-requires : goal.row_names-requires
-row_names-requires c = let within : let a = c.args in
-    (c.loop-row.row * count a.set + count a.set ≤ length a.numbers.now) × (c.loop-row.row * a.s + a.s ≤ a.rows * a.s) =
-    let a = c.args in
-    (omega (arith, slot-end c.loop-row.row a.rows (count a.set) (omega arith), c.requires.set_value), slot-end c.loop-row.row a.rows a.s (omega arith)) in
-    let a = c.args in
+row_names-requires c = let a = c.args in
     let from = c.loop-row.row * count a.set in
     rw (to_end a.numbers.now from)
-    (omega (arith, members-length 0 (set_in a.k a.set), c.requires.set_value, length-drop from a.numbers.now, within))
-
-pub overflow_mul-result : goal.overflow_mul-result
-overflow_mul-result c = let within : let a = c.args in
-    (c.loop-row.row * count a.set + count a.set ≤ length a.numbers.now) × (c.loop-row.row * a.s + a.s ≤ a.rows * a.s) =
-    let a = c.args in
-    (omega (arith, slot-end c.loop-row.row a.rows (count a.set) (omega arith), c.requires.set_value), slot-end c.loop-row.row a.rows a.s (omega arith)) in
-    omega (arith, within, c.requires.s_bound)
+    (omega (arith, members-length 0 (set_in a.k a.set), c.requires.set_value, length-drop from a.numbers.now, slot-end c.loop-row.row a.rows (count a.set) (omega arith)))
 
 pub returns-then-row_names : goal.returns-then-row_names
 returns-then-row_names c = let a = c.args in
-    sym (row-decides (goal.at.returns-then-row_names c).After-row_names _ c.if-row_names.true ∙ ap At (add-zero (c.loop-row.row * a.s)))
-
-pub overflow_add-row : goal.overflow_add-row
-overflow_add-row c = omega arith
-
-pub loop-row-smaller : goal.loop-row-smaller
-loop-row-smaller c = omega arith
+    sym (row-decides (goal.at.returns-then-row_names c).After-row_names _ c.if-row_names.true ∙ ap Some (add-zero (c.loop-row.row * a.s)))
 
 pub loop-row-preserved : goal.loop-row-preserved
 loop-row-preserved c = let a = c.args in
@@ -111,10 +57,10 @@ loop-row-preserved c = let a = c.args in
     let rest = place_naming a.s a.message a.symbol
     (set_rows (replicate (a.rows - (row + 1)) (set_in a.k a.set)) (drop ((row + 1) * count a.set) a.numbers.now)) in
     let next : row * a.s + a.s ≡ (row + 1) * a.s = omega (arith, suc-mul row a.s, ap (λ (n : ℕ). n * a.s) (add-one row)) in
-    (omega arith, row-decides (goal.at.loop-row-preserved c).After-row_names _ c.if-row_names.false ∙ later-twice (row * a.s) a.s rest ∙ ap (λ (n : ℕ). later n rest) next)
+    row-decides (goal.at.loop-row-preserved c).After-row_names _ c.if-row_names.false ∙ later-twice (row * a.s) a.s rest ∙ ap (λ (n : ℕ). later n rest) next
 
 pub returns : goal.returns
 unfolding set_rows place_naming
 returns c = let a = c.args in
     let none : a.rows - c.loop-row.row ≡ 0 = omega arith in
-    sym (rw none at c.loop-row.invariant.1)
+    sym (rw none at c.loop-row.invariant)

@@ -1,6 +1,4 @@
 -- `even_query::look_up` meets its contract: after i turns the entries from i on are still to be written.
-use Prim.Native.Nat.{◌-◌, ◌≤◌}
-use lib.ListN.{length}
 use Rattle.lists.proofs.Writing.{Pending}
 use Rattle.even_query.specs.Query.{entries}
 use Rattle.even_query.proofs.Entries.{entries_from}
@@ -8,7 +6,4 @@ use Rattle.even_query.proofs.look_up.Given as goal
 
 abbrev pub invariant-loop-i : goal.invariant-loop-i
 invariant-loop-i l =
-    (l.i ≤ length l.places) × Pending 0 (entries l.symbols l.key l.messages l.places) l.initial.out l.i (entries_from l.symbols l.key l.messages l.places l.i) l.out
-
-abbrev pub decreases-loop-i : goal.decreases-loop-i
-decreases-loop-i l = length l.places - l.i
+    Pending 0 (entries l.symbols l.key l.messages l.places) l.initial.out l.i (entries_from l.symbols l.key l.messages l.places l.i) l.out

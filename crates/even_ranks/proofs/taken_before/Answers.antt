@@ -4,26 +4,22 @@ use Prim.Native.Nat.{ℕ, suc, ◌+◌, ◌-◌, ◌*◌, ◌^◌}
 use native.Mathlib.Nat.{pow-zero, pow-suc}
 use native.Mathlib.Numerals.{add-one}
 use native.Mathlib.Omega.{arith}
-use Rattle.even_ranks.specs.Counts.{takers, taken}
+use Rattle.even_ranks.specs.Counts.{takers}
 use Rattle.even_ranks.proofs.Steps.{taken_none, taken_more, rows-small, share-small, taken-small}
 use Rattle.even_ranks.proofs.taken_before.Goals as goal
 
 pub loop-j-init : goal.loop-j-init
 loop-j-init c = (
-  omega arith,
   sym (taken_none c.args.n c.args.wanted c.args.totals.now c.args.p),
   sym (pow-zero (c.args.n - 1)),
 )
-
-pub takers-requires : goal.takers-requires
-takers-requires c = (omega arith, c.requires.3, c.requires.4)
 
 pub overflow_mul-sum : goal.overflow_mul-sum
 overflow_mul-sum c = let a = c.args in
     let j = c.loop-j.j in
     let share = share-small a.n a.wanted a.totals.now c.requires.1 c.requires.4 c.requires.5 a.p c.requires.3 j (omega arith) in
     let same : c.loop-j.rows * c.takers.result ≡ (a.n - 1) ^ j * takers a.wanted a.totals.now j a.p =
-    ap₂ (λ (x y : ℕ). x * y) c.loop-j.invariant.2 c.takers.ensures in
+    ap₂ (λ (x y : ℕ). x * y) c.loop-j.invariant.1 c.takers.ensures in
     omega arith
 
 pub overflow_add-sum : goal.overflow_add-sum
@@ -31,35 +27,20 @@ overflow_add-sum c = let a = c.args in
     let j = c.loop-j.j in
     let share = share-small a.n a.wanted a.totals.now c.requires.1 c.requires.4 c.requires.5 a.p c.requires.3 j (omega arith) in
     let same : c.loop-j.rows * c.takers.result ≡ (a.n - 1) ^ j * takers a.wanted a.totals.now j a.p =
-    ap₂ (λ (x y : ℕ). x * y) c.loop-j.invariant.2 c.takers.ensures in
+    ap₂ (λ (x y : ℕ). x * y) c.loop-j.invariant.1 c.takers.ensures in
     let before = taken-small a.n a.wanted a.totals.now c.requires.1 c.requires.4 c.requires.5 a.p c.requires.3 j (omega arith) in
     omega arith
-
-pub overflow_sub-rows : goal.overflow_sub-rows
-overflow_sub-rows c = omega arith
 
 pub overflow_mul-rows : goal.overflow_mul-rows
 overflow_mul-rows c = let a = c.args in
     let j = c.loop-j.j in
     let high = rows-small a.n a.wanted a.totals.now c.requires.1 c.requires.4 c.requires.5 a.p c.requires.3 (suc j) (omega arith) in
-    omega (arith, pow-suc (a.n - 1) j, ap (λ (x : ℕ). x * (a.n - 1)) c.loop-j.invariant.2)
-
-pub overflow_add-j : goal.overflow_add-j
-overflow_add-j c = omega arith
-
-pub loop-j-smaller : goal.loop-j-smaller
-loop-j-smaller c = omega arith
+    omega (arith, pow-suc (a.n - 1) j, ap (λ (x : ℕ). x * (a.n - 1)) c.loop-j.invariant.1)
 
 pub loop-j-preserved : goal.loop-j-preserved
 loop-j-preserved c = let a = c.args in
     let j = c.loop-j.j in (
-      omega arith,
-      ap₂ (λ (x y : ℕ). x + y) c.loop-j.invariant.1 (ap₂ (λ (x y : ℕ). x * y) c.loop-j.invariant.2 c.takers.ensures)
+      ap₂ (λ (x y : ℕ). x + y) c.loop-j.invariant.0 (ap₂ (λ (x y : ℕ). x * y) c.loop-j.invariant.1 c.takers.ensures)
           ∙ sym (taken_more a.n a.wanted a.totals.now j a.p),
-      ap (λ (x : ℕ). x * (a.n - 1)) c.loop-j.invariant.2 ∙ sym (ap (λ (x : ℕ). (a.n - 1) ^ x) (add-one j) ∙ pow-suc (a.n - 1) j),
+      ap (λ (x : ℕ). x * (a.n - 1)) c.loop-j.invariant.1 ∙ sym (ap (λ (x : ℕ). (a.n - 1) ^ x) (add-one j) ∙ pow-suc (a.n - 1) j),
     )
-
-pub returns : goal.returns
-returns c = let a = c.args in
-    let all : c.loop-j.j ≡ a.block = omega arith in
-    c.loop-j.invariant.1 ∙ ap (λ (j : ℕ). taken a.n a.wanted a.totals.now j a.p) all

@@ -2,7 +2,7 @@
 use mathlib.Core.Path.{refl, sym, ap, ◌∙◌}
 use mathlib.Core.Bool.{Bool}
 use mathlib.Core.List.{List}
-use Prim.Native.Nat.{suc, ◌+◌, ◌-◌, ◌≤◌, ◌<◌}
+use Prim.Native.Nat.{suc, ◌+◌, ◌≤◌, ◌<◌}
 use native.Mathlib.Numerals.{add-one}
 use native.Mathlib.Omega.{arith}
 use lib.ListN.{length, get_or, drop, length-map, drop_of_length-le}
@@ -15,50 +15,39 @@ use Rattle.even_ranks.proofs.Counters.{counted-length}
 use Rattle.even_ranks.proofs.Steps.{stands_at, stands_set, counted-below, counted-more}
 use Rattle.even_ranks.proofs.totals.Goals as goal
 
-pub loop-i-init : goal.loop-i-init
+pub loop-set-init : goal.loop-set-init
 unfolding totals_of no_counts
-loop-i-init c = (omega arith, refl, below-zeros 1 128 (omega arith), refl)
-
-pub bounds-sets-i : goal.bounds-sets-i
-bounds-sets-i c = omega arith
-
-pub slice_bounds-count_set-end : goal.slice_bounds-count_set-end
-slice_bounds-count_set-end c = sym c.loop-i.invariant.1
+loop-set-init c = (refl, below-zeros 1 128 (omega arith), refl)
 
 pub count_set-requires : goal.count_set-requires
 count_set-requires c = let a = c.args in
+    let i = c.loop-set.set-index in
+    let low : i < length a.sets.now = omega arith in
     let few : length a.sets.now ≤ 255 =
     omega (arith, ap length c.requires.2, length-map (all_sets a.k) byte_of, all-length a.k, subsets-few a.k c.requires.0) in (
       c.requires.0,
       c.requires.1,
-      (stands_at a.k c.loop-i.i a.sets.now (omega (arith, c.requires.1)) c.requires.0 c.requires.2 (omega arith)).0,
-      c.loop-i.invariant.1,
-      (λ j h. omega (arith, c.loop-i.invariant.2 j h)),
+      (stands_at a.k i a.sets.now (omega (arith, c.requires.1)) c.requires.0 c.requires.2 low).0,
+      c.loop-set.invariant.0,
+      (λ j h. omega (arith, c.loop-set.invariant.1 j h)),
     )
 
-pub overflow_add-i : goal.overflow_add-i
-overflow_add-i c = omega arith
-
-pub loop-i-smaller : goal.loop-i-smaller
-loop-i-smaller c = omega arith
-
-pub loop-i-preserved : goal.loop-i-preserved
-loop-i-preserved c = let a = c.args in
-    let i = c.loop-i.i in
+pub loop-set-preserved : goal.loop-set-preserved
+loop-set-preserved c = let a = c.args in
+    let i = c.loop-set.set-index in
     let A = set_in a.k (get_or a.sets.now i 0) in
     let here = stands_at a.k i a.sets.now (omega (arith, c.requires.1)) c.requires.0 c.requires.2 (omega arith) in
     let next = c.count_set.ensures in
     let inside : i < length (all_sets a.k) = omega (arith, ap length c.requires.2, length-map (all_sets a.k) byte_of) in (
-      omega arith,
       ap length next
-          ∙ counted-length a.k a.wanted c.requires.0 A c.loop-i.counts (stands_set a.k (get_or a.sets.now i 0) here.0) c.loop-i.invariant.1,
-      rw (next, add-one i) (counted-below (suc i) a.wanted A c.loop-i.counts c.loop-i.invariant.2),
-      ap (counted_all a.wanted (drop (i + 1) (all_sets a.k))) (next ∙ ap (λ (B : List Bool). set_counted a.wanted B c.loop-i.counts) here.1)
-          ∙ sym (counted-more a.wanted i (all_sets a.k) c.loop-i.counts inside) ∙ c.loop-i.invariant.3,
+          ∙ counted-length a.k a.wanted c.requires.0 A c.loop-set.counts (stands_set a.k (get_or a.sets.now i 0) here.0) c.loop-set.invariant.0,
+      rw (next, add-one i) (counted-below (suc i) a.wanted A c.loop-set.counts c.loop-set.invariant.1),
+      ap (counted_all a.wanted (drop (i + 1) (all_sets a.k))) (next ∙ ap (λ (B : List Bool). set_counted a.wanted B c.loop-set.counts) here.1)
+          ∙ sym (counted-more a.wanted i (all_sets a.k) c.loop-set.counts inside) ∙ c.loop-set.invariant.2,
     )
 
 pub returns : goal.returns
 unfolding counted_all
 returns c = let a = c.args in
-    let all : length (all_sets a.k) ≤ c.loop-i.i = omega (arith, ap length c.requires.2, length-map (all_sets a.k) byte_of) in
-    rw (drop_of_length-le (all_sets a.k) all) at c.loop-i.invariant.3
+    let all : length (all_sets a.k) ≤ c.loop-set.set-index = omega (arith, ap length c.requires.2, length-map (all_sets a.k) byte_of) in
+    rw (drop_of_length-le (all_sets a.k) all) at c.loop-set.invariant.2

@@ -1,7 +1,7 @@
 -- `even_sets::ordered_sets` meets its contract: after i turns the sets from i on are still to be written.
 use mathlib.Core.Path.{◌≡◌, refl, ap, ap₂, ◌∙◌}
 use mathlib.Core.List.{List, [], ◌∷◌, map}
-use Prim.Native.Nat.{ℕ, ◌+◌, ◌-◌, ◌/◌, ◌%◌, ◌≤◌, ◌<◌}
+use Prim.Native.Nat.{ℕ, ◌+◌, ◌/◌, ◌%◌, ◌≤◌, ◌<◌}
 use native.Mathlib.Numerals.{add-one}
 use native.Mathlib.Omega.{arith}
 use lib.ListN.{length, get_or, drop, set, replicate, length-map, drop_of_length-le}
@@ -12,41 +12,11 @@ use Rattle.even_places.specs.Rule.{byte_of, all_sets}
 use Rattle.even_sets.proofs.Blocks.{subsets-few, all-length, listed-entry}
 use Rattle.even_sets.proofs.ordered_sets.Goals as goal
 
-pub listed_sets-table-requires : goal.listed_sets-table-requires
-listed_sets-table-requires c = tt
-
-pub power-first-requires : goal.power-first-requires
-power-first-requires c = omega (arith, subsets-few c.args.k c.requires)
-
-pub overflow_sub-count : goal.overflow_sub-count
-overflow_sub-count c = omega (arith, c.power-first.ensures, all-length c.args.k)
-
 pub loop-i-init : goal.loop-i-init
 loop-i-init c = let k = c.args.k in
     let room : 0 + length (map byte_of (all_sets k)) ≤ length (replicate {A = ℕ} 256 0) =
     omega (arith, length-map (all_sets k) byte_of, all-length k, subsets-few k c.requires) in
-    (omega arith, pending-start room)
-
-pub overflow_add-place : goal.overflow_add-place
-overflow_add-place c = omega (arith, c.power-first.ensures, subsets-few c.args.k c.requires)
-
-pub offset_bounds-table-place : goal.offset_bounds-table-place
-offset_bounds-table-place c = omega (arith, c.power-first.ensures, subsets-few c.args.k c.requires)
-
-pub bounds-table-place : goal.bounds-table-place
-bounds-table-place c = omega (arith, c.power-first.ensures, subsets-few c.args.k c.requires)
-
-pub bounds-table-place-in-loop-i : goal.bounds-table-place-in-loop-i
-bounds-table-place-in-loop-i c = omega arith
-
-pub bounds-sets-i : goal.bounds-sets-i
-bounds-sets-i c = omega (arith, c.power-first.ensures, subsets-few c.args.k c.requires)
-
-pub overflow_add-i : goal.overflow_add-i
-overflow_add-i c = omega arith
-
-pub loop-i-smaller : goal.loop-i-smaller
-loop-i-smaller c = omega arith
+    pending-start room
 
 pub loop-i-preserved : goal.loop-i-preserved
 loop-i-preserved c = let first = c.power-first in
@@ -59,10 +29,10 @@ loop-i-preserved c = let first = c.power-first in
     let read =
     ap₂ (λ (rows : List (List ℕ)) (n : ℕ). get_or (get_or rows ((n + i) / 8) []) ((n + i) % 8) 0) c.listed_sets-table.ensures c.power-first.ensures
     ∙ listed-entry k i [] c.requires inside in
-    (omega arith, pending-as refl refl (ap (set c.loop-i.sets i) read) (pending-byte (rw next at c.loop-i.invariant.1)))
+    pending-as refl refl (ap (set c.loop-i.sets i) read) (pending-byte (rw next at c.loop-i.invariant))
 
 pub returns : goal.returns
 returns c = let k = c.args.k in
     let bytes = map byte_of (all_sets k) in
     let none = drop_of_length-le bytes {i = c.loop-i.i} (omega (arith, c.power-first.ensures, all-length k, length-map (all_sets k) byte_of)) in
-    pending_done (rw none at c.loop-i.invariant.1) ∙ put-padded bytes 256
+    pending_done (rw none at c.loop-i.invariant) ∙ put-padded bytes 256

@@ -8,19 +8,11 @@ use Rattle.number_lists.proofs.Spaced.{byte-length}
 use Rattle.number_lists.proofs.put_after_space.Goals as goal
 
 pub put_decimal-requires : goal.put_decimal-requires
-put_decimal-requires c = let n = c.args.n in
-    let s = byte-length n (omega arith) in
-    let k = c.put_bytes-digits.auto.out in
-    let e = c.put_bytes-digits.ensures.value in
-    omega arith
+put_decimal-requires c = let s = byte-length c.args.n (omega arith) in omega arith
 
-pub returns : goal.returns
-returns c = let a = c.args in
-    let first = c.put_bytes-digits in
-    let second = c.put_decimal in
-    let e = c.put_bytes-digits.ensures.value in
-    let f = c.put_decimal.ensures.value in record {
-      value = omega arith;
-      out_after = c.put_decimal.ensures.out_after
-          ∙ put_next a.at c.put_bytes-digits.result (ascii " ") (decimal a.n) a.out.now c.put_bytes-digits.new.out (omega arith) e c.put_bytes-digits.ensures.out_after;
-    }
+pub returns-clause-out_after : goal.returns-clause-out_after
+returns-clause-out_after c =
+    let a = c.args in
+    let start = c.put_bytes-digits.ensures.value in
+    c.put_decimal.ensures.out_after
+    ∙ put_next a.at c.put_bytes-digits.result (ascii " ") (decimal a.n) a.out.now c.put_bytes-digits.new.out (omega arith) start c.put_bytes-digits.ensures.out_after

@@ -2,7 +2,7 @@
 use mathlib.Core.Path.{◌≡◌}
 use mathlib.Core.Bool.{true}
 use mathlib.Core.List.{List, ◌++◌}
-use Prim.Native.Nat.{ℕ, ◌-◌, ◌≤◌}
+use Prim.Native.Nat.{ℕ}
 use lib.ListN.{length, take, drop}
 use Rattle.lists.specs.Below.{all_below}
 use Rattle.number_lists.specs.NumberLists.{numbers_at, list_of}
@@ -13,13 +13,8 @@ use Rattle.number_lists.proofs.put_numbers.Given as goal
 pub record Filled (text numbers first : List ℕ) (out : List ℕ) (at i : ℕ) : Type 0 where
   pub many : length numbers ≡ length first
   pub bytes : all_below 256 numbers ≡ true
-  pub few : i ≤ length first
   pub written : out ≡ take i numbers ++ drop i first
-  pub same : length out ≡ length first
   pub left : LeftAt text numbers at i
 
-abbrev pub invariant-loop-i : goal.invariant-loop-i
-invariant-loop-i l = Filled l.text (list_of (numbers_at l.text l.start)) l.initial.out l.out l.at l.i
-
-abbrev pub decreases-loop-i : goal.decreases-loop-i
-decreases-loop-i l = length l.initial.out - l.i
+abbrev pub invariant-loop-place : goal.invariant-loop-place
+invariant-loop-place l = Filled l.text (list_of (numbers_at l.text l.start)) l.initial.out l.out l.at l.place-index

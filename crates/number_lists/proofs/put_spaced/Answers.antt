@@ -22,43 +22,35 @@ returns-then-numbers-eq0 c = let a = c.args in
       out_after = sym (ap (λ (t : List ℕ). put a.at t a.out.now) none ∙ put-nil a.at a.out.now);
     }
 
-pub overflow_cast-first : goal.overflow_cast-first
-overflow_cast-first c = omega (arith, c.shared_slice_known-2-1.given 0)
-
 pub put_decimal-rest-requires : goal.put_decimal-rest-requires
-put_decimal-rest-requires c = let a = c.args in
-    let b = byte-length (get_or a.numbers.now 0 0) (omega (arith, c.shared_slice_known-2-1.given 0)) in
-    omega arith
+put_decimal-rest-requires c = omega (arith, byte-length (get_or c.args.numbers.now 0 0) (omega (arith, c.type_inv.numbers 0)))
 
 pub put_after_spaces-requires : goal.put_after_spaces-requires
-put_after_spaces-requires c = let a = c.args in
-    let b = byte-length (get_or a.numbers.now 0 0) (omega (arith, c.shared_slice_known-2-1.given 0)) in
-    let e = c.put_decimal-rest.ensures.value in
-    let k = c.put_decimal-rest.auto.out in
-    simp (length-take, length-drop) (omega arith)
+put_after_spaces-requires c =
+    let b = byte-length (get_or c.args.numbers.now 0 0) (omega (arith, c.type_inv.numbers 0)) in
+    simp (length-take, length-drop) (omega (arith, b, c.put_decimal-rest.ensures.value, c.put_decimal-rest.auto.out))
 
 pub returns : goal.returns
-returns c = let a = c.args in
+returns c =
+    let a = c.args in
     let numbers = a.numbers.now in
-    let first = c.put_decimal-rest in
-    let rest = c.put_after_spaces in
-    let byte = c.shared_slice_known-2-1.given 0 in
-    let b = byte-length (get_or numbers 0 0) (omega (arith, byte)) in
+    let first = decimal (get_or numbers 0 0) in
     let others = after_spaces (drop 1 numbers) in
+    let b = byte-length (get_or numbers 0 0) (omega (arith, c.type_inv.numbers 0)) in
     let whole = spaced-some numbers (omega arith) in
-    let l = ap length whole ∙ length-append (decimal (get_or numbers 0 0)) others in
+    let l = ap length whole ∙ length-append first others in
     let d = length-drop 1 numbers in
     let end = to_end numbers 1 in
     let e = c.put_decimal-rest.ensures.value in
     let f : c.put_after_spaces.result ≡ c.put_decimal-rest.result + length others =
-    c.put_after_spaces.ensures.value ∙ ap (λ (t : List ℕ). c.put_decimal-rest.result + length (after_spaces t)) end
-    in
+    c.put_after_spaces.ensures.value ∙ ap (λ (t : List ℕ). c.put_decimal-rest.result + length (after_spaces t)) end in
     let g = c.put_after_spaces.ensures.upper_bound in
-    let h = ap length end in record {
+    let h = ap length end in
+    record {
       value = omega arith;
       upper_bound = omega arith;
       out_after = c.put_after_spaces.ensures.out_after
           ∙ ap (λ (t : List ℕ). put c.put_decimal-rest.result (after_spaces t) c.put_decimal-rest.new.out) end
-          ∙ put_next a.at c.put_decimal-rest.result (decimal (get_or numbers 0 0)) others a.out.now c.put_decimal-rest.new.out (omega arith) e c.put_decimal-rest.ensures.out_after
+          ∙ put_next a.at c.put_decimal-rest.result first others a.out.now c.put_decimal-rest.new.out (omega arith) e c.put_decimal-rest.ensures.out_after
           ∙ ap (λ (t : List ℕ). put a.at t a.out.now) (sym whole);
     }

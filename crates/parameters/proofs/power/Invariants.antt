@@ -1,10 +1,6 @@
--- `parameters::power` meets its contract: after i turns the result is the i-th power.
-use mathlib.Core.Path.{◌≡◌}
-use Prim.Native.Nat.{◌-◌, ◌^◌, ◌≤◌}
+-- `parameters::power` meets its contract: after so many turns the result is that power.
+use Rattle.std.proofs.Common.{◌≡◌, ◌^◌}
 use Rattle.parameters.proofs.power.Given as goal
 
-abbrev pub invariant-loop-i : goal.invariant-loop-i
-invariant-loop-i l = (l.i ≤ l.exponent) × (l.result ≡ l.base ^ l.i)
-
-abbrev pub decreases-loop-i : goal.decreases-loop-i
-decreases-loop-i l = l.exponent - l.i
+abbrev pub invariant-loop : goal.invariant-loop
+invariant-loop l = l.result ≡ l.base ^ l.counter

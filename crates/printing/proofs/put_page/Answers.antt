@@ -36,7 +36,7 @@ unfolding printed input_asks lines_ask
 returns-in_default-number_line c = let a = c.args in
     let wanted = sym c.number_line.ensures ∙ c.in_default-number_line.is in
     let e : printed scheme_of a.input.now ≡ refusal_line Text =
-    simp (le-ltb _ _ c.if-input-gt65536.false, sym c.catalogue_lines-found.ensures, c.in-Accepted.is, wanted) in
+    simp (le-ltb _ _ c.if-input-gt65536.false, sym c.catalogue_lines-found.ensures, c.in-Ok.is, wanted) in
     let w = written_as _ _ a.out.now _ _ e (c.put_refusal-in_default-number_line.ensures.value, c.put_refusal-in_default-number_line.ensures.out_after) in
     record { value = w.0; out_after = w.1 }
 
@@ -44,36 +44,33 @@ pub returns-in_default-scan_key : goal.returns-in_default-scan_key
 unfolding printed input_asks lines_ask
 returns-in_default-scan_key c = let a = c.args in
     let text = a.input.now in
-    let wanted = sym c.number_line.ensures ∙ c.in-Value.is in
+    let wanted = sym c.number_line.ensures ∙ c.in-Some.is in
     let none = sym c.scan_key.ensures ∙ c.in_default-scan_key.is in
-    let key = scan-refused (key_line text c.in-Value.at) none in
+    let key = scan-refused (key_line text c.in-Some.wanted.next) none in
     let e : printed scheme_of text ≡ refusal_line Text =
-    simp (le-ltb _ _ c.if-input-gt65536.false, sym c.catalogue_lines-found.ensures, c.in-Accepted.is, wanted, key) in
+    simp (le-ltb _ _ c.if-input-gt65536.false, sym c.catalogue_lines-found.ensures, c.in-Ok.is, wanted, key) in
     let w = written_as _ _ a.out.now _ _ e (c.put_refusal-in_default-scan_key.ensures.value, c.put_refusal-in_default-scan_key.ensures.out_after) in
     record { value = w.0; out_after = w.1 }
 
-pub overflow_add-at : goal.overflow_add-at
-overflow_add-at c = let w = key-line-read _ _ _ _ (sym c.scan_key.ensures ∙ c.in-Of.is) in
+pub overflow_add-request : goal.overflow_add-request
+overflow_add-request c = let w = key-line-read _ _ _ _ (sym c.scan_key.ensures ∙ c.in-Some-scan_key.is) in
     omega arith
 
-pub put_asked-requires : goal.put_asked-requires
-put_asked-requires c = let told = sym c.scan_key.ensures ∙ c.in-Of.is in
-    record {
-      at_value = ap scan_of (sym (key-line-read _ _ _ _ told).1) ∙ told;
-      page_bytes_in_bounds = c.requires;
-    }
+pub invariant_of-request : goal.invariant_of-request
+invariant_of-request c = let told = sym c.scan_key.ensures ∙ c.in-Some-scan_key.is in
+    record { numbers = ap scan_of (sym (key-line-read _ _ _ _ told).1) ∙ told }
 
 pub returns : goal.returns
 unfolding printed input_asks lines_ask
 returns c = let a = c.args in
     let text = a.input.now in
-    let told = sym c.scan_key.ensures ∙ c.in-Of.is in
+    let told = sym c.scan_key.ensures ∙ c.in-Some-scan_key.is in
     let numbers = (key-line-read _ _ _ _ told).1 in
-    let wanted = sym c.number_line.ensures ∙ c.in-Value.is in
+    let wanted = sym c.number_line.ensures ∙ c.in-Some.is in
     let key = numbers ∙ scanned-some _ _ _ (ap scan_of (sym numbers) ∙ told) in
-    let at = c.in-Value.at + 4 in
-    let ask = asked c.catalogue_lines-found.result.catalogue c.in-Value.wanted (list_of (numbers_at text at)) in
+    let at = c.in-Some.wanted.next + 4 in
+    let ask = asked c.catalogue_lines-found.result.catalogue c.in-Some.wanted.value (list_of (numbers_at text at)) in
     let e : printed scheme_of text ≡ answer_to scheme_of ask =
-    simp (le-ltb _ _ (c.if-input-gt65536.false), sym c.catalogue_lines-found.ensures, c.in-Accepted.is, wanted, key) in
+    simp (le-ltb _ _ (c.if-input-gt65536.false), sym c.catalogue_lines-found.ensures, c.in-Ok.is, wanted, key) in
     let w = written_as _ _ a.out.now _ _ e (c.put_asked.ensures.value, c.put_asked.ensures.out_after) in
     record { value = w.0; out_after = w.1 }

@@ -13,7 +13,7 @@ use Rattle.lists.proofs.Cuts.{cut_at, slot-end}
 use Rattle.parameters.specs.Bounds.{blocks, round_fits}
 use Rattle.parameters.proofs.Bounds.{round-bounds}
 use Rattle.round_scheme.specs.Round.{row, length_before}
-use Rattle.scheme.specs.declared.Place.TheVariants.{At, Nowhere}
+use Rattle.std.specs.Prelude.{Some, None}
 use Rattle.scheme.specs.Asked.{place_naming}
 use Rattle.round_scheme.specs.Asked.{block_rows}
 use Rattle.round_scheme.proofs.Located.{round-located}
@@ -47,62 +47,21 @@ found N K S message symbol fits asked =
 -- what the digit tells
 told : (N K S : ℕ) (query : List ℕ) (message symbol : ℕ) → DigitRows N K query → message < K → Where N K message symbol → (t : Bool)
     → eqb (get_or query (symbol / (N - 1) * K + message) 0) (suc (symbol % (N - 1))) ≡ t
-    → place_naming S message symbol (block_rows N K query) ≡ cond t (At (length_before K S query (symbol / (N - 1)))) Nowhere
+    → place_naming S message symbol (block_rows N K query) ≡ cond t (Some (length_before K S query (symbol / (N - 1)))) None
 unfolding row
 told N K S query message symbol rows known f t e =
     let b = symbol / (N - 1) in
     let d = symbol % (N - 1) in
-    let at = At (length_before K S query b) in
+    let at = Some (length_before K S query b) in
     ap (λ (y : ℕ). place_naming S message y (block_rows N K query)) (sym f.whole)
     ∙ round-located N K S query rows.rows (omega (arith, f.divisor)) message b d f.block f.digit
-    ∙ ap (λ (x : ℕ). cond (eqb x (suc d)) at Nowhere) (cut_at (b * K) K message query known)
-    ∙ ap (λ (u : Bool). cond u at Nowhere) e
-
-pub overflow_sub-block : goal.overflow_sub-block
-overflow_sub-block c =
-    let f = found c.args.n c.args.k c.args.s c.args.message c.args.symbol c.requires.s_value c.requires.message_lt_k in
-    omega (arith, f.divisor)
-
-pub nonzero_div-block : goal.nonzero_div-block
-nonzero_div-block c =
-    let f = found c.args.n c.args.k c.args.s c.args.message c.args.symbol c.requires.s_value c.requires.message_lt_k in
-    omega (arith, f.divisor)
-
-pub overflow_mul-digit : goal.overflow_mul-digit
-overflow_mul-digit c =
-    let f = found c.args.n c.args.k c.args.s c.args.message c.args.symbol c.requires.s_value c.requires.message_lt_k in
-    omega (arith, f.place, c.requires.digit_rows.long)
-
-pub overflow_add-digit : goal.overflow_add-digit
-overflow_add-digit c =
-    let f = found c.args.n c.args.k c.args.s c.args.message c.args.symbol c.requires.s_value c.requires.message_lt_k in
-    omega (arith, f.place, c.requires.digit_rows.long)
+    ∙ ap (λ (x : ℕ). cond (eqb x (suc d)) at None) (cut_at (b * K) K message query known)
+    ∙ ap (λ (u : Bool). cond u at None) e
 
 pub bounds-query-block : goal.bounds-query-block
 bounds-query-block c =
     let f = found c.args.n c.args.k c.args.s c.args.message c.args.symbol c.requires.s_value c.requires.message_lt_k in
     omega (arith, f.place, c.requires.digit_rows.long)
-
-pub overflow_cast-digit : goal.overflow_cast-digit
-overflow_cast-digit c =
-    let a = c.args in
-    omega (arith, c.shared_slice_known-2-1.given (a.symbol / (a.n - 1) * a.k + a.message))
-
-pub overflow_sub-n : goal.overflow_sub-n
-overflow_sub-n c =
-    let f = found c.args.n c.args.k c.args.s c.args.message c.args.symbol c.requires.s_value c.requires.message_lt_k in
-    omega (arith, f.divisor)
-
-pub nonzero_rem-symbol : goal.nonzero_rem-symbol
-nonzero_rem-symbol c =
-    let f = found c.args.n c.args.k c.args.s c.args.message c.args.symbol c.requires.s_value c.requires.message_lt_k in
-    omega (arith, f.divisor)
-
-pub overflow_add-symbol : goal.overflow_add-symbol
-overflow_add-symbol c =
-    let f = found c.args.n c.args.k c.args.s c.args.message c.args.symbol c.requires.s_value c.requires.message_lt_k in
-    let b = round-bounds c.args.n c.args.k c.args.s c.requires.s_value in
-    omega (arith, f.digit, b.servers-high)
 
 pub returns-then-digit-symbol : goal.returns-then-digit-symbol
 returns-then-digit-symbol c =
@@ -126,6 +85,6 @@ returns c =
     let d = a.symbol % (a.n - 1) in
     let f = found a.n a.k a.s a.message a.symbol c.requires.s_value c.requires.message_lt_k in
     let digit = get_or a.query.now (a.symbol / (a.n - 1) * a.k + a.message) 0 in
-    ap At c.length_before.ensures
+    ap Some c.length_before.ensures
     ∙ sym (told a.n a.k a.s a.query.now a.message a.symbol c.requires.digit_rows c.requires.message_lt_k.0 f _
     (eq-eqb digit (suc d) (c.if-digit-symbol.false ∙ add-one d)))

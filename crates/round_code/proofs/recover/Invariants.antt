@@ -2,8 +2,6 @@
 -- 0's answers to their rows are together.
 use mathlib.Core.Path.{◌≡◌}
 use mathlib.Core.List.{flat_map}
-use Prim.Native.Nat.{◌-◌, ◌≤◌}
-use lib.ListN.{length}
 use Rattle.lists.specs.Parts.{lay}
 use Rattle.lists.specs.Ranges.{range}
 use Rattle.symbol.specs.Operations.{sum_of}
@@ -12,8 +10,5 @@ use Rattle.round_code.proofs.recover.Given as goal
 
 abbrev pub invariant-loop-i : goal.invariant-loop-i
 invariant-loop-i l =
-    (l.i ≤ length l.key) × (l.before ≡ first_before l.n l.k l.s l.wanted l.key l.i)
-    × (l.message ≡ lay 0 (flat_map (block_at (sum_of l.op) l.n l.k l.s l.wanted l.key l.answers) (range 0 l.i)) l.initial.message)
-
-abbrev pub decreases-loop-i : goal.decreases-loop-i
-decreases-loop-i l = length l.key - l.i
+    (l.before ≡ first_before l.n l.k l.s l.wanted l.key l.i)
+    × (l.message ≡ lay 0 (flat_map (block_at (sum_of l.fn.op) l.n l.k l.s l.wanted l.key l.answers) (range 0 l.i)) l.initial.message)

@@ -5,7 +5,7 @@ use mathlib.Core.List.{List}
 use Prim.Native.Nat.{ℕ, ◌+◌, ◌-◌, ◌*◌, ◌%◌, ◌^◌, ◌≤◌, ◌<◌}
 use native.Mathlib.Nat.{not-suc-le-zero, mod-lt}
 use native.Mathlib.Omega.{arith}
-use borrow.Author.Tests.{eqb-true, eqb-false, not-true, not-false}
+use borrow.Author.Tests.{eqb-true, eqb-false}
 use lib.Dec.{eqb}
 use lib.ListN.{length, get_or, set, take, drop, length-set, length-replicate}
 use Rattle.lists.specs.Distinct.{is_permutation}
@@ -21,9 +21,10 @@ use Rattle.round_scheme.proofs.Numbers.{number-below}
 use Rattle.round_scheme.proofs.Exchange.{round_key, key-at, key-length}
 use Rattle.round_scheme.proofs.Once.{row-refused, repeat-refused, fresh-admitted}
 use Rattle.round_code.specs.Steps.{RoundNumbers}
-use Rattle.round_code.proofs.Fits.{blocks-fit, rows-small}
+use Rattle.round_code.proofs.Fits.{rows-small}
 use Rattle.round_code.proofs.RowParts.{row-lent, rest-lent}
 use Rattle.round_code.proofs.rows_fresh.Goals as goal
+use Rattle.round_code.proofs.rows_fresh.Goals.{After-number_of-number}
 
 -- the row of a turn
 inside : (N K i v : ℕ) (query : List ℕ) → RoundNumbers N K → v ≡ blocks N K → length query ≡ v * K → i < v
@@ -76,172 +77,80 @@ each : (N K server : ℕ) (query : List ℕ) (i : ℕ) → short_admits N K serv
 each N K server query i own before j h true e = ap (λ (m : ℕ). short_admits N K server (row K query m)) (eqb-true j i e) ∙ own
 each N K server query i own before j h false e = let d : j ≡ i → ⊥ = eqb-false j i e in before j (omega arith)
 
+-- what the test of a row says
+tested : (N K server : ℕ) (query : List ℕ) (i : ℕ) {said t : Bool} → said ≡ short_admits N K server (take (i * K + K - i * K) (drop (i * K) query)) → said ≡ t
+    → short_admits N K server (row K query i) ≡ t
+tested N K server query i e d = sym (e ∙ ap (short_admits N K server) (row-lent K query i)) ∙ d
+
+-- the turn at hand
+this : (c : After-number_of-number) → let a = c.args in Turn a.n a.k a.server a.v a.query.now c.loop-i.i c.number_of-number.result
+this c = let a = c.args in
+    let r = c.requires in
+    turn a.n a.k a.server a.v a.query.now c.loop-i.i c.number_of-number.result r.round_numbers r.v_value r.query_len (omega arith)
+    (tested a.n a.k a.server a.query.now c.loop-i.i c.admits.ensures c.if-not-admits.false) c.number_of-number.ensures
+
 pub loop-i-init : goal.loop-i-init
-loop-i-init c =
-    let a = c.args in (
-      omega arith,
-      length-replicate {A = Bool} 64 false,
-      λ j h. absurd (not-suc-le-zero h),
-      permutation-passes a.v 64 (round_key a.n a.k 0 a.query.now) (key-length a.n a.k 0 a.query.now ∙ sym c.requires.v_value),
-    )
-
-pub overflow_mul-from : goal.overflow_mul-from
-overflow_mul-from c =
-    let a = c.args in
-    let r = c.requires in
-    let inside = inside a.n a.k c.loop-i.i a.v a.query.now r.round_numbers r.v_value r.query_len (omega arith) in
-    omega (arith, inside.1)
-
-pub overflow_add-end : goal.overflow_add-end
-overflow_add-end c =
-    let a = c.args in
-    let r = c.requires in
-    let inside = inside a.n a.k c.loop-i.i a.v a.query.now r.round_numbers r.v_value r.query_len (omega arith) in
-    omega (arith, inside.1, r.round_numbers.messages-high)
-
-pub slice_bounds-admits-count : goal.slice_bounds-admits-count
-slice_bounds-admits-count c = omega arith
-
-pub slice_bounds-admits-start : goal.slice_bounds-admits-start
-slice_bounds-admits-start c = omega arith
-
-pub slice_bounds-admits-end : goal.slice_bounds-admits-end
-slice_bounds-admits-end c =
-    let a = c.args in
-    let r = c.requires in
-    let inside = inside a.n a.k c.loop-i.i a.v a.query.now r.round_numbers r.v_value r.query_len (omega arith) in
-    omega (arith, inside.0)
+loop-i-init c = let a = c.args in (
+  length-replicate {A = Bool} 64 false,
+  λ j h. absurd (not-suc-le-zero h),
+  permutation-passes a.v 64 (round_key a.n a.k 0 a.query.now) (key-length a.n a.k 0 a.query.now ∙ sym c.requires.v_value),
+)
 
 pub returns-then-not-admits : goal.returns-then-not-admits
-returns-then-not-admits c =
-    let a = c.args in
-    let tested : c.admits.result ≡ short_admits a.n a.k a.server (row a.k a.query.now c.loop-i.i) =
-    c.admits.ensures ∙ ap (short_admits a.n a.k a.server) (row-lent a.k a.query.now c.loop-i.i) in
+returns-then-not-admits c = let a = c.args in
     sym (row-refused a.n a.k a.server a.query.now c.loop-i.i (omega (arith, c.requires.v_value))
-    (sym tested ∙ not-true c.admits.result c.if-not-admits.true-raw))
+    (tested a.n a.k a.server a.query.now c.loop-i.i c.admits.ensures c.if-not-admits.true))
 
-pub overflow_add-from : goal.overflow_add-from
-overflow_add-from c =
-    let a = c.args in
+pub number_of-number-requires-clause-n_nonzero : goal.number_of-number-requires-clause-n_nonzero
+number_of-number-requires-clause-n_nonzero c = let a = c.args in
     let r = c.requires in
-    let inside = inside a.n a.k c.loop-i.i a.v a.query.now r.round_numbers r.v_value r.query_len (omega arith) in
-    omega (arith, inside.1)
-
-pub slice_bounds-number_of-count : goal.slice_bounds-number_of-count
-slice_bounds-number_of-count c =
-    let known : 0 < c.args.k = omega (arith, c.requires.round_numbers.messages-low) in
-    omega arith
-
-pub slice_bounds-number_of-start : goal.slice_bounds-number_of-start
-slice_bounds-number_of-start c =
-    let known : 0 < c.args.k = omega (arith, c.requires.round_numbers.messages-low) in
-    omega arith
-
-pub slice_bounds-number_of-end : goal.slice_bounds-number_of-end
-slice_bounds-number_of-end c =
-    let a = c.args in
-    let r = c.requires in
-    let inside = inside a.n a.k c.loop-i.i a.v a.query.now r.round_numbers r.v_value r.query_len (omega arith) in
-    omega (arith, inside.0)
-
-pub number_of-number-requires : goal.number_of-number-requires
-number_of-number-requires c =
-    let a = c.args in
-    let r = c.requires in
-    let inside = inside a.n a.k c.loop-i.i a.v a.query.now r.round_numbers r.v_value r.query_len (omega arith) in
-    let tested : c.admits.result ≡ short_admits a.n a.k a.server (row a.k a.query.now c.loop-i.i) =
-    c.admits.ensures ∙ ap (short_admits a.n a.k a.server) (row-lent a.k a.query.now c.loop-i.i) in
-    let own : short_admits a.n a.k a.server (row a.k a.query.now c.loop-i.i) ≡ true =
-    sym tested ∙ not-false c.admits.result c.if-not-admits.false-raw in
     let b = r.round_numbers in
     let here = row a.k a.query.now c.loop-i.i in
+    let own = tested a.n a.k a.server a.query.now c.loop-i.i c.admits.ensures c.if-not-admits.false in
     let known = known a.n a.k a.server b here own in
-    let there = there a.n a.k a.server b here own in
-    let long = key-long a.n a.k 0 a.server here known there own in
-    let lent = rest-lent a.k a.query.now c.loop-i.i known inside.0 in
-    record {
-      n_nonzero = (omega (arith, b.servers-low), rw lent (key_below a.n a.k 0 a.server here known there own));
-      row_bound = rw (lent, long) (blocks-fit a.n a.k b);
-    }
+    let lent = rest-lent a.k a.query.now c.loop-i.i known (inside a.n a.k c.loop-i.i a.v a.query.now b r.v_value r.query_len (omega arith)).0 in
+    (omega (arith, b.servers-low), rw lent (key_below a.n a.k 0 a.server here known (there a.n a.k a.server b here own) own))
 
 pub bounds-seen-number : goal.bounds-seen-number
-bounds-seen-number c =
-    let a = c.args in
-    let r = c.requires in
-    let tested : c.admits.result ≡ short_admits a.n a.k a.server (row a.k a.query.now c.loop-i.i) =
-    c.admits.ensures ∙ ap (short_admits a.n a.k a.server) (row-lent a.k a.query.now c.loop-i.i) in
-    let own : short_admits a.n a.k a.server (row a.k a.query.now c.loop-i.i) ≡ true =
-    sym tested ∙ not-false c.admits.result c.if-not-admits.false-raw in
-    let made = c.number_of-number in
-    let t = turn a.n a.k a.server a.v a.query.now c.loop-i.i made.result r.round_numbers r.v_value r.query_len (omega arith) own made.ensures in
-    omega (arith, t.mark-low, r.v_value, r.round_numbers.blocks-high)
+bounds-seen-number c = omega (arith, (this (goal.at.bounds-seen-number c).After-number_of-number).mark-low, c.requires.round_numbers.blocks-high)
 
 pub returns-then-seen-number : goal.returns-then-seen-number
-returns-then-seen-number c =
-    let a = c.args in
-    let r = c.requires in
-    let tested : c.admits.result ≡ short_admits a.n a.k a.server (row a.k a.query.now c.loop-i.i) =
-    c.admits.ensures ∙ ap (short_admits a.n a.k a.server) (row-lent a.k a.query.now c.loop-i.i) in
-    let own : short_admits a.n a.k a.server (row a.k a.query.now c.loop-i.i) ≡ true =
-    sym tested ∙ not-false c.admits.result c.if-not-admits.false-raw in
-    let made = c.number_of-number in
-    let t = turn a.n a.k a.server a.v a.query.now c.loop-i.i made.result r.round_numbers r.v_value r.query_len (omega arith) own made.ensures in
+returns-then-seen-number c = let a = c.args in
+    let b = c.requires.round_numbers in
+    let t = this (goal.at.returns-then-seen-number c).After-number_of-number in
     let here = row a.k a.query.now c.loop-i.i in
     let keys = round_key a.n a.k 0 a.query.now in
     let again : is_permutation a.v keys ≡ false =
-    c.loop-i.invariant.3
+    c.loop-i.invariant.2
     ∙ passes-seen a.v c.loop-i.seen keys c.loop-i.i t.numbers-left
     (ap (λ (m : ℕ). get_or c.loop-i.seen m false) (sym t.marked) ∙ c.if-seen-number.true) in
-    sym (repeat-refused a.n a.k a.server a.query.now (known a.n a.k a.server r.round_numbers here own) (there a.n a.k a.server r.round_numbers here own)
-    (ap (λ (v : ℕ). is_permutation v keys) (sym r.v_value) ∙ again))
+    sym (repeat-refused a.n a.k a.server a.query.now (known a.n a.k a.server b here t.own) (there a.n a.k a.server b here t.own)
+    (ap (λ (v : ℕ). is_permutation v keys) (sym c.requires.v_value) ∙ again))
 
 pub bounds-seen-number-in-loop-i : goal.bounds-seen-number-in-loop-i
 bounds-seen-number-in-loop-i c =
-    let a = c.args in
-    let r = c.requires in
-    let tested : c.admits.result ≡ short_admits a.n a.k a.server (row a.k a.query.now c.loop-i.i) =
-    c.admits.ensures ∙ ap (short_admits a.n a.k a.server) (row-lent a.k a.query.now c.loop-i.i) in
-    let own : short_admits a.n a.k a.server (row a.k a.query.now c.loop-i.i) ≡ true =
-    sym tested ∙ not-false c.admits.result c.if-not-admits.false-raw in
-    let made = c.number_of-number in
-    let t = turn a.n a.k a.server a.v a.query.now c.loop-i.i made.result r.round_numbers r.v_value r.query_len (omega arith) own made.ensures in
-    omega (arith, t.mark-low, r.v_value, r.round_numbers.blocks-high)
-
-pub overflow_add-i : goal.overflow_add-i
-overflow_add-i c = omega arith
-
-pub loop-i-smaller : goal.loop-i-smaller
-loop-i-smaller c = omega arith
+    omega (arith, (this (goal.at.bounds-seen-number-in-loop-i c).After-number_of-number).mark-low, c.requires.round_numbers.blocks-high)
 
 pub loop-i-preserved : goal.loop-i-preserved
-loop-i-preserved c =
-    let a = c.args in
-    let r = c.requires in
-    let tested : c.admits.result ≡ short_admits a.n a.k a.server (row a.k a.query.now c.loop-i.i) =
-    c.admits.ensures ∙ ap (short_admits a.n a.k a.server) (row-lent a.k a.query.now c.loop-i.i) in
-    let own : short_admits a.n a.k a.server (row a.k a.query.now c.loop-i.i) ≡ true =
-    sym tested ∙ not-false c.admits.result c.if-not-admits.false-raw in
-    let made = c.number_of-number in
-    let t = turn a.n a.k a.server a.v a.query.now c.loop-i.i made.result r.round_numbers r.v_value r.query_len (omega arith) own made.ensures in
+loop-i-preserved c = let a = c.args in
+    let t = this (goal.at.loop-i-preserved c).After-number_of-number in
     let keys = round_key a.n a.k 0 a.query.now in
     let seen = c.loop-i.seen in
     let i = c.loop-i.i in (
-      omega arith,
-      simp length-set c.loop-i.invariant.1,
-      λ j h. each a.n a.k a.server a.query.now i own c.loop-i.invariant.2 j h (eqb j i) refl,
-      c.loop-i.invariant.3
+      simp length-set c.loop-i.invariant.0,
+      λ j h. each a.n a.k a.server a.query.now i t.own c.loop-i.invariant.1 j h (eqb j i) refl,
+      c.loop-i.invariant.2
           ∙ passes-more a.v seen keys i t.numbers-left (omega (arith, t.mark-low, t.marked))
-          (omega (arith, t.mark-low, t.marked, r.v_value, r.round_numbers.blocks-high, c.loop-i.invariant.1))
+          (omega (arith, t.mark-low, t.marked, c.requires.v_value, c.requires.round_numbers.blocks-high, c.loop-i.invariant.0))
           (ap (λ (m : ℕ). get_or seen m false) (sym t.marked) ∙ c.if-seen-number.false)
           ∙ ap (λ (m : ℕ). passes a.v (set seen m true) (drop (i + 1) keys)) (sym t.marked),
     )
 
 pub returns : goal.returns
-returns c =
-    let a = c.args in
+returns c = let a = c.args in
     let keys = round_key a.n a.k 0 a.query.now in
     let last : c.loop-i.i ≡ length keys = omega (arith, key-length a.n a.k 0 a.query.now, c.requires.v_value) in
-    let fresh : is_permutation a.v keys ≡ true = c.loop-i.invariant.3 ∙ passes-end a.v c.loop-i.seen keys c.loop-i.i last in
+    let fresh : is_permutation a.v keys ≡ true = c.loop-i.invariant.2 ∙ passes-end a.v c.loop-i.seen keys c.loop-i.i last in
     sym (fresh-admitted a.n a.k a.server a.query.now (omega (arith, c.requires.round_numbers.servers-low))
-    (c.requires.query_len ∙ ap (λ (v : ℕ). v * a.k) c.requires.v_value) (λ j h. c.loop-i.invariant.2 j (omega (arith, c.requires.v_value)))
+    (c.requires.query_len ∙ ap (λ (v : ℕ). v * a.k) c.requires.v_value) (λ j h. c.loop-i.invariant.1 j (omega (arith, c.requires.v_value)))
     (ap (λ (v : ℕ). is_permutation v keys) (sym c.requires.v_value) ∙ fresh))

@@ -20,33 +20,24 @@ returns-then-are_none c = let a = c.args in
     }
 
 pub put_day_line-next-requires : goal.put_day_line-next-requires
-put_day_line-next-requires c = let a = c.args in
-    let l = parts-length a.opening a.closing (sym c.are_none.ensures ∙ c.if-are_none.false) in
-    let p = c.requires in
-    omega arith
+put_day_line-next-requires c =
+    let a = c.args in omega (arith, parts-length a.opening a.closing (sym c.are_none.ensures ∙ c.if-are_none.false))
 
 pub put_day_line-requires : goal.put_day_line-requires
-put_day_line-requires c = let first = c.put_day_line-next in
-    let a = c.args in
-    let l = parts-length a.opening a.closing (sym c.are_none.ensures ∙ c.if-are_none.false) in
-    let p = c.requires in
-    let e = c.put_day_line-next.ensures.value in
-    let k = c.put_day_line-next.auto.out in
-    omega arith
+put_day_line-requires c =
+    let a = c.args in omega (arith, parts-length a.opening a.closing (sym c.are_none.ensures ∙ c.if-are_none.false))
 
 pub returns : goal.returns
-returns c = let last = c.put_day_line in
-    let first = c.put_day_line-next in
+returns c =
     let a = c.args in
     let x = day_line_text open_name a.opening in
     let y = day_line_text close_name a.closing in
     let dated = sym c.are_none.ensures ∙ c.if-are_none.false in
     let l = parts-length a.opening a.closing dated in
-    let p = c.requires in
     let start : c.put_day_line-next.result ≡ a.at + length x = c.put_day_line-next.ensures.value in
-    let r = c.put_day_line.ensures.value in record {
-      value = omega arith;
+    record {
+      value = omega (arith, c.put_day_line.ensures.value);
       out_after = c.put_day_line.ensures.out_after
-          ∙ put_next a.at c.put_day_line-next.result x y a.out.now c.put_day_line-next.new.out (omega arith) start c.put_day_line-next.ensures.out_after
+          ∙ put_next a.at c.put_day_line-next.result x y a.out.now c.put_day_line-next.new.out (omega (arith, c.requires)) start c.put_day_line-next.ensures.out_after
           ∙ ap (λ (l : List ℕ). put a.at l a.out.now) (sym (text-lines a.opening a.closing dated));
     }

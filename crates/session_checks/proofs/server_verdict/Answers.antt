@@ -1,16 +1,17 @@
 -- `session_checks::server_verdict` meets its contract: the catalogue's verdict decides, and else that on the server and the fields.
 use mathlib.Core.Path.{refl, sym, ◌∙◌}
-use Rattle.refusal.specs.declared.Verdict.TheVariants.{Accepted}
+use Rattle.refusal.proofs.Passed.{passed}
+use Rattle.refusal.specs.Verdicts.{accepted}
 use Rattle.catalogue.specs.Catalogue.{Admitted}
 use Rattle.catalogue.proofs.Faults.{after-catalogue}
 use Rattle.session_checks.proofs.server_verdict.Goals as goal
 
-pub returns-in-Refused : goal.returns-in-Refused
-returns-in-Refused c = after-catalogue c.args.c _ refl _ _ c.verdict.ensures (rw c.in-Refused.is)
+pub returns-in_err-verdict : goal.returns-in_err-verdict
+returns-in_err-verdict c = passed _ _ c.from_residual.ensures.1 ∙ after-catalogue c.args.c _ refl _ _ c.verdict.ensures (rw c.in_err-verdict.was)
 
 pub named_verdict-requires : goal.named_verdict-requires
 named_verdict-requires c = let admitted : Admitted c.args.c =
-    sym c.verdict.ensures ∙ c.in_default.is in
+    sym c.verdict.ensures ∙ c.in_ok-verdict.was in
     record {
       admitted = admitted;
       places_len = c.requires;
@@ -18,5 +19,5 @@ named_verdict-requires c = let admitted : Admitted c.args.c =
 
 pub returns : goal.returns
 returns c = let admitted : Admitted c.args.c =
-    sym c.verdict.ensures ∙ c.in_default.is in
-    after-catalogue _ _ refl Accepted _ (sym (admitted)) c.named_verdict.ensures
+    sym c.verdict.ensures ∙ c.in_ok-verdict.was in
+    after-catalogue _ _ refl accepted _ (sym (admitted)) c.named_verdict.ensures

@@ -1,23 +1,19 @@
--- `session_parts::marks_good` meets its contract: after i turns the marks of the first i places are good.
-use mathlib.Core.Path.{◌≡◌, sym, ◌∙◌}
-use Prim.Native.Nat.{◌-◌}
-use native.Mathlib.Omega.{arith}
-use borrow.Author.Tests.{not-true, not-false}
+-- `session_parts::marks_good` meets its contract: the marks of the places so far are good.
+use Rattle.std.proofs.Common.{◌≡◌, sym, arith}
 use Rattle.lists.proofs.Every.{every-none, every_more, every-false}
-use Rattle.session_parts.specs.Marks.{mark_good, marks_good}
+use Rattle.session_parts.specs.Marks.{marks_good}
 use Rattle.session_parts.proofs.marks_good.Goals as goal
 
-pub loop-i-init : goal.loop-i-init
-loop-i-init c = (omega arith, every-none _)
+pub loop-place-init : goal.loop-place-init
+loop-place-init c = every-none _
 
 pub returns-then-not-mark_good : goal.returns-then-not-mark_good
 unfolding marks_good
-returns-then-not-mark_good c = sym (every-false 16 _ c.loop-i.i (omega arith) (sym c.mark_good.ensures ∙ not-true _ c.if-not-mark_good.true-raw))
+returns-then-not-mark_good c = sym (every-false 16 _ c.loop-place.place (omega arith) (sym c.if-not-mark_good.ensures))
 
-pub loop-i-preserved : goal.loop-i-preserved
-loop-i-preserved c = (omega arith, every_more c.loop-i.i _ c.loop-i.invariant.1 (sym c.mark_good.ensures ∙ not-false _ c.if-not-mark_good.false-raw))
+pub loop-place-preserved : goal.loop-place-preserved
+loop-place-preserved c = every_more c.loop-place.place _ c.loop-place.invariant (sym c.if-not-mark_good.ensures)
 
 pub returns : goal.returns
 unfolding marks_good
-returns c = let e : c.loop-i.i ≡ 16 = omega arith in
-    sym (rw e at c.loop-i.invariant.1)
+returns c = let e : c.loop-place.place ≡ 16 = omega arith in sym (rw e at c.loop-place.invariant)

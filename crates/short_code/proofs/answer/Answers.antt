@@ -6,19 +6,16 @@ use Rattle.short_scheme.specs.Short.{short_answer}
 use Rattle.short_scheme.proofs.Named.{query-stored}
 use Rattle.short_code.proofs.answer.Goals as goal
 
-pub overflow_sub-n : goal.overflow_sub-n
-overflow_sub-n c = let b = short-bounds c.args.n c.args.k c.args.s c.requires.s_value in
-    omega arith
+pub overflow_sub-messages : goal.overflow_sub-messages
+overflow_sub-messages c = omega (arith, (short-bounds c.args.n c.args.k c.args.s c.requires.s_value).servers-low)
 
-pub answer-requires : goal.answer-requires
+pub answer-requires-clause-s_nonzero : goal.answer-requires-clause-s_nonzero
+answer-requires-clause-s_nonzero c = (short-bounds c.args.n c.args.k c.args.s c.requires.s_value).symbol_low
+
+pub answer-requires-clause-row_stored : goal.answer-requires-clause-row_stored
 unfolding short_sizes
-answer-requires c = let a = c.args in
-    let b = short-bounds a.n a.k a.s c.requires.s_value in
-    record {
-      s_nonzero = b.symbol_low;
-      row_stored = query-stored a.n a.k a.s a.store.now a.query.now c.requires.store_len c.requires.digit_row;
-      row_in_bounds = c.requires.query_in_bounds;
-    }
+answer-requires-clause-row_stored c = let a = c.args in
+    query-stored a.n a.k a.s a.store.now a.query.now c.requires.store_len c.requires.digit_row
 
 pub returns : goal.returns
 unfolding short_answer

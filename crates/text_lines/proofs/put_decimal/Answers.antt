@@ -1,9 +1,9 @@
 -- `text_lines::put_decimal` meets its contract: the digits written so far and those of what is left are all of them.
 use mathlib.Core.Path.{◌≡◌, sym, ap, ◌∙◌}
-use mathlib.Core.List.{List, [], ◌∷◌, ◌++◌, append-nil, append_assoc}
+use mathlib.Core.List.{List, [], ◌∷◌, ◌++◌, append_assoc}
 use Prim.Native.Nat.{ℕ, suc, ◌+◌, ◌-◌, ◌/◌, ◌%◌, ◌≤◌}
 use native.Mathlib.Omega.{arith}
-use lib.ListN.{length, set, length-append, length-set, take-append-drop}
+use lib.ListN.{length, set, length-append}
 use Rattle.lists.specs.Parts.{put}
 use Rattle.lists.proofs.Puts.{put-length, put-before}
 use Rattle.text_lines.specs.Decimal.{digit, decimal}
@@ -26,26 +26,8 @@ module _ (at n : ℕ) (before : List ℕ) (i front : ℕ) (out : List ℕ) (w : 
       ap (λ (l : List ℕ). set l j d) (w.bytes ∙ ap (λ (m : ℕ). put m w.written before) e)
       ∙ put-before j d w.written before (let f = fits in omega arith)
 
-pub overflow_add-end : goal.overflow_add-end
-overflow_add-end c = let e = c.width.ensures in let p = c.requires in omega arith
-
-pub loop-front-init : goal.loop-front-init
-loop-front-init c = let a = c.args in
-    record {
-      written = [];
-      whole = sym (append-nil (decimal a.n));
-      place = ap (λ (m : ℕ). a.at + m) c.width.ensures;
-      bytes = sym (take-append-drop (a.at + c.width.result) a.out.now);
-    }
-
 pub overflow_sub-i : goal.overflow_sub-i
 overflow_sub-i c = let p = c.loop-front.invariant.place in let s = some-digits c.loop-front.front in omega arith
-
-pub overflow_cast-out : goal.overflow_cast-out
-overflow_cast-out c = omega arith
-
-pub overflow_add-out : goal.overflow_add-out
-overflow_add-out c = omega arith
 
 pub bounds-out-i : goal.bounds-out-i
 bounds-out-i c = let s = same c.args.at c.args.n c.args.out.now c.loop-front.i c.loop-front.front c.loop-front.out c.loop-front.invariant c.requires in
@@ -53,9 +35,6 @@ bounds-out-i c = let s = same c.args.at c.args.n c.args.out.now c.loop-front.i c
     let p = c.loop-front.invariant.place in
     let d = some-digits c.loop-front.front in
     omega arith
-
-pub loop-front-smaller : goal.loop-front-smaller
-loop-front-smaller c = omega arith
 
 pub loop-front-preserved : goal.loop-front-preserved
 loop-front-preserved c = let a = c.args in
@@ -73,33 +52,20 @@ loop-front-preserved c = let a = c.args in
       bytes = next a.at a.n a.out.now c.loop-front.i front c.loop-front.out w c.requires (c.loop-front.i - 1) (digit (front % 10)) e;
     }
 
-pub overflow_cast-out-2 : goal.overflow_cast-out-2
-overflow_cast-out-2 c = omega arith
-
-pub overflow_add-out-2 : goal.overflow_add-out-2
-overflow_add-out-2 c = omega arith
-
 pub bounds-out-at : goal.bounds-out-at
 bounds-out-at c = let s = same c.args.at c.args.n c.args.out.now c.loop-front.i c.loop-front.front c.loop-front.out c.loop-front.invariant c.requires in
     let d = some-digits c.args.n in
     let r = c.requires in
     omega arith
 
-pub shape_of-out : goal.shape_of-out
-shape_of-out c = length-set c.loop-front.out c.args.at _
-    ∙ same c.args.at c.args.n c.args.out.now c.loop-front.i c.loop-front.front c.loop-front.out c.loop-front.invariant c.requires
-
-pub returns : goal.returns
-returns c = let w = c.loop-front.invariant in
+pub returns-clause-out_after : goal.returns-clause-out_after
+returns-clause-out_after c =
+    let w = c.loop-front.invariant in
     let front = c.loop-front.front in
     let p = w.place in
     let one = length-small front c.loop-front-test.false in
     let e : c.loop-front.i ≡ suc c.args.at = omega arith in
-    let last : decimal front ++ w.written ≡ digit front ∷ w.written =
-    ap (λ (l : List ℕ). l ++ w.written) (decimal-small front c.loop-front-test.false)
-    in
-    let all : decimal c.args.n ≡ digit front ∷ w.written = w.whole ∙ last in record {
-      value = ap (λ (m : ℕ). c.args.at + m) c.width.ensures;
-      out_after = next c.args.at c.args.n c.args.out.now c.loop-front.i front c.loop-front.out w c.requires c.args.at (digit front) e
-          ∙ ap (λ (l : List ℕ). put c.args.at l c.args.out.now) (sym all);
-    }
+    let last : decimal front ++ w.written ≡ digit front ∷ w.written = ap (λ (l : List ℕ). l ++ w.written) (decimal-small front c.loop-front-test.false) in
+    let all : decimal c.args.n ≡ digit front ∷ w.written = w.whole ∙ last in
+    next c.args.at c.args.n c.args.out.now c.loop-front.i front c.loop-front.out w c.requires c.args.at (digit front) e
+    ∙ ap (λ (l : List ℕ). put c.args.at l c.args.out.now) (sym all)

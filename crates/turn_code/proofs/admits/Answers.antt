@@ -1,14 +1,12 @@
 -- `turn_code::admits` meets its contract: it makes the two tests of admission in order.
-use borrow.Author.Tests.{eq-eqb, ne_eqb}
-use lib.ListN.{length}
+use Rattle.std.proofs.Common.{rules}
 use Rattle.turn_code.specs.Turn.{turn_admits}
 use Rattle.turn_code.proofs.admits.Goals as goal
 
 pub returns-then-query-k : goal.returns-then-query-k
 unfolding turn_admits
-returns-then-query-k c = let a = c.args in rw (ne_eqb (length a.query.now) a.k c.if-query-k.true)
+returns-then-query-k c = search rules
 
-pub returns : goal.returns
+pub returns-else-query-k : goal.returns-else-query-k
 unfolding turn_admits
-returns c = let a = c.args in
-    rw (eq-eqb (length a.query.now) a.k c.if-query-k.false) c.all_below.ensures
+returns-else-query-k c = search rules

@@ -37,9 +37,6 @@ bounds-key-last c = let bounds : ShortBounds c.args.n c.args.k c.args.s =
     omega (arith, c.requires.valid.long, (bounds).messages-low) in
     let h = some in omega arith
 
-pub overflow_cast-turn : goal.overflow_cast-turn
-overflow_cast-turn c = omega (arith, c.shared_slice_known-3-1.given (length c.args.key.now - 1))
-
 pub slice_bounds-digit_sum-end : goal.slice_bounds-digit_sum-end
 slice_bounds-digit_sum-end c = sym (others-length c.args.key.now)
 
@@ -85,7 +82,7 @@ returns c = let bounds : ShortBounds c.args.n c.args.k c.args.s =
     let slotted : Slotted c.args.n c.args.s c.args.answers.now =
     fits-slotted c.args.n c.args.k c.args.s c.args.answers.now c.requires.s_value c.requires.s_in_bounds in
     let bytes : Below 256 c.args.answers.now =
-    λ i h. omega (arith, c.shared_slice_known-2-1.given i) in
+    λ i h. omega (arith, c.type_inv.answers i) in
     let a = c.args in
     let key = a.key.now in
     let f : ℕ → ℕ → List ℕ = λ t. from_places (sum_of a.op) a.n a.s t (all_zero (other_digits key)) (slot_starts a.s) a.answers.now in

@@ -5,10 +5,10 @@ use Rattle.answer_unit.proofs.Chains.{unit-takes, set-up-passed, access-passed}
 use Rattle.answer_unit.proofs.Steps.{read-by}
 use Rattle.answer_unit.proofs.AnswerUnit.read.Goals as goal
 
-pub returns-in-Refused : goal.returns-in-Refused
-returns-in-Refused c = let a = c.args in
+pub returns-in-Err : goal.returns-in-Err
+returns-in-Err c = let a = c.args in
     let v = c.access_verdict-verdict in
-    rw (read-by a.self a.register a.store.now c.access_verdict-verdict.result c.access_verdict-verdict.ensures, c.in-Refused.is)
+    rw (read-by a.self a.register a.store.now c.access_verdict-verdict.result c.access_verdict-verdict.ensures, c.in-Err.is)
 
 pub shown-requires : goal.shown-requires
 shown-requires c = let a = c.args in

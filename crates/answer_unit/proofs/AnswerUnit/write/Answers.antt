@@ -5,10 +5,10 @@ use Rattle.answer_unit.proofs.Chains.{access-passed}
 use Rattle.answer_unit.proofs.Steps.{write-by}
 use Rattle.answer_unit.proofs.AnswerUnit.write.Goals as goal
 
-pub returns-in-Refused : goal.returns-in-Refused
-returns-in-Refused c = let a = c.args in
+pub returns-in-Err : goal.returns-in-Err
+returns-in-Err c = let a = c.args in
     let v = c.access_verdict-verdict in
-    rw (write-by a.self a.register a.value a.store.now c.access_verdict-verdict.result c.access_verdict-verdict.ensures, c.in-Refused.is)
+    rw (write-by a.self a.register a.value a.store.now c.access_verdict-verdict.result c.access_verdict-verdict.ensures, c.in-Err.is)
 
 pub after_write-requires : goal.after_write-requires
 after_write-requires c = let a = c.args in

@@ -1,28 +1,29 @@
 -- `answer_unit::verdicts::access_verdict` meets its contract: its tests are the links of the chain, in their order.
 use mathlib.Core.Path.{sym, ◌∙◌}
 use borrow.Author.Tests.{lt-ltb, le-ltb, eq-eqb, ne_eqb}
+use Rattle.refusal.proofs.Passed.{passed}
 use Rattle.answer_unit.proofs.Chains.{set-up-passed, short-fits, access-chain, access-own}
 use Rattle.answer_unit.proofs.verdicts.access_verdict.Goals as goal
 
 pub returns-then-register-gt5 : goal.returns-then-register-gt5
 returns-then-register-gt5 c = let a = c.args in rw (access-chain a.unit a.register a.stored, lt-ltb 5 a.register c.if-register-gt5.true)
 
-pub returns-in-Refused : goal.returns-in-Refused
-returns-in-Refused c = let a = c.args in
-    rw (
+pub returns-in_err-set_up_verdict : goal.returns-in_err-set_up_verdict
+returns-in_err-set_up_verdict c = let a = c.args in
+    passed _ _ c.from_residual.ensures.1 ∙ rw (
       access-chain a.unit a.register a.stored,
       le-ltb 5 a.register c.if-register-gt5.false,
-      sym c.set_up_verdict.ensures ∙ c.in-Refused.is,
+      sym c.set_up_verdict.ensures ∙ c.in_err-set_up_verdict.was,
     )
 
 pub sizes-sizes-requires : goal.sizes-sizes-requires
 sizes-sizes-requires c = let u = c.args.unit in
-    let accepted = sym c.set_up_verdict.ensures ∙ c.in_default.is in
+    let accepted = sym c.set_up_verdict.ensures ∙ c.in_ok-set_up_verdict.was in
     short-fits u.catalogue u.server (set-up-passed u.catalogue u.server accepted)
 
 pub returns-then-stored-sizes : goal.returns-then-stored-sizes
 returns-then-stored-sizes c = let a = c.args in
-    let accepted = sym c.set_up_verdict.ensures ∙ c.in_default.is in
+    let accepted = sym c.set_up_verdict.ensures ∙ c.in_ok-set_up_verdict.was in
     let known = c.if-register-gt5.false in
     let z = c.sizes-sizes in
     rw (
@@ -32,7 +33,7 @@ returns-then-stored-sizes c = let a = c.args in
 
 pub returns-then-unit-gt32 : goal.returns-then-unit-gt32
 returns-then-unit-gt32 c = let a = c.args in
-    let accepted = sym c.set_up_verdict.ensures ∙ c.in_default.is in
+    let accepted = sym c.set_up_verdict.ensures ∙ c.in_ok-set_up_verdict.was in
     let known = c.if-register-gt5.false in
     let z = c.sizes-sizes in
     rw (
@@ -43,7 +44,7 @@ returns-then-unit-gt32 c = let a = c.args in
 
 pub returns-then-c-unit : goal.returns-then-c-unit
 returns-then-c-unit c = let a = c.args in
-    let accepted = sym c.set_up_verdict.ensures ∙ c.in_default.is in
+    let accepted = sym c.set_up_verdict.ensures ∙ c.in_ok-set_up_verdict.was in
     let known = c.if-register-gt5.false in
     let z = c.sizes-sizes in
     rw (
@@ -55,7 +56,7 @@ returns-then-c-unit c = let a = c.args in
 
 pub returns : goal.returns
 returns c = let a = c.args in
-    let accepted = sym c.set_up_verdict.ensures ∙ c.in_default.is in
+    let accepted = sym c.set_up_verdict.ensures ∙ c.in_ok-set_up_verdict.was in
     let known = c.if-register-gt5.false in
     let z = c.sizes-sizes in
     rw (

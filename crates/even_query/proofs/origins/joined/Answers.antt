@@ -1,69 +1,37 @@
 -- `even_query::origins::joined` meets its contract: it is the record that the definition is, with the rows of the block before.
 use mathlib.Core.Path.{◌≡◌, ap, ◌∙◌}
-use Prim.Native.Nat.{ℕ, ◌+◌, ◌-◌, ◌*◌, ◌/◌, ◌%◌, ◌^◌, ◌≤◌, ◌<◌}
-use native.Mathlib.Nat.{mul-le-mul}
+use Prim.Native.Nat.{ℕ, ◌+◌, ◌-◌, ◌*◌, ◌/◌, ◌%◌, ◌^◌, ◌<◌}
 use native.Mathlib.Omega.{arith}
 use lib.ListN.{get_or}
 use Rattle.even_places.specs.Rule.{others}
 use Rattle.even_ranks.specs.Walk.{joined}
-use Rattle.even_query.proofs.Steps.{Before, rows_before}
+use Rattle.even_query.proofs.Steps.{rows_before}
 use Rattle.even_query.proofs.origins.joined.Goals as goal
 
 pub power-rows-requires : goal.power-rows-requires
-power-rows-requires c = let before : Before c.args.n c.args.ones c.args.i =
-    rows_before c.args.n c.args.ones c.args.i c.requires.0 c.requires.3 c.requires.4 in
-    let a = c.args in
-    let rows = before in
+power-rows-requires c = let a = c.args in
+    let rows = rows_before a.n a.ones a.i c.requires.0 c.requires.3 c.requires.4 in
     omega (arith, rows.most, c.requires.5)
 
 pub nonzero_div-other : goal.nonzero_div-other
-nonzero_div-other c = let before : Before c.args.n c.args.ones c.args.i =
-    rows_before c.args.n c.args.ones c.args.i c.requires.0 c.requires.3 c.requires.4 in
-    let a = c.args in
-    let rows = before in
+nonzero_div-other c = let a = c.args in
+    let rows = rows_before a.n a.ones a.i c.requires.0 c.requires.3 c.requires.4 in
     omega (arith, rows.some, c.power-rows.ensures)
 
-pub overflow_mul-result : goal.overflow_mul-result
-overflow_mul-result c = let turns : c.args.server * (c.args.n - 1) ≤ 16 * 16 =
-    let low : c.args.server ≤ 16 = omega (arith, c.requires.1, c.requires.2) in
-    let less : c.args.n - 1 ≤ 16 = omega (arith, c.requires.1) in
-    mul-le-mul low less in
-    let a = c.args in
-    let most = turns in
-    omega arith
-
-pub overflow_add-result : goal.overflow_add-result
-overflow_add-result c = let before : Before c.args.n c.args.ones c.args.i =
-    rows_before c.args.n c.args.ones c.args.i c.requires.0 c.requires.3 c.requires.4 in
-    let turns : c.args.server * (c.args.n - 1) ≤ 16 * 16 =
-    let low : c.args.server ≤ 16 = omega (arith, c.requires.1, c.requires.2) in
-    let less : c.args.n - 1 ≤ 16 = omega (arith, c.requires.1) in
-    mul-le-mul low less in
-    let a = c.args in
-    let rows = before in
-    let most = turns in
-    omega (arith, rows.other, ap (λ (q : ℕ). a.i / q) c.power-rows.ensures, c.requires.1)
-
 pub other_server-requires : goal.other_server-requires
-other_server-requires c = let before : Before c.args.n c.args.ones c.args.i =
-    rows_before c.args.n c.args.ones c.args.i c.requires.0 c.requires.3 c.requires.4 in
-    let a = c.args in
-    let rows = before in
+other_server-requires c = let a = c.args in
+    let rows = rows_before a.n a.ones a.i c.requires.0 c.requires.3 c.requires.4 in
     omega (arith, rows.other, ap (λ (q : ℕ). a.i / q) c.power-rows.ensures, c.requires.1)
 
 pub nonzero_rem-result : goal.nonzero_rem-result
-nonzero_rem-result c = let before : Before c.args.n c.args.ones c.args.i =
-    rows_before c.args.n c.args.ones c.args.i c.requires.0 c.requires.3 c.requires.4 in
-    let a = c.args in
-    let rows = before in
+nonzero_rem-result c = let a = c.args in
+    let rows = rows_before a.n a.ones a.i c.requires.0 c.requires.3 c.requires.4 in
     omega (arith, rows.some, c.power-rows.ensures)
 
 pub returns : goal.returns
 unfolding joined
-returns c = let before : Before c.args.n c.args.ones c.args.i =
-    rows_before c.args.n c.args.ones c.args.i c.requires.0 c.requires.3 c.requires.4 in
-    let a = c.args in
-    let rows = before in
+returns c = let a = c.args in
+    let rows = rows_before a.n a.ones a.i c.requires.0 c.requires.3 c.requires.4 in
     let P = c.power-rows.result in
     let e : P ≡ (a.n - 1) ^ (a.ones - 2) = c.power-rows.ensures in
     let low : a.i / P < a.n - 1 = omega (arith, rows.other, ap (λ (q : ℕ). a.i / q) e) in

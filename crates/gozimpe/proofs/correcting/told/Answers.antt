@@ -5,8 +5,8 @@ use mir.Facts.{to_z-of_z}
 use Rattle.gozimpe.specs.Correcting.{signed_verdict}
 use Rattle.gozimpe.proofs.correcting.told.Goals as goal
 
-pub returns-in-Accepted : goal.returns-in-Accepted
-returns-in-Accepted c = ap signed_verdict (sym c.in-Accepted.is)
+pub returns-in-Ok : goal.returns-in-Ok
+returns-in-Ok c = ap signed_verdict (sym c.in-Ok.is)
 
-pub returns-in-Refused : goal.returns-in-Refused
-returns-in-Refused c = to_z-of_z {w = w64} (record { sfits = c.minus.type_inv }) ∙ c.minus.ensures ∙ ap signed_verdict (sym c.in-Refused.is)
+pub returns-in-Err : goal.returns-in-Err
+returns-in-Err c = to_z-of_z {w = w64} (record { sfits = c.minus.type_inv }) ∙ c.minus.ensures ∙ ap signed_verdict (sym c.in-Err.is)

@@ -2,7 +2,6 @@
 use mathlib.Core.Path.{◌≡◌, refl, sym, ap, ◌∙◌}
 use mathlib.Core.List.{List, ◌++◌}
 use Prim.Native.Nat.{ℕ, suc, ◌-◌, ◌^◌, ◌<◌}
-use native.Mathlib.Nat.{mod-lt}
 use native.Mathlib.Omega.{arith}
 use lib.ListN.{drop, replicate, length-set}
 use Rattle.lists.proofs.Replicate.{drop-replicate}
@@ -16,30 +15,11 @@ pub loop-i-init : goal.loop-i-init
 loop-i-init c = let a = c.args in
     let all = digits a.n a.count a.value in
     let long = digits-length a.n a.count a.value in (
-      omega arith,
       refl,
       c.requires.count_le_most_digits.1,
       ap (λ (l : List ℕ). all ++ l)
           (drop-replicate {A = ℕ} a.count most_digits 0 ∙ ap (λ (n : ℕ). replicate {A = ℕ} (most_digits - n) 0) (sym long)),
     )
-
-pub overflow_sub-i : goal.overflow_sub-i
-overflow_sub-i c = omega arith
-
-pub nonzero_rem-out : goal.nonzero_rem-out
-nonzero_rem-out c = omega arith
-
-pub overflow_cast-out : goal.overflow_cast-out
-overflow_cast-out c = let n = c.args.n in omega (arith, mod-lt c.loop-i.rest {m = n} (omega arith))
-
-pub bounds-out-i : goal.bounds-out-i
-bounds-out-i c = omega arith
-
-pub nonzero_div-rest : goal.nonzero_div-rest
-nonzero_div-rest c = omega arith
-
-pub loop-i-smaller : goal.loop-i-smaller
-loop-i-smaller c = omega arith
 
 pub loop-i-preserved : goal.loop-i-preserved
 loop-i-preserved c = let n = c.args.n in
@@ -47,16 +27,15 @@ loop-i-preserved c = let n = c.args.n in
     let rest = c.loop-i.rest in
     let some : 0 < n = omega arith in
     let e : suc (i - 1) ≡ i = omega arith in
-    let low : rest < n ^ suc (i - 1) = rw e c.loop-i.invariant.2 in (
-      omega arith,
-      simp length-set c.loop-i.invariant.1,
+    let low : rest < n ^ suc (i - 1) = rw e c.loop-i.invariant.1 in (
+      simp length-set c.loop-i.invariant.0,
       rest-low n some (i - 1) rest low,
       digit-written n some (i - 1) rest low c.loop-i.out (omega arith)
           ∙ ap (λ (m : ℕ). digits n m rest ++ drop m c.loop-i.out) e
-          ∙ c.loop-i.invariant.3,
+          ∙ c.loop-i.invariant.2,
     )
 
 pub returns : goal.returns
 unfolding digits
 returns c = let last : c.loop-i.i ≡ 0 = omega arith in
-    rw last at c.loop-i.invariant.3
+    rw last at c.loop-i.invariant.2

@@ -2,10 +2,9 @@
 use mathlib.Core.Path.{◌≡◌, refl, sym, ap, ◌∙◌}
 use mathlib.Core.Bool.{true}
 use mathlib.Core.List.{List}
-use Prim.Native.Nat.{ℕ, ◌+◌, ◌-◌, ◌*◌, ◌^◌, ◌<◌}
+use Prim.Native.Nat.{ℕ, ◌+◌, ◌*◌, ◌^◌, ◌<◌}
 use native.Mathlib.Omega.{arith}
 use lib.ListN.{length, get_or, take}
-use lib.Seq.{take-length}
 use Rattle.lists.specs.Below.{all_below}
 use Rattle.lists.proofs.Below.{all_below-below}
 use Rattle.round_scheme.specs.Round.{number}
@@ -23,41 +22,23 @@ small n row i result h e some good fits =
     let low = read_low n some row (all_below-below n row good) fits (i + 1) (omega arith) in
     omega (arith, next n row i result h e, low)
 
-pub loop-i-init : goal.loop-i-init
+pub loop-digit-init : goal.loop-digit-init
 unfolding number
-loop-i-init c = (omega arith, refl)
+loop-digit-init c = refl
 
 pub overflow_mul-result : goal.overflow_mul-result
 overflow_mul-result c =
     let a = c.args in
     let r = c.requires in
-    let fits = small a.n a.row.now c.loop-i.i c.loop-i.result (omega arith) c.loop-i.invariant.1 r.n_nonzero.0 r.n_nonzero.1 r.row_bound in
+    let fits = small a.n a.row.now c.loop-digit.digit-index c.loop-digit.result (omega arith) c.loop-digit.invariant r.n_nonzero.0 r.n_nonzero.1 r.row_bound in
     record { fits = omega (arith, fits) }
-
-pub bounds-row-i : goal.bounds-row-i
-bounds-row-i c = omega arith
-
-pub overflow_cast-result : goal.overflow_cast-result
-overflow_cast-result c = omega (arith, c.shared_slice_known-1.given c.loop-i.i)
 
 pub overflow_add-result : goal.overflow_add-result
 overflow_add-result c =
     let a = c.args in
     let r = c.requires in
-    let fits = small a.n a.row.now c.loop-i.i c.loop-i.result (omega arith) c.loop-i.invariant.1 r.n_nonzero.0 r.n_nonzero.1 r.row_bound in
+    let fits = small a.n a.row.now c.loop-digit.digit-index c.loop-digit.result (omega arith) c.loop-digit.invariant r.n_nonzero.0 r.n_nonzero.1 r.row_bound in
     record { fits = fits }
 
-pub overflow_add-i : goal.overflow_add-i
-overflow_add-i c = omega arith
-
-pub loop-i-smaller : goal.loop-i-smaller
-loop-i-smaller c = omega arith
-
-pub loop-i-preserved : goal.loop-i-preserved
-loop-i-preserved c = (omega arith, next c.args.n c.args.row.now c.loop-i.i c.loop-i.result (omega arith) c.loop-i.invariant.1)
-
-pub returns : goal.returns
-returns c =
-    let a = c.args in
-    let last : c.loop-i.i ≡ length a.row.now = omega arith in
-    c.loop-i.invariant.1 ∙ ap (number a.n) (ap (λ (m : ℕ). take m a.row.now) last ∙ take-length a.row.now)
+pub loop-digit-preserved : goal.loop-digit-preserved
+loop-digit-preserved c = next c.args.n c.args.row.now c.loop-digit.digit-index c.loop-digit.result (omega arith) c.loop-digit.invariant

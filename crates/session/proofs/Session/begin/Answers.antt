@@ -6,10 +6,10 @@ use Rattle.session.proofs.Begin.{begin-passed, begin-refused, begin-done}
 use Rattle.session_checks.proofs.Keys.{sizes-small}
 use Rattle.session.proofs.Session.begin.Goals as goal
 
-pub returns-in-Refused : goal.returns-in-Refused
-returns-in-Refused c = let args = c.args in
+pub returns-in-Err : goal.returns-in-Err
+returns-in-Err c = let args = c.args in
     let v = c.begin_verdict-verdict in
-    rw c.blank.ensures (begin-refused scheme_of args.catalogue args.wanted args.key.now c.begin_verdict-verdict.result _ c.begin_verdict-verdict.ensures c.in-Refused.is)
+    rw c.blank.ensures (begin-refused scheme_of args.catalogue args.wanted args.key.now c.begin_verdict-verdict.result _ c.begin_verdict-verdict.ensures c.in-Err.is)
 
 pub new_session-requires : goal.new_session-requires
 new_session-requires c = let args = c.args in

@@ -10,10 +10,10 @@ use Rattle.session_checks.proofs.Keys.{sizes-small}
 use Rattle.session.proofs.Places.{key-places}
 use Rattle.session.proofs.Session.issue.Goals as goal
 
-pub returns-in-Refused : goal.returns-in-Refused
-returns-in-Refused c = let args = c.args in
+pub returns-in-Err : goal.returns-in-Err
+returns-in-Err c = let args = c.args in
     let v = c.issue_verdict-verdict in
-    (issue-goes scheme_of args.self args.today args.server args.query.now).refused c.issue_verdict-verdict.result _ c.issue_verdict-verdict.ensures c.in-Refused.is
+    (issue-goes scheme_of args.self args.today args.server args.query.now).refused c.issue_verdict-verdict.result _ c.issue_verdict-verdict.ensures c.in-Err.is
 
 pub write_query-bytes-requires : goal.write_query-bytes-requires
 write_query-bytes-requires c = let args = c.args in

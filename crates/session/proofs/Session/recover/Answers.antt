@@ -6,10 +6,10 @@ use Rattle.session.proofs.Places.{key-places}
 use Rattle.session.proofs.Recover.{recover-passed, recover-goes}
 use Rattle.session.proofs.Session.recover.Goals as goal
 
-pub returns-in-Refused : goal.returns-in-Refused
-returns-in-Refused c = let args = c.args in
+pub returns-in-Err : goal.returns-in-Err
+returns-in-Err c = let args = c.args in
     let v = c.recover_verdict-verdict in
-    (recover-goes scheme_of args.self args.answers.now args.message.now).refused c.recover_verdict-verdict.result _ c.recover_verdict-verdict.ensures c.in-Refused.is
+    (recover-goes scheme_of args.self args.answers.now args.message.now).refused c.recover_verdict-verdict.result _ c.recover_verdict-verdict.ensures c.in-Err.is
 
 pub write_message-requires : goal.write_message-requires
 write_message-requires c = let args = c.args in

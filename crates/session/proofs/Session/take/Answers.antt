@@ -13,10 +13,10 @@ use Rattle.session_checks.proofs.Keys.{sizes-small}
 use Rattle.session.proofs.Promised.{slot-holds, meter-holds}
 use Rattle.session.proofs.Session.take.Goals as goal
 
-pub returns-in-Refused : goal.returns-in-Refused
-returns-in-Refused c = let args = c.args in
+pub returns-in-Err : goal.returns-in-Err
+returns-in-Err c = let args = c.args in
     let v = c.take_verdict-verdict in
-    (take-goes scheme_of args.self args.server args.answer.now args.answers.now).refused c.take_verdict-verdict.result _ c.take_verdict-verdict.ensures c.in-Refused.is
+    (take-goes scheme_of args.self args.server args.answer.now args.answers.now).refused c.take_verdict-verdict.result _ c.take_verdict-verdict.ensures c.in-Err.is
 
 pub sizes_of-sizes-requires : goal.sizes_of-sizes-requires
 sizes_of-sizes-requires c = let args = c.args in

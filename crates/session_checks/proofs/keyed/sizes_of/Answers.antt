@@ -1,13 +1,10 @@
 -- `session_checks::keyed::sizes_of` meets its contract: an admitted catalogue is measured.
-use mathlib.Core.Path.{sym, ◌∙◌}
-use Rattle.refusal.proofs.Chain.{not-refused}
-use Rattle.codes.proofs.Measured.{measured, unmeasured}
+use Rattle.std.proofs.Common.{rules}
+use Rattle.codes.proofs.Measured.{measured-admitted}
 use Rattle.session_checks.proofs.keyed.sizes_of.Goals as goal
 
-pub returns-in-Of : goal.returns-in-Of
-returns-in-Of c = let m = c.sizes in
-    (measured c.args.c c.sizes.result _ c.sizes.ensures c.in-Of.is).1
+pub unwrap-requires : goal.unwrap-requires
+unwrap-requires c = search (rules, measured-admitted c.args.c c.requires)
 
-pub returns-in-Refused : goal.returns-in-Refused
-returns-in-Refused c = let m = c.sizes in
-    not-refused c.in-Refused.field-0 (sym (unmeasured c.args.c c.sizes.result _ c.sizes.ensures c.in-Refused.is) ∙ c.requires)
+pub returns : goal.returns
+returns c = search (rules, measured-admitted c.args.c c.requires)

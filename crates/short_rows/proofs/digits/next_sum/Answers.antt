@@ -8,9 +8,6 @@ use Rattle.lists.proofs.Below.{all_below-below}
 use Rattle.short_rows.proofs.Running.{sums-below, next-sum}
 use Rattle.short_rows.proofs.digits.next_sum.Goals as goal
 
-pub overflow_cast-digits : goal.overflow_cast-digits
-overflow_cast-digits c = omega (arith, c.shared_slice_known-2-1.given c.args.i)
-
 pub add_modulo-requires : goal.add_modulo-requires
 add_modulo-requires c = let a = c.args in
     let s = sums-below a.n a.digits.now c.requires.digits_value a.i (omega arith) in

@@ -1,14 +1,9 @@
 -- `symbol::words::change` meets its contract: the first k words are changed, and what is left behind them is still to be changed.
-use mathlib.Core.Path.{◌≡◌}
-use Prim.Native.Nat.{◌*◌, ◌-◌, ◌≤◌}
-use lib.ListN.{length}
-use Rattle.symbol.specs.Words.{change_at, on_words}
+use Rattle.std.proofs.Common.{◌≡◌, ℕ, ◌*◌}
+use Rattle.symbol.specs.Words.{on_words, Steps}
 use Rattle.symbol.proofs.WordSteps.{from}
 use Rattle.symbol.proofs.words.change.Given as goal
 
 abbrev pub invariant-loop-k : goal.invariant-loop-k
-invariant-loop-k l =
-    (l.k ≤ l.whole) × (length l.dst ≡ length l.initial.dst) × (on_words (change_at l.away) l.initial.dst l.src ≡ from (change_at l.away) (2 * l.k) l.dst l.src)
-
-abbrev pub decreases-loop-k : goal.decreases-loop-k
-decreases-loop-k l = l.whole - l.k
+invariant-loop-k g l =
+    (by : ℕ → ℕ → ℕ → ℕ) → Steps (goal.F-post g l.step) by → on_words by l.initial.dst l.src ≡ from by (2 * l.k) l.dst l.src

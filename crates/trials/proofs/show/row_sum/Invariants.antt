@@ -1,9 +1,0 @@
--- `show::row_sum` is safe: its counter stays within the sixteen meters.
-use Prim.Native.Nat.{◌-◌, ◌≤◌}
-use Rattle.trials.proofs.show.row_sum.Given as goal
-
-abbrev pub invariant-loop-i : goal.invariant-loop-i
-invariant-loop-i l = l.i ≤ 16
-
-abbrev pub decreases-loop-i : goal.decreases-loop-i
-decreases-loop-i l = 16 - l.i
