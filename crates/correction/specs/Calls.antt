@@ -1,6 +1,6 @@
 -- The two calls of a correction (document 02, item 13): the whole result, and the final bytes of the store and of the saved answer, for every input.
 use Rattle.std.specs.Prelude.{◌≡◌, Bool, not, ◌||◌, List, [], ◌∷◌, ◌++◌, ℕ, leb, eqb, length, Err, Ok}
-use Rattle.refusal.specs.Verdicts.{Verdict, accepted}
+use Rattle.refusal.specs.Verdicts.{Verdict, Outcome, accepted}
 use Rattle.refusal.specs.Foremost.{Fault, fault, foremost}
 use Rattle.catalogue.specs.declared.Catalogue.{Catalogue}
 use Rattle.catalogue.specs.Catalogue.{catalogue_faults, catalogue_numbers}
@@ -32,6 +32,11 @@ correct_numbers = catalogue_numbers ++ (3 ∷ 7 ∷ 8 ∷ 19 ∷ 10 ∷ [])
 
 unfoldable pub correct_verdict : Catalogue → ℕ → ℕ → List ℕ → Edit → ℕ → Verdict
 correct_verdict c server stored query e saved = foremost (correct_faults c server stored query e saved)
+
+-- the verdict of a call that gives a number where it is accepted
+abbrev pub verdict_of : Outcome → Verdict
+verdict_of (Ok _) = accepted
+verdict_of (Err refusal) = Err refusal
 
 -- what a correction returns, and the store and the saved answer as it leaves them
 pub record Corrected : Type 0 where

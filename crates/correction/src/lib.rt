@@ -2,7 +2,7 @@
 // the one byte is read, of an answer the one word.
 #![tactic(auto)]
 
-ghost use Rattle.std.specs.Prelude.{◌≡◌, true, ◌<◌, length};
+ghost use Rattle.std.specs.Prelude.{◌≡◌, true, ℕ, ◌<◌, length, Ok};
 ghost use Rattle.symbol.specs.Operations.{sum_of};
 ghost use Rattle.catalogue.specs.Catalogue.{Admitted};
 ghost use Rattle.codes.specs.Codes.{scheme_of};
@@ -10,7 +10,7 @@ ghost use Rattle.scheme.specs.Asked.{place_naming};
 ghost use Rattle.correction.specs.Moved.{shift_of, moved};
 ghost use Rattle.codes.specs.Asked.{rows_of};
 ghost use Rattle.correction.specs.Correction.{EditIn, place_of};
-ghost use Rattle.correction.specs.Calls.{outside_of, correct_verdict, DidCorrect, correcting, correcting_answer};
+ghost use Rattle.correction.specs.Calls.{outside_of, correct_verdict, verdict_of, DidCorrect, correcting, correcting_answer};
 
 use catalogue::Catalogue;
 use refusal::Refusal;
@@ -116,6 +116,27 @@ fn verdict(
     Ok(())
 }
 
+// Moves the saved answer by an edit, from the store as it was before the edit, which stays, and gives the place of the edit's byte in the store. It is
+// compiled into both calls: `correct` does not look the place up once more, and needs no stack for `correct_answer`.
+#[inline(always)]
+fn corrected(
+    c: Catalogue,
+    server: usize,
+    store: &[u8],
+    query: &[u8],
+    edit: Edit,
+    answer: &mut [u8],
+) -> Result<usize, Refusal>
+    ensures did { DidCorrect (correcting_answer c server store.now query.now edit answer.old)
+        (verdict_of result) store.now answer.new }
+    ensures place { (place : ℕ) → result ≡ Ok place → place ≡ place_of c edit }
+{
+    verdict(c, server, store.len(), query, edit, answer.len())?;
+    let place = place_of(c, edit);
+    update(c, server, query, edit, store[place], answer);
+    Ok(place)
+}
+
 // Brings a saved answer up to date with an edit, from the store as it was before the edit, which stays. An operator who has saved several answers corrects
 // all but one of them in this way, in any order, and the last with `correct`, which sets the byte of the store too; then each is what answering gives afresh
 // (`calls-fresh` of correction_laws). Once the byte is set, the old value is gone.
@@ -130,9 +151,7 @@ pub fn correct_answer(
     ensures { DidCorrect (correcting_answer c server store.now query.now edit answer.old)
         result store.now answer.new }
 {
-    verdict(c, server, store.len(), query, edit, answer.len())?;
-    let old = store[place_of(c, edit)];
-    update(c, server, query, edit, old, answer);
+    corrected(c, server, store, query, edit, answer)?;
     Ok(())
 }
 
@@ -148,8 +167,7 @@ pub fn correct(
     ensures { DidCorrect (correcting c server store.old query.now edit answer.old)
         result store.new answer.new }
 {
-    correct_answer(c, server, store, query, edit, answer)?;
-    let place = place_of(c, edit);
+    let place = corrected(c, server, store, query, edit, answer)?;
     store[place] = edit.value;
     Ok(())
 }

@@ -55,6 +55,10 @@ module _ (m a b : ℕ) where
   add-at-assoc : (c : ℕ) → add_at m (add_at m a b) c ≡ add_at m a (add_at m b c)
   add-at-assoc c = mod-add-mod (a + b) m c ∙ ap (λ (n : ℕ). n % m) (add_assoc a b c) ∙ sym (add-mod-mod a (b + c) m)
 
+  -- a byte's or a word's difference
+  pub sub_at_lem : b < m → sub_at m a b ≡ (a + (m - b)) % m
+  sub_at_lem h = ap (λ (n : ℕ). (a + (m - n)) % m) (mod-eq_of_lt h)
+
 -- strings of bytes
 pub add-below : (a b : List ℕ) → Below 256 a → Below 256 (add_words a b)
 add-below = words-below add_at add_wraps

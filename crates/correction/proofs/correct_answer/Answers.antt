@@ -1,38 +1,9 @@
--- `correction::correct_answer` meets its contract: it asks for the verdict before it writes, and an accepted one says all that the steps need.
-use mathlib.Core.Path.{sym, ◌∙◌}
-use native.Mathlib.Omega.{arith}
-use lib.ListN.{length}
+-- `correction::correct_answer` meets its contract: it is `corrected`, of which the place is left.
 use Rattle.refusal.proofs.Passed.{passed}
-use Rattle.correction.proofs.Verdicts.{correct-passed, inside_of}
-use Rattle.correction.proofs.Calls.{answer-refused, answer-done, place_inside, answer-made}
 use Rattle.correction.proofs.correct_answer.Goals as goal
 
-pub returns-in_err-verdict : goal.returns-in_err-verdict
-returns-in_err-verdict c = let a = c.args in
-    rw (passed _ _ c.from_residual.ensures.1)
-    (answer-refused a.c a.server a.store.now a.query.now a.edit a.answer.now c.verdict.result c.verdict.ensures c.in_err-verdict.field-0.0 c.in_err-verdict.was)
-
-pub place_of-requires : goal.place_of-requires
-place_of-requires c = let a = c.args in
-    let p = correct-passed a.c a.server (length a.store.now) a.query.now a.edit (length a.answer.now) (sym c.verdict.ensures ∙ c.in_ok-verdict.was) in
-    record { admitted = p.admitted; edit_in = inside_of a.c a.edit p.inside }
-
-pub bounds-store-place_of : goal.bounds-store-place_of
-bounds-store-place_of c = let a = c.args in
-    let p = correct-passed a.c a.server (length a.store.now) a.query.now a.edit (length a.answer.now) (sym c.verdict.ensures ∙ c.in_ok-verdict.was) in
-    omega (arith, c.place_of.ensures, place_inside a.c a.edit p.admitted (inside_of a.c a.edit p.inside), p.store_long)
-
-pub update-requires : goal.update-requires
-update-requires c = let a = c.args in
-    let p = correct-passed a.c a.server (length a.store.now) a.query.now a.edit (length a.answer.now) (sym c.verdict.ensures ∙ c.in_ok-verdict.was) in
-    record {
-      admitted = p.admitted;
-      query_value = p.admits;
-      edit_in = inside_of a.c a.edit p.inside;
-      answer_len = p.saved-long;
-    }
+pub returns-in_err-corrected : goal.returns-in_err-corrected
+returns-in_err-corrected c = rw (passed _ _ c.from_residual.ensures.1) (rw c.in_err-corrected.was at c.corrected.ensures.did)
 
 pub returns : goal.returns
-returns c = let a = c.args in
-    answer-done a.c a.server a.store.now a.query.now a.edit a.answer.now c.verdict.result c.verdict.ensures _ c.in_ok-verdict.was
-    (c.update.ensures ∙ answer-made a.c a.edit a.store.now a.query.now a.answer.now c.place_of.result c.place_of.ensures)
+returns c = rw c.in_ok-corrected.was at c.corrected.ensures.did
