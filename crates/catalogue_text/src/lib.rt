@@ -139,6 +139,8 @@ pub fn read(text: &[u8]) -> Reading
     ensures { result ≡ read_of text.now }
 {
     let found = catalogue_lines(text);
+    // Named once: where it was taken out of `found` at both places, the compiler kept one more copy on the stack.
+    let catalogue = found.catalogue;
     if let Err(refusal) = found.verdict {
         return refused_reading(refusal);
     }
@@ -146,12 +148,12 @@ pub fn read(text: &[u8]) -> Reading
     if found.next != end {
         return refused_reading(Refusal::Text);
     }
-    if let Err(refusal) = catalogue::verdict(found.catalogue) {
+    if let Err(refusal) = catalogue::verdict(catalogue) {
         return refused_reading(refusal);
     }
     Reading {
         verdict: Ok(()),
-        catalogue: found.catalogue,
+        catalogue,
     }
 }
 
