@@ -16,7 +16,7 @@ returns-in_default c =
     let a = c.args in
     let l = c.loop-i.invariant in
     let none = sym c.number_line.ensures ∙ c.in_default.is in
-    sym (taken_refused a.count a.text.now a.at c.loop-i.i c.loop-i.next c.loop-i.places l c.loop-i-test.true none)
+    sym (taken_refused a.count a.text.now a.at c.loop-i.i c.loop-i.next c.loop-i.places l (omega arith) none)
 
 pub overflow_cast-places : goal.overflow_cast-places
 overflow_cast-places c =
@@ -29,7 +29,7 @@ loop-i-preserved c =
     let l = c.loop-i.invariant in
     let n = c.in-Some.line.value in
     let line = sym c.number_line.ensures ∙ c.in-Some.is in
-    let more = taken_more a.count a.text.now a.at i c.loop-i.next c.loop-i.places l n c.in-Some.line.next c.loop-i-test.true line in
+    let more = taken_more a.count a.text.now a.at i c.loop-i.next c.loop-i.places l n c.in-Some.line.next (omega arith) line in
     let places-are : c.if-i-lt32.places ≡ set c.loop-i.places i n =
     elim c.if-i-lt32.branch [
       | then-i-lt32 w ↦ w.places-is
